@@ -1,0 +1,36 @@
+-- Which statement a bare text can be: by an equals sign outside parentheses and apostrophes, and else by its keyword.
+use Rattle.std.specs.Prelude.{ℕ, ◌+◌, ◌-◌, Bool, true, false, not, ◌||◌, ◌&&◌, List, [], ◌∷◌, ◌++◌, ◌==◌, if◌then◌else◌, codes}
+use Rattle.std.specs.List.{starts_with, list_any}
+use Rattle.meaning.specs.declared.syntax.Kind.{Kind}
+use Rattle.meaning.specs.declared.syntax.Kind.TheVariants as kinds
+use Rattle.meaning.specs.Characters.{apostrophe}
+use Rattle.meaning.specs.Syntax.{ShapeTree, assignment, writing, format, ending}
+use Rattle.std.specs.Prelude.{nat_eq}
+
+-- the equals signs and commas of a text that stand outside parentheses and apostrophes
+unfoldable pub marks_at : ℕ → Bool → List ℕ → List ℕ
+marks_at depth inside [] = []
+marks_at depth true (c ∷ cs) = marks_at depth (not (c == apostrophe)) cs
+marks_at depth false (c ∷ cs) =
+    if c == apostrophe then marks_at depth true cs
+    else (if c == 40 then marks_at (depth + 1) false cs
+    else (if c == 41 then marks_at (depth - 1) false cs
+    else (if (depth == 0) && ((c == 61) || (c == 44)) then c ∷ marks_at depth false cs
+    else marks_at depth false cs)))
+
+abbrev pub has_equals : List ℕ → Bool
+has_equals text = list_any (λ c. c == 61) (marks_at 0 false text)
+
+unfoldable pub kind_of : List ℕ → Kind
+kind_of text =
+    if has_equals text then kinds.Assignment
+    else (if starts_with nat_eq text (codes "WRITE(") then kinds.Write
+    else (if starts_with nat_eq text (codes "FORMAT(") then kinds.Format
+    else (if starts_with nat_eq text (codes "END") then kinds.End
+    else kinds.Other)))
+
+abbrev pub kind_of_shape : ShapeTree → Kind
+kind_of_shape (assignment target e) = kinds.Assignment
+kind_of_shape (writing unit label es) = kinds.Write
+kind_of_shape (format text) = kinds.Format
+kind_of_shape ending = kinds.End

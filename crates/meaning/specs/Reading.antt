@@ -1,0 +1,214 @@
+-- Reading a bare text as a form. A reader answers what it read and what is left of the text, or nothing.
+use Rattle.std.specs.Prelude.{◌≡◌, ℕ, zero, suc, ◌+◌, ◌-◌, Bool, true, false, ◌&&◌, ◌||◌, not, List, [], ◌∷◌, ◌++◌, length, nat_le, nat_lt, ◌==◌, if◌then◌else◌, Option, Some, None, Result, Ok, Err, codes, nat_eq, max}
+use Rattle.std.specs.List.{starts_with, list_any}
+use Rattle.meaning.specs.declared.syntax.Sign.{Sign}
+use Rattle.meaning.specs.declared.syntax.Sign.TheVariants as signs
+use Rattle.meaning.specs.declared.syntax.Operator.{Operator}
+use Rattle.meaning.specs.declared.syntax.Operator.TheVariants as operators
+use Rattle.meaning.specs.declared.syntax.Kind.{Kind}
+use Rattle.meaning.specs.declared.syntax.Kind.TheVariants as kinds
+use Rattle.meaning.specs.declared.refusal.Rule.{Rule}
+use Rattle.meaning.specs.declared.refusal.Rule.TheVariants.{G1, G2, G3}
+use Rattle.meaning.specs.Characters.{is_digit, is_letter, is_alphanumeric, is_name, is_label, apostrophe}
+use Rattle.meaning.specs.Syntax.{ExprTree, number, name, signed, binary, UnitTree, star, unit_number, ShapeTree, assignment, writing, format, ending}
+use Rattle.meaning.specs.Spelling.{level, level_of, balanced}
+use Rattle.meaning.specs.Kinds.{kind_of}
+
+abbrev pub Text : Type 0
+Text = List ℕ
+
+abbrev pub Reader : Type 0 → Type 0
+Reader A = Text → Option (A × Text)
+
+-- ---- combinators
+
+infixl 10 ◌>>=◌
+unfoldable pub ◌>>=◌ : {A B : Type 0} → Option A → (A → Option B) → Option B
+None >>= f = None
+(Some x) >>= f = f x
+
+unfoldable pub when : {A : Type 0} → Bool → Option A → Option A
+when true o = o
+when false o = None
+
+-- the first where there is nothing, else what the value gives
+unfoldable pub either : {A B : Type 0} → Option A → B → (A → B) → B
+either None b f = b
+either (Some x) b f = f x
+
+-- what stands behind a word
+unfoldable pub after : List ℕ → Text → Option Text
+after [] t = Some t
+after (w ∷ ws) [] = None
+after (w ∷ ws) (c ∷ t) = when (w == c) (after ws t)
+
+-- a character more at the front of what was read
+abbrev pub with_char : ℕ → Text × Text → Text × Text
+with_char c r = (c ∷ r.0, r.1)
+
+-- the longest front whose characters pass
+unfoldable pub run : (ℕ → Bool) → Text → Text × Text
+run test [] = ([], [])
+run test (c ∷ t) = if test c then with_char c (run test t) else ([], c ∷ t)
+
+abbrev pub at_end : {A : Type 0} → A × Text → Option A
+at_end (x, []) = Some x
+at_end (x, c ∷ t) = None
+
+-- ---- expressions
+
+unfoldable pub sign_at : Reader Sign
+sign_at [] = None
+sign_at (c ∷ t) = if c == 43 then Some (signs.Plus, t) else (if c == 45 then Some (signs.Minus, t) else None)
+
+unfoldable pub operator_at : Reader Operator
+operator_at [] = None
+operator_at (c ∷ t) =
+    if c == 43 then Some (operators.Add, t)
+    else (if c == 45 then Some (operators.Subtract, t)
+    else (if c == 42 then Some (operators.Multiply, t) else None))
+
+unfoldable pub name_at : Reader (List ℕ)
+unfolding run
+name_at t = if is_name (run is_alphanumeric t).0 then Some (run is_alphanumeric t) else None
+
+-- digits or a name
+unfoldable pub primary_at : Reader ExprTree
+unfolding run ◌>>=◌ name_at
+primary_at [] = None
+primary_at (c ∷ t) =
+    if is_digit c then Some (number (run is_digit (c ∷ t)).0, (run is_digit (c ∷ t)).1)
+    else (name_at (c ∷ t) >>= λ n. Some (name n.0, n.1))
+
+-- what an expression of a level begins with: a sign and one term, where the level lets a sign stand, or a primary
+unfoldable pub front_at : (ℕ → Reader ExprTree) → ℕ → Reader ExprTree
+unfolding ◌>>=◌ either when sign_at primary_at
+front_at rec least t =
+    either (sign_at t) (primary_at t) (λ s. when (nat_le least 5) (rec 6 s.1 >>= λ e. Some (signed s.0 e.0, e.1)))
+
+-- an operator of this level or a stronger one that may have this operand on its left
+abbrev pub may_follow : ℕ → ExprTree → Operator → Bool
+may_follow least left o = nat_le least (level o) && nat_le (level o) (level_of left)
+
+-- goes on while such an operator follows; each takes an operand that binds more strongly
+unfoldable pub operations_at : (ℕ → Reader ExprTree) → ℕ → ℕ → ExprTree → Reader ExprTree
+unfolding ◌>>=◌ either operator_at
+operations_at rec zero least left t = Some (left, t)
+operations_at rec (suc n) least left t =
+    either (operator_at t) (Some (left, t)) (λ o.
+    if may_follow least left o.0
+    then (rec (level o.0 + 1) o.1 >>= λ right. operations_at rec n least (binary o.0 left right.0) right.1)
+    else Some (left, t))
+
+unfoldable pub expression_at : ℕ → ℕ → Reader ExprTree
+unfolding ◌>>=◌ front_at operations_at
+expression_at zero least t = None
+expression_at (suc n) least t =
+    front_at (expression_at n) least t >>= λ e. operations_at (expression_at n) (length e.1) least e.0 e.1
+
+-- an expression of the weakest level, with depth enough for any
+unfoldable pub whole_expression_at : Reader ExprTree
+unfolding expression_at
+whole_expression_at t = expression_at (suc (length t)) 0 t
+
+-- expressions with commas between, one at least
+unfoldable pub expressions_at : ℕ → Reader (List ExprTree)
+unfolding ◌>>=◌ either after whole_expression_at
+expressions_at zero t = None
+expressions_at (suc n) t =
+    whole_expression_at t >>= λ e. either (after (44 ∷ []) e.1) (Some (e.0 ∷ [], e.1)) (λ rest. expressions_at n rest >>= λ es. Some (e.0 ∷ es.0, es.1))
+
+-- the rest of a text: expressions, or nothing
+unfoldable pub list_of : Text → Option (List ExprTree)
+unfolding ◌>>=◌ expressions_at
+list_of [] = Some []
+list_of (c ∷ t) = expressions_at (suc (length (c ∷ t))) (c ∷ t) >>= at_end
+
+-- ---- statements
+
+unfoldable pub label_at : Reader (List ℕ)
+unfolding run
+label_at t = if is_label (run is_digit t).0 then Some (run is_digit t) else None
+
+unfoldable pub unit_at : Reader UnitTree
+unfolding ◌>>=◌ either after whole_expression_at
+unit_at t =
+    either (after (42 ∷ []) t) (whole_expression_at t >>= λ e. Some (unit_number e.0, e.1)) (λ rest. Some (star, rest))
+
+-- what stands before a last closing parenthesis
+unfoldable pub before_last_parenthesis : Text → Option Text
+unfolding ◌>>=◌ when
+before_last_parenthesis [] = None
+before_last_parenthesis (c ∷ []) = when (c == 41) (Some [])
+before_last_parenthesis (c ∷ d ∷ t) = before_last_parenthesis (d ∷ t) >>= λ r. Some (c ∷ r)
+
+unfoldable pub assignment_of : Text → Option ShapeTree
+unfolding ◌>>=◌ name_at after whole_expression_at
+assignment_of t = do
+  n ← name_at t
+  rest ← after (61 ∷ []) n.1
+  e ← whole_expression_at rest
+  v ← at_end e
+  Some (assignment n.0 v)
+
+unfoldable pub writing_of : Text → Option ShapeTree
+unfolding ◌>>=◌ after unit_at label_at list_of
+writing_of t = do
+  rest ← after (codes "WRITE(") t
+  u ← unit_at rest
+  behind ← after (44 ∷ []) u.1
+  l ← label_at behind
+  list ← after (41 ∷ []) l.1
+  es ← list_of list
+  Some (writing u.0 l.0 es)
+
+unfoldable pub format_of : Text → Option ShapeTree
+unfolding ◌>>=◌ after when before_last_parenthesis balanced
+format_of t = do
+  rest ← after (codes "FORMAT(") t
+  text ← before_last_parenthesis rest
+  when (balanced 0 false text) (Some (format text))
+
+unfoldable pub ending_of : Text → Option ShapeTree
+unfolding ◌>>=◌ after
+ending_of t = do
+  rest ← after (codes "END") t
+  at_end (ending, rest)
+
+-- the form that a bare text reads as
+unfoldable pub shape_of : Text → Option ShapeTree
+unfolding kind_of assignment_of writing_of format_of ending_of
+shape_of t = elim (kind_of t) [
+  | kinds.Assignment ↦ assignment_of t
+  | kinds.Write ↦ writing_of t
+  | kinds.Format ↦ format_of t
+  | kinds.End ↦ ending_of t
+  | kinds.Other ↦ None
+]
+
+-- ---- texts that have no reading
+
+-- the most parentheses that are open at once outside apostrophes; one that closes nothing changes nothing
+unfoldable pub most_open : ℕ → Bool → Text → ℕ
+most_open depth inside [] = depth
+most_open depth true (c ∷ cs) = most_open depth (not (c == apostrophe)) cs
+most_open depth false (c ∷ cs) =
+    if c == apostrophe then most_open depth true cs
+    else (if c == 40 then max depth (most_open (depth + 1) false cs)
+    else (if c == 41 then max depth (most_open (depth - 1) false cs)
+    else most_open depth false cs))
+
+-- the beginnings of the FORTRAN 77 statements that are left out
+abbrev pub left_out : List (List ℕ)
+left_out =
+    codes "READ" ∷ (codes "OPEN" ∷ (codes "CLOSE" ∷ (codes "INQUIRE" ∷ (codes "BACKSPACE" ∷ (codes "REWIND" ∷ (codes "ENDFILE" ∷ (codes "REAL" ∷ (codes "DOUBLEPRECISION" ∷ (codes "COMPLEX" ∷ (codes "CHARACTER" ∷ (codes "SUBROUTINE" ∷ (codes "FUNCTION" ∷ (codes "CALL" ∷ (codes "RETURN" ∷ (codes "COMMON" ∷ (codes "EQUIVALENCE" ∷ (codes "SAVE" ∷ (codes "EXTERNAL" ∷ (codes "INTRINSIC" ∷ (codes "BLOCKDATA" ∷ (codes "ENTRY" ∷ (codes "ASSIGN" ∷ (codes "PAUSE" ∷ (codes "IMPLICITREAL" ∷ (codes "IMPLICITDOUBLEPRECISION" ∷ (codes "IMPLICITCOMPLEX" ∷ (codes "IMPLICITCHARACTER" ∷ (codes "PRINT*" ∷ (codes "WRITE(*,*)" ∷ (codes "WRITE(6,*)" ∷ []))))))))))))))))))))))))))))))
+
+unfoldable pub is_left_out : Text → Bool
+is_left_out t = list_any (λ word. starts_with nat_eq t word) left_out
+
+-- the form, or why there is none
+unfoldable pub read_shape : Text → Result ShapeTree Rule
+unfolding shape_of most_open is_left_out either
+read_shape t =
+    if nat_lt 64 (most_open 0 false t) then Err G3
+    else either (shape_of t) (Err (if is_left_out t then G2 else G1)) (λ f. Ok f)

@@ -1,0 +1,123 @@
+-- The rules on labels, names, constants, units and formats (ANSI X3.9-1978, 2.5, 3.4, 4.1.2, 4.3, 12.3, 12.4 and 13.1).
+use Rattle.std.specs.Prelude.{◌≡◌, ℕ, ◌^◌, ℤ, pos, negsuc, Bool, true, false, ◌&&◌, ◌||◌, not, List, [], ◌∷◌, ◌++◌, nat_le, nat_lt, nat_eq, ◌==◌, if◌then◌else◌, Option, Some, None, is_some, Result, Ok, Err, flat_map, is_none}
+use Rattle.std.specs.List.{list_any, list_all}
+use Rattle.meaning.specs.declared.refusal.Broken.{Broken}
+use Rattle.meaning.specs.declared.refusal.Rule.TheVariants.{K1, K3, K6, K11}
+use Rattle.meaning.specs.declared.ending.FaultKind.{FaultKind}
+use Rattle.meaning.specs.declared.ending.Value.{Value}
+use Rattle.meaning.specs.declared.ending.Value.TheVariants as values
+use Rattle.meaning.specs.Characters.{number_of}
+use Rattle.meaning.specs.Syntax.{ExprTree, number, name, signed, binary, UnitTree, star, unit_number, ShapeTree, assignment, writing, format, ending, MemberTree}
+use Rattle.meaning.specs.Refusals.{least, unless}
+use Rattle.meaning.specs.Statements.{broken_if}
+use Rattle.meaning.specs.Nesting.{Nested, flatten}
+use Rattle.meaning.specs.Formats.{Descriptor, descriptors_of}
+use Rattle.meaning.specs.Maps.{start}
+use Rattle.meaning.specs.Values.{Valued, value}
+
+-- ---- what stands in expressions and statements, from the left
+
+abbrev pub names_in : ExprTree → List (List ℕ)
+names_in (number digits) = []
+names_in (name letters) = letters ∷ []
+names_in (signed sign e) = names_in e
+names_in (binary operator a b) = names_in a ++ names_in b
+
+abbrev pub numbers_in : ExprTree → List (List ℕ)
+numbers_in (number digits) = digits ∷ []
+numbers_in (name letters) = []
+numbers_in (signed sign e) = numbers_in e
+numbers_in (binary operator a b) = numbers_in a ++ numbers_in b
+
+abbrev pub unit_exprs : UnitTree → List ExprTree
+unit_exprs star = []
+unit_exprs (unit_number e) = e ∷ []
+
+-- the expressions of a statement
+abbrev pub exprs_of : ShapeTree → List ExprTree
+exprs_of (assignment target e) = e ∷ []
+exprs_of (writing unit label es) = unit_exprs unit ++ es
+exprs_of (format text) = []
+exprs_of ending = []
+
+abbrev pub targets_of : ShapeTree → List (List ℕ)
+targets_of (assignment target e) = target ∷ []
+targets_of (writing unit label es) = []
+targets_of (format text) = []
+targets_of ending = []
+
+-- the variables of a statement
+abbrev pub names_of : ShapeTree → List (List ℕ)
+names_of s = targets_of s ++ flat_map names_in (exprs_of s)
+
+-- ---- the rules
+
+-- a name is INTEGER if it begins with I to N, else REAL (4.1.2)
+abbrev pub is_real : List ℕ → Bool
+is_real [] = true
+is_real (c ∷ cs) = not (nat_le 73 c && nat_le c 78)
+
+-- K1: an earlier statement has the label
+abbrev pub is_label_at : Option ℕ → ℕ → Bool
+is_label_at None n = false
+is_label_at (Some s) n = s == n
+
+abbrev pub has_label : ℕ → MemberTree → Bool
+has_label label m = is_label_at m.label label
+
+abbrev pub is_repeated : List MemberTree → Option ℕ → Bool
+is_repeated before None = false
+is_repeated before (Some s) = list_any (has_label s) before
+
+-- K3: a variable is REAL
+abbrev pub has_real : ShapeTree → Bool
+has_real s = list_any is_real (names_of s)
+
+-- K6: a constant is outside INTEGER
+abbrev pub is_too_great : List ℕ → Bool
+is_too_great digits = nat_lt 2147483647 (number_of digits)
+
+abbrev pub has_too_great : ShapeTree → Bool
+has_too_great s = list_any is_too_great (flat_map numbers_in (exprs_of s))
+
+-- K11: the unit is neither an asterisk nor a constant expression of value 6
+abbrev pub is_six : Valued → Bool
+is_six (Ok (values.Int (pos n))) = n == 6
+is_six (Ok (values.Int (negsuc n))) = false
+is_six (Ok (values.Bool b)) = false
+is_six (Err k) = false
+
+abbrev pub is_unit : UnitTree → Bool
+is_unit star = true
+is_unit (unit_number e) = not (list_any (λ n. true) (names_in e)) && is_six (value e start)
+
+-- K11: no FORMAT statement has the label
+abbrev pub is_format : ShapeTree → Bool
+is_format (format text) = true
+is_format (assignment target e) = false
+is_format (writing unit label es) = false
+is_format ending = false
+
+abbrev pub has_format : List MemberTree → ℕ → Bool
+has_format all label = list_any (λ m. is_format m.shape && has_label label m) all
+
+-- K11
+abbrev pub is_misformed : List MemberTree → Option ℕ → ShapeTree → Bool
+is_misformed all at (assignment target e) = false
+is_misformed all at (writing unit label es) = not (is_unit unit) || not (has_format all (number_of label))
+is_misformed all at (format text) = is_none at || is_none (descriptors_of text)
+is_misformed all at ending = false
+
+-- the pairs of a statement among all, with those before it
+abbrev pub broken_at : List MemberTree → List MemberTree → MemberTree → List Broken
+broken_at all before m =
+    broken_if (is_repeated before m.label) m.line K1 ++ (broken_if (has_real m.shape) m.line K3 ++ (broken_if (has_too_great m.shape) m.line K6 ++ broken_if (is_misformed all m.label m.shape) m.line K11))
+
+unfoldable pub broken_among : List MemberTree → List MemberTree → List MemberTree → List Broken
+broken_among all before [] = []
+broken_among all before (m ∷ ms) = broken_at all before m ++ broken_among all (before ++ m ∷ []) ms
+
+-- the program unit, or the least broken pair
+unfoldable pub checked : Nested → Result Nested Broken
+unfolding broken_among
+checked t = unless (least (broken_among (flatten t) [] (flatten t))) t

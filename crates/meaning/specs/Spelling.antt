@@ -1,0 +1,101 @@
+-- The bare text of a form, and which forms are well formed (ANSI X3.9-1978, chapters 4 to 16 and appendix F).
+-- A text reads as a form exactly when the form is well formed and this is its spelling.
+use Rattle.std.specs.Prelude.{ℕ, Bool, true, false, ◌&&◌, ◌||◌, not, List, [], ◌∷◌, ◌++◌, nat_le, nat_lt, ◌==◌, codes, length, if◌then◌else◌, IsTrue, ◌≡◌, ◌+◌, ◌-◌}
+use Rattle.std.specs.List.{list_all}
+use Rattle.meaning.specs.declared.syntax.Sign.{Sign}
+use Rattle.meaning.specs.declared.syntax.Sign.TheVariants as signs
+use Rattle.meaning.specs.declared.syntax.Operator.{Operator}
+use Rattle.meaning.specs.declared.syntax.Operator.TheVariants as operators
+use Rattle.meaning.specs.Syntax.{ExprTree, number, name, signed, binary, UnitTree, star, unit_number, ShapeTree, assignment, writing, format, ending}
+use Rattle.meaning.specs.Characters.{is_number, is_name, is_label, apostrophe}
+
+-- ---- expressions (6.1)
+
+abbrev pub sign_byte : Sign → ℕ
+sign_byte signs.Plus = 43
+sign_byte signs.Minus = 45
+
+abbrev pub operator_text : Operator → List ℕ
+operator_text operators.Add = 43 ∷ []
+operator_text operators.Subtract = 45 ∷ []
+operator_text operators.Multiply = 42 ∷ []
+
+abbrev pub spell_expr : ExprTree → List ℕ
+spell_expr (number digits) = digits
+spell_expr (name letters) = letters
+spell_expr (signed sign e) = sign_byte sign ∷ spell_expr e
+spell_expr (binary operator a b) = spell_expr a ++ (operator_text operator ++ spell_expr b)
+
+-- how strongly an operator binds: + and - stand at level 5, * at level 6 (6.1.3, 6.5)
+abbrev pub level : Operator → ℕ
+level operators.Add = 5
+level operators.Subtract = 5
+level operators.Multiply = 6
+
+-- the level at which an expression stands: a primary binds strongest
+abbrev pub level_of : ExprTree → ℕ
+level_of (number digits) = 8
+level_of (name letters) = 8
+level_of (signed sign e) = 5
+level_of (binary operator a b) = level operator
+
+-- operators of one level group from the left, and a sign takes one term
+abbrev pub IsWellExpr : ExprTree → Type 0
+IsWellExpr (number digits) = IsTrue (is_number digits)
+IsWellExpr (name letters) = IsTrue (is_name letters)
+IsWellExpr (signed sign e) = IsWellExpr e × IsTrue (nat_le 6 (level_of e))
+IsWellExpr (binary operator a b) =
+    IsWellExpr a × (IsWellExpr b × (IsTrue (nat_le (level operator) (level_of a)) × IsTrue (nat_le (level operator + 1) (level_of b))))
+
+-- expressions with commas between
+abbrev pub spell_more : List ExprTree → List ℕ
+spell_more [] = []
+spell_more (e ∷ es) = 44 ∷ (spell_expr e ++ spell_more es)
+
+abbrev pub spell_list : List ExprTree → List ℕ
+spell_list [] = []
+spell_list (e ∷ es) = spell_expr e ++ spell_more es
+
+abbrev pub AreWellExprs : List ExprTree → Type 0
+AreWellExprs [] = Unit {0}
+AreWellExprs (e ∷ es) = IsWellExpr e × AreWellExprs es
+
+-- ---- the text of a FORMAT statement (13.1)
+
+-- the apostrophes pair up, and outside them no front has more `)` than `(`, and the whole as many
+unfoldable pub balanced : ℕ → Bool → List ℕ → Bool
+balanced depth true [] = false
+balanced depth false [] = depth == 0
+balanced depth true (c ∷ cs) = balanced depth (not (c == apostrophe)) cs
+balanced depth false (c ∷ cs) =
+    if c == apostrophe then balanced depth true cs
+    else (if c == 40 then balanced (depth + 1) false cs
+    else (if c == 41 then nat_lt 0 depth && balanced (depth - 1) false cs
+    else balanced depth false cs))
+
+-- ---- statements
+
+abbrev pub spell_unit : UnitTree → List ℕ
+spell_unit star = 42 ∷ []
+spell_unit (unit_number e) = spell_expr e
+
+abbrev pub IsWellUnit : UnitTree → Type 0
+IsWellUnit star = Unit {0}
+IsWellUnit (unit_number e) = IsWellExpr e
+
+abbrev pub spell : ShapeTree → List ℕ
+spell (assignment target e) = target ++ (61 ∷ spell_expr e)
+spell (writing unit label es) = codes "WRITE(" ++ (spell_unit unit ++ (44 ∷ (label ++ (41 ∷ spell_list es))))
+spell (format text) = codes "FORMAT(" ++ (text ++ 41 ∷ [])
+spell ending = codes "END"
+
+abbrev pub IsWell : ShapeTree → Type 0
+IsWell (assignment target e) = IsTrue (is_name target) × IsWellExpr e
+IsWell (writing unit label es) = IsWellUnit unit × (IsTrue (is_label label) × AreWellExprs es)
+IsWell (format text) = IsTrue (balanced 0 false text)
+IsWell ending = Unit {0}
+
+-- the text reads as the form
+pub record Reads (text : List ℕ) (form : ShapeTree) : Type 0 where
+  pub well : IsWell form
+  pub spelled : spell form ≡ text

@@ -1,0 +1,60 @@
+//! Values, faults and how a run ends.
+
+use crate::refusal::Rule;
+use std::fmt;
+
+/// A value of an expression.
+#[derive(Clone, Copy, Debug, PartialEq, Eq)]
+pub enum Value {
+    /// An INTEGER.
+    Int(i32),
+    /// A LOGICAL.
+    Bool(bool),
+}
+
+/// What went wrong in a statement that was being executed.
+#[derive(Clone, Copy, Debug, PartialEq, Eq)]
+pub enum FaultKind {
+    /// A result outside the range of INTEGER.
+    F2,
+    /// The turn limit.
+    F4,
+    /// A value that meets a descriptor of the other type, or for which no descriptor comes.
+    F7,
+    /// A WRITE that is too large.
+    F8,
+}
+
+impl fmt::Display for FaultKind {
+    fn fmt<W: fmt::Write>(&self, f: &mut fmt::Formatter<W>) -> fmt::Result {
+        let name = match self {
+            FaultKind::F2 => "F2",
+            FaultKind::F4 => "F4",
+            FaultKind::F7 => "F7",
+            FaultKind::F8 => "F8",
+        };
+        write!(f, "{name}")
+    }
+}
+
+/// A fault, and the initial line of the statement that was being executed.
+#[derive(Clone, Copy, Debug, PartialEq, Eq)]
+pub struct Fault {
+    pub kind: FaultKind,
+    pub line: u32,
+}
+
+/// How a run ends.
+#[derive(Clone, Copy, Debug, PartialEq, Eq)]
+pub enum Ending {
+    /// END was reached.
+    Ended,
+    /// A statement faulted.
+    Fault(Fault),
+    /// The source broke a rule, and nothing of it was executed.
+    Refused(Rule, u32),
+    /// Memory was refused.
+    Memory,
+    /// The sink refused a write.
+    WriteRefused,
+}

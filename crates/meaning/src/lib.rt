@@ -1,0 +1,7 @@
+//! The shared types of f77run, and in `specs/` the definitions that every contract speaks of.
+#![tactic(auto)]
+
+pub mod ending;
+pub mod refusal;
+pub mod statement;
+pub mod syntax;

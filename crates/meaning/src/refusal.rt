@@ -1,0 +1,109 @@
+//! Why a source is refused.
+
+ghost use Rattle.std.specs.Prelude.{◌≡◌};
+ghost use Rattle.meaning.specs.Ranks.{rank_of};
+ghost use Rattle.meaning.specs.declared.refusal.Refusal.TheVariants.{Memory};
+
+use std::alloc::{AllocError, AllocFailed};
+use std::fmt;
+
+/// A rule of the profile, by the name that the program prints. docs/LANGUAGE.md says what each one asks.
+#[derive(Clone, Copy, Debug, PartialEq, Eq)]
+pub enum Rule {
+    /// A byte outside 32 to 126 in columns 1 to 72.
+    C1,
+    /// Columns 1 to 5 of an initial line hold no statement label and aren't blank.
+    C2,
+    /// A continuation line that continues nothing.
+    C4,
+    /// An odd number of apostrophes in a statement.
+    C6,
+    /// A source that is too long.
+    C7,
+    /// A statement that has no reading.
+    G1,
+    /// A FORTRAN 77 statement that is left out of the profile.
+    G2,
+    /// More than 64 parentheses open at once.
+    G3,
+    /// The END statement is missing, or a statement follows it.
+    N2,
+    /// A statement label that an earlier statement has.
+    K1,
+    /// A variable of type REAL.
+    K3,
+    /// An integer constant outside the range of INTEGER.
+    K6,
+    /// A unit, a format label or a format that isn't allowed.
+    K11,
+}
+
+impl Rule {
+    /// The number of the rule in its phase. Of two rules broken at one line the lesser is told.
+    pub fn rank(self) -> u8
+        ensures { result ≡ rank_of self }
+    {
+        match self {
+            Rule::C1 | Rule::G1 | Rule::K1 => 1,
+            Rule::C2 | Rule::G2 | Rule::N2 => 2,
+            Rule::G3 | Rule::K3 => 3,
+            Rule::C4 => 4,
+            Rule::C6 | Rule::K6 => 6,
+            Rule::C7 => 7,
+            Rule::K11 => 11,
+        }
+    }
+}
+
+impl fmt::Display for Rule {
+    fn fmt<W: fmt::Write>(&self, f: &mut fmt::Formatter<W>) -> fmt::Result {
+        let name = match self {
+            Rule::C1 => "C1",
+            Rule::C2 => "C2",
+            Rule::C4 => "C4",
+            Rule::C6 => "C6",
+            Rule::C7 => "C7",
+            Rule::G1 => "G1",
+            Rule::G2 => "G2",
+            Rule::G3 => "G3",
+            Rule::N2 => "N2",
+            Rule::K1 => "K1",
+            Rule::K3 => "K3",
+            Rule::K6 => "K6",
+            Rule::K11 => "K11",
+        };
+        write!(f, "{name}")
+    }
+}
+
+/// A rule that is broken, and the line at which it is.
+#[derive(Clone, Copy, Debug, PartialEq, Eq)]
+pub struct Broken {
+    pub line: u32,
+    pub rule: Rule,
+}
+
+/// Why a source, or a part of it, is refused.
+#[derive(Clone, Copy, Debug, PartialEq, Eq)]
+pub enum Refusal {
+    /// A rule of the profile is broken: the least one of the least line, in the first phase that has one.
+    Rule { rule: Rule, line: u32 },
+    /// A growth was refused.
+    Memory,
+}
+
+impl From<AllocError> for Refusal {
+    ghost from_gives = { λ _ e. e ≡ Memory };
+
+    fn from(_error: AllocError) -> Refusal {
+        Refusal::Memory
+    }
+}
+
+impl<T: Drop> From<AllocFailed<T>> for Refusal {
+    ghost from_gives = { λ _ e. e ≡ Memory };
+
+    fn from(_error: AllocFailed<T>) -> Refusal {
+        Refusal::Memory
+    }
+}

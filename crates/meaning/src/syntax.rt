@@ -1,0 +1,102 @@
+//! What statements say: expressions, forms and programs.
+
+ghost use Rattle.std.specs.Prelude.{◌≤◌, length};
+ghost use Rattle.meaning.specs.Spelling.{spell};
+ghost use Rattle.meaning.specs.Syntax.{shape_tree};
+
+/// A sign at the front of an arithmetic expression.
+#[derive(Clone, Copy, Debug, PartialEq, Eq)]
+pub enum Sign {
+    Plus,
+    Minus,
+}
+
+/// An operator between two operands.
+#[derive(Clone, Copy, Debug, PartialEq, Eq)]
+pub enum Operator {
+    Add,
+    Subtract,
+    Multiply,
+}
+
+/// An expression (ANSI X3.9-1978, chapter 6), with all that was written.
+#[derive(Drop)]
+pub enum Expr {
+    /// The digits of an integer constant.
+    Number(Vec<u8>),
+    /// A symbolic name.
+    Name(Vec<u8>),
+    /// A sign and its operand.
+    Signed(Sign, Box<Expr>),
+    /// An operator and its operands.
+    Binary(Operator, Box<Expr>, Box<Expr>),
+}
+
+/// Expressions with commas between, first to last.
+#[derive(Drop)]
+pub enum Exprs {
+    Empty,
+    More(Expr, Box<Exprs>),
+}
+
+/// The unit of a WRITE statement.
+#[derive(Drop)]
+pub enum Unit {
+    /// An asterisk.
+    Star,
+    Number(Expr),
+}
+
+/// What a form says.
+#[derive(Drop)]
+pub enum Shape {
+    /// `name=value`
+    Assignment {
+        name: Vec<u8>,
+        value: Expr,
+    },
+    /// `WRITE(unit,label)list`, the label as its digits stand there.
+    Write {
+        unit: Unit,
+        label: Vec<u8>,
+        list: Exprs,
+    },
+    /// `FORMAT(text)`
+    Format(Vec<u8>),
+    /// `END`
+    End,
+}
+
+/// A form: what a statement says, no longer than a statement can be.
+#[derive(Drop)]
+pub struct Form {
+    pub shape: Shape,
+    /// Twenty lines of 66 columns at most.
+    ghost short: { length (spell (shape_tree shape)) ≤ 1320 },
+}
+
+/// A form in its place: the initial line and the label of its statement.
+#[derive(Drop)]
+pub struct Member {
+    pub line: u32,
+    pub label: Option<u32>,
+    pub form: Form,
+}
+
+/// A program unit: its statements before END, and END.
+#[derive(Drop)]
+pub struct Tree {
+    pub body: Vec<Member>,
+    pub end: Member,
+}
+
+/// Which statement a bare text can be.
+#[derive(Clone, Copy, Debug, PartialEq, Eq)]
+pub enum Kind {
+    Assignment,
+    Write,
+    Format,
+    End,
+    /// None that is read.
+    Other,
+}
