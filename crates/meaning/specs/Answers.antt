@@ -1,17 +1,17 @@
 -- The bytes and the ending of a source under a turn limit: what it says, rule by rule and statement by statement.
-use Rattle.std.specs.Prelude.{◌≡◌, ℕ, List, [], ◌∷◌, ◌++◌, map, Option, Some, None, Result, Ok, Err}
+use Rattle.std.specs.Prelude.{ℕ, List, [], map, Result, Ok, Err}
 use Rattle.meaning.specs.declared.refusal.Broken.{Broken}
 use Rattle.meaning.specs.declared.refusal.Rule.{Rule}
 use Rattle.meaning.specs.declared.ending.Ending.{Ending}
 use Rattle.meaning.specs.declared.ending.Ending.TheVariants as endings
 use Rattle.meaning.specs.Refusals.{◌>>=◌, all_of}
-use Rattle.meaning.specs.Syntax.{ShapeTree, MemberTree}
+use Rattle.meaning.specs.Syntax.{MemberTree}
 use Rattle.meaning.specs.Statements.{Entry, statements_of}
 use Rattle.meaning.specs.BareText.{bare}
 use Rattle.meaning.specs.Reading.{read_shape}
 use Rattle.meaning.specs.Nesting.{Nested, flatten, nest}
 use Rattle.meaning.specs.Rules.{checked}
-use Rattle.meaning.specs.Maps.{Map, start}
+use Rattle.meaning.specs.Maps.{start}
 use Rattle.meaning.specs.Execution.{Outcome, normal, fault, Ran, exec}
 
 -- a form in its place, or the broken rule at its line
@@ -27,7 +27,6 @@ members_of entries = all_of (map member_of entries)
 
 -- the program unit that a source spells, or the refusal
 unfoldable pub program_of : List ℕ → Result Nested Broken
-unfolding members_of
 program_of source =
     statements_of source >>= λ entries. members_of entries >>= λ members. nest members >>= λ t. checked t
 
@@ -49,5 +48,4 @@ answer_of (Err b) limit = record { pieces = []; ending = endings.Refused b.rule 
 answer_of (Ok t) limit = record { pieces = (run_of t limit).pieces; ending = ending_of (run_of t limit).outcome }
 
 unfoldable pub answer : List ℕ → ℕ → Answer
-unfolding program_of run_of
 answer source limit = answer_of (program_of source) limit

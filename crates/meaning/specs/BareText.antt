@@ -1,6 +1,6 @@
 -- The bare text of a statement (ANSI X3.9-1978, 3.1.5, 3.1.6 and 4.8): blanks have no meaning outside character
 -- constants, where lower case letters stand for upper case ones (own).
-use Rattle.std.specs.Prelude.{ℕ, ◌+◌, ◌%◌, Bool, true, false, List, [], ◌∷◌, ◌++◌, ◌==◌, if◌then◌else◌}
+use Rattle.std.specs.Prelude.{ℕ, ◌+◌, ◌%◌, Bool, List, [], ◌∷◌, ◌++◌, ◌==◌, if◌then◌else◌}
 use Rattle.meaning.specs.Characters.{blank, apostrophe, raised}
 
 -- a character stands inside a constant when an odd number of apostrophes stands before it
@@ -16,5 +16,4 @@ bare_behind before [] = []
 bare_behind before (c ∷ cs) = kept before c ++ bare_behind (if c == apostrophe then before + 1 else before) cs
 
 unfoldable pub bare : List ℕ → List ℕ
-unfolding bare_behind
 bare text = bare_behind 0 text

@@ -1,11 +1,9 @@
 -- What the statements of a program do, one executed after another (ANSI X3.9-1978, chapters 10 to 12).
-use Rattle.std.specs.Prelude.{◌≡◌, ℕ, zero, suc, ◌+◌, Bool, true, false, ◌&&◌, List, [], ◌∷◌, ◌++◌, ◌==◌, if◌then◌else◌, Option, Some, None, unwrap_or, Result, Ok, Err}
-use Rattle.std.specs.List.{list_any}
+use Rattle.std.specs.Prelude.{ℕ, zero, suc, ◌+◌, Bool, true, false, List, [], ◌∷◌, ◌++◌, Option, Some, None, Result, Ok, Err}
 use Rattle.meaning.specs.declared.ending.FaultKind.{FaultKind}
 use Rattle.meaning.specs.declared.ending.FaultKind.TheVariants.{F4}
-use Rattle.meaning.specs.declared.ending.Value.{Value}
 use Rattle.meaning.specs.Characters.{number_of}
-use Rattle.meaning.specs.Syntax.{ExprTree, ShapeTree, assignment, writing, format, ending, MemberTree}
+use Rattle.meaning.specs.Syntax.{ShapeTree, assignment, writing, format, ending, MemberTree}
 use Rattle.meaning.specs.Formats.{Descriptor, descriptors_of}
 use Rattle.meaning.specs.Records.{edited}
 use Rattle.meaning.specs.Rules.{has_label}
@@ -36,7 +34,6 @@ failed k line m = record { outcome = fault k line; map = m; pieces = []; used = 
 
 -- an executable statement takes a turn; where none is left it isn't executed (own)
 unfoldable pub turn : ℕ → Map → ℕ → (ℕ → Ran) → Ran
-unfolding more
 turn line m zero go = failed F4 line m
 turn line m (suc t) go = more [] 1 (go t)
 
@@ -76,7 +73,6 @@ step program ending line m t go = go m t
 
 -- one pass over what is left of a list; a jump and a nested list would go on by rec
 unfoldable pub pass_over : List MemberTree → Meaning → Meaning
-unfolding turn with_ok more
 pass_over program rec all [] m t = ended m
 pass_over program rec all (x ∷ xs) m t =
     step program x.shape x.line m t (λ n u. pass_over program rec all xs n u)
@@ -86,11 +82,9 @@ never all rest m t = ended m
 
 -- at most so many passes
 unfoldable pub fuelled : List MemberTree → ℕ → Meaning
-unfolding pass_over
 fuelled program zero = never
 fuelled program (suc n) = pass_over program (fuelled program n)
 
 -- each pass but the last takes a turn, so turns and one are passes enough
 unfoldable pub exec : List MemberTree → Meaning
-unfolding fuelled
 exec program all rest m t = fuelled program (suc t) all rest m t

@@ -1,5 +1,5 @@
 -- The lines of a source, their columns and their classes (ANSI X3.9-1978, 3.2).
-use Rattle.std.specs.Prelude.{◌≡◌, ℕ, ◌+◌, Bool, true, false, ◌&&◌, ◌||◌, not, List, [], ◌∷◌, ◌++◌, map, take, drop, replicate, get_or, ◌==◌, if◌then◌else◌}
+use Rattle.std.specs.Prelude.{ℕ, Bool, ◌||◌, List, [], ◌∷◌, ◌++◌, map, take, drop, replicate, get_or, ◌==◌, if◌then◌else◌}
 use Rattle.std.specs.List.{list_all}
 use Rattle.meaning.specs.Characters.{blank}
 
@@ -20,7 +20,6 @@ without_return (b ∷ []) = if b == 13 then [] else b ∷ []
 without_return (b ∷ c ∷ bs) = b ∷ without_return (c ∷ bs)
 
 unfoldable pub lines_of : List ℕ → List (List ℕ)
-unfolding pieces without_return
 lines_of source = map without_return (pieces source)
 
 -- columns 1 to 72 of a line, which blanks fill up (own)

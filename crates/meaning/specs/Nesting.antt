@@ -1,13 +1,12 @@
 -- How the statements of a program unit nest (ANSI X3.9-1978, 3.5 and 11): so far END alone is nested, and is the last.
-use Rattle.std.specs.Prelude.{◌≡◌, ℕ, Bool, true, false, List, [], ◌∷◌, ◌++◌, map, Option, Some, None, Result, Ok, Err, IsTrue, IsFalse}
+use Rattle.std.specs.Prelude.{◌≡◌, ℕ, Bool, true, false, List, [], ◌∷◌, ◌++◌, map, Result, Ok, Err, IsTrue, IsFalse}
 use Rattle.std.specs.List.{AllByRecursion}
 use Rattle.meaning.specs.declared.refusal.Broken.{Broken}
 use Rattle.meaning.specs.declared.refusal.Rule.TheVariants.{N2}
 use Rattle.meaning.specs.declared.syntax.Member.{Member}
 use Rattle.meaning.specs.declared.syntax.Tree.{Tree}
 use Rattle.meaning.specs.Syntax.{ShapeTree, assignment, writing, format, ending, shape_tree, MemberTree}
-use Rattle.meaning.specs.Refusals.{least, unless, ◌>>=◌}
-use Rattle.meaning.specs.Statements.{broken_if}
+use Rattle.meaning.specs.Refusals.{◌>>=◌}
 
 -- a program unit: its statements before END, and END
 pub record Nested : Type 0 where
@@ -61,7 +60,6 @@ nest_after line (m ∷ ms) = elim (is_end m.shape) [
 
 -- line 1 stands for the last statement's where there is none
 unfoldable pub nest : List MemberTree → Result Nested Broken
-unfolding nest_after
 nest members = nest_after 1 members
 
 -- what values of the Rust types stand for

@@ -1,15 +1,14 @@
 -- Reading a bare text as a form. A reader answers what it read and what is left of the text, or nothing.
-use Rattle.std.specs.Prelude.{◌≡◌, ℕ, zero, suc, ◌+◌, ◌-◌, Bool, true, false, ◌&&◌, ◌||◌, not, List, [], ◌∷◌, ◌++◌, length, nat_le, nat_lt, ◌==◌, if◌then◌else◌, Option, Some, None, Result, Ok, Err, codes, nat_eq, max}
+use Rattle.std.specs.Prelude.{ℕ, zero, suc, ◌+◌, ◌-◌, Bool, true, false, ◌&&◌, not, List, [], ◌∷◌, length, nat_le, nat_lt, ◌==◌, if◌then◌else◌, Option, Some, None, Result, Ok, Err, codes, nat_eq, max}
 use Rattle.std.specs.List.{starts_with, list_any}
 use Rattle.meaning.specs.declared.syntax.Sign.{Sign}
 use Rattle.meaning.specs.declared.syntax.Sign.TheVariants as signs
 use Rattle.meaning.specs.declared.syntax.Operator.{Operator}
 use Rattle.meaning.specs.declared.syntax.Operator.TheVariants as operators
-use Rattle.meaning.specs.declared.syntax.Kind.{Kind}
 use Rattle.meaning.specs.declared.syntax.Kind.TheVariants as kinds
 use Rattle.meaning.specs.declared.refusal.Rule.{Rule}
 use Rattle.meaning.specs.declared.refusal.Rule.TheVariants.{G1, G2, G3}
-use Rattle.meaning.specs.Characters.{is_digit, is_letter, is_alphanumeric, is_name, is_label, apostrophe}
+use Rattle.meaning.specs.Characters.{is_digit, is_alphanumeric, is_name, is_label, apostrophe}
 use Rattle.meaning.specs.Syntax.{ExprTree, number, name, signed, binary, UnitTree, star, unit_number, ShapeTree, assignment, writing, format, ending}
 use Rattle.meaning.specs.Spelling.{level, level_of, balanced}
 use Rattle.meaning.specs.Kinds.{kind_of}
@@ -69,12 +68,11 @@ operator_at (c ∷ t) =
     else (if c == 42 then Some (operators.Multiply, t) else None))
 
 unfoldable pub name_at : Reader (List ℕ)
-unfolding run
 name_at t = if is_name (run is_alphanumeric t).0 then Some (run is_alphanumeric t) else None
 
 -- digits or a name
 unfoldable pub primary_at : Reader ExprTree
-unfolding run ◌>>=◌ name_at
+unfolding ◌>>=◌
 primary_at [] = None
 primary_at (c ∷ t) =
     if is_digit c then Some (number (run is_digit (c ∷ t)).0, (run is_digit (c ∷ t)).1)
@@ -82,7 +80,7 @@ primary_at (c ∷ t) =
 
 -- what an expression of a level begins with: a sign and one term, where the level lets a sign stand, or a primary
 unfoldable pub front_at : (ℕ → Reader ExprTree) → ℕ → Reader ExprTree
-unfolding ◌>>=◌ either when sign_at primary_at
+unfolding ◌>>=◌ either when
 front_at rec least t =
     either (sign_at t) (primary_at t) (λ s. when (nat_le least 5) (rec 6 s.1 >>= λ e. Some (signed s.0 e.0, e.1)))
 
@@ -92,7 +90,7 @@ may_follow least left o = nat_le least (level o) && nat_le (level o) (level_of l
 
 -- goes on while such an operator follows; each takes an operand that binds more strongly
 unfoldable pub operations_at : (ℕ → Reader ExprTree) → ℕ → ℕ → ExprTree → Reader ExprTree
-unfolding ◌>>=◌ either operator_at
+unfolding ◌>>=◌ either
 operations_at rec zero least left t = Some (left, t)
 operations_at rec (suc n) least left t =
     either (operator_at t) (Some (left, t)) (λ o.
@@ -101,37 +99,35 @@ operations_at rec (suc n) least left t =
     else Some (left, t))
 
 unfoldable pub expression_at : ℕ → ℕ → Reader ExprTree
-unfolding ◌>>=◌ front_at operations_at
+unfolding ◌>>=◌
 expression_at zero least t = None
 expression_at (suc n) least t =
     front_at (expression_at n) least t >>= λ e. operations_at (expression_at n) (length e.1) least e.0 e.1
 
 -- an expression of the weakest level, with depth enough for any
 unfoldable pub whole_expression_at : Reader ExprTree
-unfolding expression_at
 whole_expression_at t = expression_at (suc (length t)) 0 t
 
 -- expressions with commas between, one at least
 unfoldable pub expressions_at : ℕ → Reader (List ExprTree)
-unfolding ◌>>=◌ either after whole_expression_at
+unfolding ◌>>=◌ either
 expressions_at zero t = None
 expressions_at (suc n) t =
     whole_expression_at t >>= λ e. either (after (44 ∷ []) e.1) (Some (e.0 ∷ [], e.1)) (λ rest. expressions_at n rest >>= λ es. Some (e.0 ∷ es.0, es.1))
 
 -- the rest of a text: expressions, or nothing
 unfoldable pub list_of : Text → Option (List ExprTree)
-unfolding ◌>>=◌ expressions_at
+unfolding ◌>>=◌
 list_of [] = Some []
 list_of (c ∷ t) = expressions_at (suc (length (c ∷ t))) (c ∷ t) >>= at_end
 
 -- ---- statements
 
 unfoldable pub label_at : Reader (List ℕ)
-unfolding run
 label_at t = if is_label (run is_digit t).0 then Some (run is_digit t) else None
 
 unfoldable pub unit_at : Reader UnitTree
-unfolding ◌>>=◌ either after whole_expression_at
+unfolding ◌>>=◌ either
 unit_at t =
     either (after (42 ∷ []) t) (whole_expression_at t >>= λ e. Some (unit_number e.0, e.1)) (λ rest. Some (star, rest))
 
@@ -143,7 +139,7 @@ before_last_parenthesis (c ∷ []) = when (c == 41) (Some [])
 before_last_parenthesis (c ∷ d ∷ t) = before_last_parenthesis (d ∷ t) >>= λ r. Some (c ∷ r)
 
 unfoldable pub assignment_of : Text → Option ShapeTree
-unfolding ◌>>=◌ name_at after whole_expression_at
+unfolding ◌>>=◌
 assignment_of t = do
   n ← name_at t
   rest ← after (61 ∷ []) n.1
@@ -152,7 +148,7 @@ assignment_of t = do
   Some (assignment n.0 v)
 
 unfoldable pub writing_of : Text → Option ShapeTree
-unfolding ◌>>=◌ after unit_at label_at list_of
+unfolding ◌>>=◌
 writing_of t = do
   rest ← after (codes "WRITE(") t
   u ← unit_at rest
@@ -163,21 +159,20 @@ writing_of t = do
   Some (writing u.0 l.0 es)
 
 unfoldable pub format_of : Text → Option ShapeTree
-unfolding ◌>>=◌ after when before_last_parenthesis balanced
+unfolding ◌>>=◌ when
 format_of t = do
   rest ← after (codes "FORMAT(") t
   text ← before_last_parenthesis rest
   when (balanced 0 false text) (Some (format text))
 
 unfoldable pub ending_of : Text → Option ShapeTree
-unfolding ◌>>=◌ after
+unfolding ◌>>=◌
 ending_of t = do
   rest ← after (codes "END") t
   at_end (ending, rest)
 
 -- the form that a bare text reads as
 unfoldable pub shape_of : Text → Option ShapeTree
-unfolding kind_of assignment_of writing_of format_of ending_of
 shape_of t = elim (kind_of t) [
   | kinds.Assignment ↦ assignment_of t
   | kinds.Write ↦ writing_of t
@@ -208,7 +203,7 @@ is_left_out t = list_any (λ word. starts_with nat_eq t word) left_out
 
 -- the form, or why there is none
 unfoldable pub read_shape : Text → Result ShapeTree Rule
-unfolding shape_of most_open is_left_out either
+unfolding either
 read_shape t =
     if nat_lt 64 (most_open 0 false t) then Err G3
     else either (shape_of t) (Err (if is_left_out t then G2 else G1)) (λ f. Ok f)

@@ -1,6 +1,6 @@
 -- What a format makes of a list of values (ANSI X3.9-1978, chapter 13): the format unrolled, cut where the list is used
 -- up, and each record as a set of positions and bytes.
-use Rattle.std.specs.Prelude.{◌≡◌, ℕ, zero, suc, ◌+◌, ◌-◌, ℤ, Bool, true, false, List, [], ◌∷◌, ◌++◌, map, length, max, replicate, nat_lt, ◌==◌, if◌then◌else◌, Result, Ok, Err, flat_map}
+use Rattle.std.specs.Prelude.{ℕ, zero, suc, ◌+◌, ◌-◌, Bool, true, false, List, [], ◌∷◌, ◌++◌, map, length, max, replicate, nat_lt, ◌==◌, if◌then◌else◌, Result, Ok, Err, flat_map}
 use Rattle.std.specs.Fmt.{signed_decimal}
 use Rattle.std.specs.List.{list_any, range_with_len}
 use Rattle.meaning.specs.declared.ending.FaultKind.{FaultKind}
@@ -105,7 +105,6 @@ text_of r = map (byte_at r) (range_with_len 0 (extent r))
 
 -- records as they are written, each with a line feed behind
 unfoldable pub written : List Record → List ℕ
-unfolding text_of
 written [] = []
 written (r ∷ rs) = text_of r ++ (10 ∷ written rs)
 
@@ -120,6 +119,5 @@ outcome_of true bytes = if nat_lt byte_limit (length bytes - 1) then Err F8 else
 outcome_of false bytes = if nat_lt byte_limit (length bytes) then Err F8 else Ok bytes
 
 unfoldable pub edited : List Descriptor → List Value → Result (List ℕ) FaultKind
-unfolding course laid written outcome_of
 edited ds vs =
     outcome_of (is_clash (course (sequence ds (length vs)) vs)) (written (laid 0 [] (course (sequence ds (length vs)) vs)))

@@ -1,9 +1,7 @@
 -- Broken rules and the least pair. In each phase the refusal is the pair with the least line, and of those the one
 -- with the least rule number; a phase with no broken pair passes what it read on to the next.
-use Rattle.std.specs.Prelude.{◌≡◌, ℕ, Bool, true, false, ◌&&◌, ◌||◌, List, [], ◌∷◌, ◌++◌, nat_lt, ◌==◌, if◌then◌else◌, Result, Ok, Err, Option, Some, None, MatchResult}
+use Rattle.std.specs.Prelude.{Bool, ◌&&◌, ◌||◌, List, [], ◌∷◌, nat_lt, ◌==◌, if◌then◌else◌, Result, Ok, Err, Option, Some, None}
 use Rattle.meaning.specs.declared.refusal.Broken.{Broken}
-use Rattle.meaning.specs.declared.refusal.Refusal.{Refusal}
-use Rattle.meaning.specs.declared.refusal.Refusal.TheVariants as refusals
 use Rattle.meaning.specs.Ranks.{rank_of}
 
 abbrev pub is_less : Broken → Broken → Bool

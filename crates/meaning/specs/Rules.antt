@@ -1,17 +1,15 @@
 -- The rules on labels, names, constants, units and formats (ANSI X3.9-1978, 2.5, 3.4, 4.1.2, 4.3, 12.3, 12.4 and 13.1).
-use Rattle.std.specs.Prelude.{◌≡◌, ℕ, ◌^◌, ℤ, pos, negsuc, Bool, true, false, ◌&&◌, ◌||◌, not, List, [], ◌∷◌, ◌++◌, nat_le, nat_lt, nat_eq, ◌==◌, if◌then◌else◌, Option, Some, None, is_some, Result, Ok, Err, flat_map, is_none}
-use Rattle.std.specs.List.{list_any, list_all}
+use Rattle.std.specs.Prelude.{ℕ, pos, negsuc, Bool, true, false, ◌&&◌, ◌||◌, not, List, [], ◌∷◌, ◌++◌, nat_le, nat_lt, ◌==◌, Option, Some, None, Result, Ok, Err, flat_map, is_none}
+use Rattle.std.specs.List.{list_any}
 use Rattle.meaning.specs.declared.refusal.Broken.{Broken}
 use Rattle.meaning.specs.declared.refusal.Rule.TheVariants.{K1, K3, K6, K11}
-use Rattle.meaning.specs.declared.ending.FaultKind.{FaultKind}
-use Rattle.meaning.specs.declared.ending.Value.{Value}
 use Rattle.meaning.specs.declared.ending.Value.TheVariants as values
 use Rattle.meaning.specs.Characters.{number_of}
 use Rattle.meaning.specs.Syntax.{ExprTree, number, name, signed, binary, UnitTree, star, unit_number, ShapeTree, assignment, writing, format, ending, MemberTree}
 use Rattle.meaning.specs.Refusals.{least, unless}
 use Rattle.meaning.specs.Statements.{broken_if}
 use Rattle.meaning.specs.Nesting.{Nested, flatten}
-use Rattle.meaning.specs.Formats.{Descriptor, descriptors_of}
+use Rattle.meaning.specs.Formats.{descriptors_of}
 use Rattle.meaning.specs.Maps.{start}
 use Rattle.meaning.specs.Values.{Valued, value}
 
@@ -119,5 +117,4 @@ broken_among all before (m ∷ ms) = broken_at all before m ++ broken_among all 
 
 -- the program unit, or the least broken pair
 unfoldable pub checked : Nested → Result Nested Broken
-unfolding broken_among
 checked t = unless (least (broken_among (flatten t) [] (flatten t))) t

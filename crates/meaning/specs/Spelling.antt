@@ -1,7 +1,6 @@
 -- The bare text of a form, and which forms are well formed (ANSI X3.9-1978, chapters 4 to 16 and appendix F).
 -- A text reads as a form exactly when the form is well formed and this is its spelling.
-use Rattle.std.specs.Prelude.{ℕ, Bool, true, false, ◌&&◌, ◌||◌, not, List, [], ◌∷◌, ◌++◌, nat_le, nat_lt, ◌==◌, codes, length, if◌then◌else◌, IsTrue, ◌≡◌, ◌+◌, ◌-◌}
-use Rattle.std.specs.List.{list_all}
+use Rattle.std.specs.Prelude.{ℕ, Bool, true, false, ◌&&◌, not, List, [], ◌∷◌, ◌++◌, nat_le, nat_lt, ◌==◌, codes, if◌then◌else◌, IsTrue, ◌≡◌, ◌+◌, ◌-◌}
 use Rattle.meaning.specs.declared.syntax.Sign.{Sign}
 use Rattle.meaning.specs.declared.syntax.Sign.TheVariants as signs
 use Rattle.meaning.specs.declared.syntax.Operator.{Operator}

@@ -1,6 +1,6 @@
 -- The statements of a source, and the rules on lines (ANSI X3.9-1978, 3.2 to 3.4). In this profile a statement has its
 -- initial line alone: each continuation line breaks C4.
-use Rattle.std.specs.Prelude.{◌≡◌, ℕ, ◌+◌, ◌%◌, Bool, true, false, ◌&&◌, ◌||◌, not, List, [], ◌∷◌, ◌++◌, length, nat_lt, nat_le, ◌==◌, if◌then◌else◌, Option, Some, None, Result, Ok, Err, count_by}
+use Rattle.std.specs.Prelude.{ℕ, ◌+◌, ◌%◌, Bool, true, false, ◌&&◌, ◌||◌, not, List, [], ◌∷◌, ◌++◌, length, nat_lt, nat_le, ◌==◌, if◌then◌else◌, Option, Some, None, Result, Err, count_by}
 use Rattle.std.specs.List.{list_all, list_any, filter}
 use Rattle.meaning.specs.declared.refusal.Broken.{Broken}
 use Rattle.meaning.specs.declared.refusal.Rule.{Rule}
@@ -8,7 +8,7 @@ use Rattle.meaning.specs.declared.refusal.Rule.TheVariants.{C1, C2, C4, C6, C7}
 use Rattle.meaning.specs.declared.statement.Statement.{Statement}
 use Rattle.meaning.specs.Characters.{blank, apostrophe, is_digit, number_of}
 use Rattle.meaning.specs.Refusals.{least, unless}
-use Rattle.meaning.specs.Lines.{lines_of, card, label_field, continuation_field, statement_field, Class, comment, initial, continuation, class_of}
+use Rattle.meaning.specs.Lines.{lines_of, card, label_field, statement_field, Class, comment, initial, continuation, class_of}
 
 -- a statement: its initial line, its label and its text
 pub record Entry : Type 0 where

@@ -1,6 +1,6 @@
 -- The value of an expression, or its leftmost fault (ANSI X3.9-1978, 6.1 and 6.6). Results are exact; one outside the
 -- range of INTEGER is the fault F2 (own).
-use Rattle.std.specs.Prelude.{◌≡◌, ℕ, ◌^◌, ℤ, pos, negsuc, ◌+ℤ◌, ◌-ℤ◌, ◌*ℤ◌, neg_ℤ, Bool, true, false, List, [], ◌∷◌, nat_lt, if◌then◌else◌, Result, Ok, Err}
+use Rattle.std.specs.Prelude.{◌^◌, ℤ, pos, negsuc, ◌+ℤ◌, ◌-ℤ◌, ◌*ℤ◌, neg_ℤ, Bool, true, false, List, [], ◌∷◌, nat_lt, if◌then◌else◌, Result, Ok, Err}
 use Rattle.meaning.specs.declared.ending.FaultKind.{FaultKind}
 use Rattle.meaning.specs.declared.ending.FaultKind.TheVariants.{F2}
 use Rattle.meaning.specs.declared.ending.Value.{Value}
@@ -45,7 +45,7 @@ combined operators.Subtract x y = x -ℤ y
 combined operators.Multiply x y = x *ℤ y
 
 unfoldable pub value : ExprTree → Map → Valued
-unfolding ◌>>=◌ integer
+unfolding ◌>>=◌
 value (number digits) m = integer (pos (number_of digits))
 value (name letters) m = integer (m letters [])
 value (signed sign e) m = value e m >>= λ x. integer (with_sign sign (as_integer x))
@@ -54,6 +54,6 @@ value (binary operator a b) m =
 
 -- the values of a list, first to last
 unfoldable pub values_of : List ExprTree → Map → Result (List Value) FaultKind
-unfolding ◌>>=◌ value
+unfolding ◌>>=◌
 values_of [] m = Ok []
 values_of (e ∷ es) m = value e m >>= λ x. values_of es m >>= λ xs. Ok (x ∷ xs)
