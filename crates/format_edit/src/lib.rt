@@ -1,13 +1,18 @@
-// A library with one function.
+//! Formats: reading their texts, and editing values under them (ANSI X3.9-1978, chapter 13).
 #![tactic(auto)]
 
-ghost use Rattle.std.specs.Prelude.{◌≡◌};
-ghost use Rattle.format_edit.specs.Echo.{echo_of};
+mod editing;
+mod fault;
+mod format;
+mod laws;
+mod reading;
+mod records;
+mod sheet;
 
-// The `ensures` clause is the contract: what `echo` returns is `echo_of` of its argument, a definition
-// in `specs/Echo.antt`, which a caller's clause can cite too.
-pub fn echo(x: usize) -> usize
-    ensures { result ≡ echo_of x }
-{
-    x
-}
+pub use editing::edit;
+pub use fault::{EditFault, FormatFault};
+pub use format::{Descriptor, Format};
+pub use laws::one_format;
+
+#[cfg(test)]
+mod tests;

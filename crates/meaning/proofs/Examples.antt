@@ -18,16 +18,16 @@ use Rattle.meaning.specs.Reading.{read_shape, shape_of, assignment_of, writing_o
 use Rattle.meaning.specs.Kinds.{kind_of, marks_at}
 use Rattle.meaning.specs.Spelling.{balanced}
 use Rattle.meaning.specs.Nesting.{nest, nest_after}
-use Rattle.meaning.specs.Rules.{checked, broken_among}
+use Rattle.meaning.specs.Rules.{checked, repeated_labels}
 use Rattle.meaning.specs.Formats.{descriptors_of, descriptors_at, descriptor_at, behind_count, field, skip}
-use Rattle.meaning.specs.Execution.{exec, fuelled, pass_over, format_at, with_ok, turn, more}
+use Rattle.meaning.specs.Execution.{exec, fuelled, pass_over, format_found, with_ok, turn, more}
 use Rattle.meaning.specs.Values.{value, values_of, integer}
 use Rattle.meaning.specs.Maps.{put, start, map_of}
 use Rattle.meaning.specs.Records.{edited, outcome_of, written, text_of, laid, course}
 
 -- every definition that stays folded elsewhere
 all_definitions : Unit {0}
-unfolding answer program_of members_of statements_of lines_of pieces without_return card broken_lines entries bare bare_behind read_shape shape_of kind_of marks_at assignment_of writing_of format_of ending_of balanced before_last_parenthesis label_at unit_at list_of expressions_at whole_expression_at expression_at operations_at front_at primary_at name_at operator_at sign_at run after most_open is_left_out nest nest_after checked broken_among descriptors_of descriptors_at descriptor_at behind_count run_of exec fuelled pass_over format_at with_ok turn more value values_of integer put start map_of edited outcome_of written text_of laid course digits
+unfolding answer program_of members_of statements_of lines_of pieces without_return card broken_lines entries bare bare_behind read_shape shape_of kind_of marks_at assignment_of writing_of format_of ending_of balanced before_last_parenthesis label_at unit_at list_of expressions_at whole_expression_at expression_at operations_at front_at primary_at name_at operator_at sign_at run after most_open is_left_out nest nest_after checked repeated_labels descriptors_of descriptors_at descriptor_at behind_count run_of exec fuelled pass_over format_found with_ok turn more value values_of integer put start map_of edited outcome_of written text_of laid course digits
 all_definitions = tt
 
 -- blanks have no meaning outside apostrophes, and letters are raised there

@@ -1,13 +1,11 @@
 -- The least pair of joined lists.
 use Rattle.std.proofs.Common.{◌≡◌, Bool, true, false, List, [], ◌∷◌, ◌++◌, Option, Some, None, refl, ap, ◌∙◌, arith}
 use Rattle.std.proofs.lemmas.Bool.Decides.{nat_tests}
+use Rattle.std.specs.List.{flat_map}
+use Rattle.std.proofs.lemmas.List.{append-nil}
+use Rattle.std.proofs.lemmas.Grind.{flat_map-append}
 use Rattle.meaning.specs.declared.refusal.Broken.{Broken}
-use Rattle.meaning.specs.Refusals.{is_less, lesser, lesser_of, least}
-
--- the lesser of two, where there are two
-abbrev pub merge : Option Broken → Option Broken → Option Broken
-merge None o = o
-merge (Some a) o = Some (lesser_of a o)
+use Rattle.meaning.specs.Refusals.{merge, is_less, lesser, lesser_of, least}
 
 less_trans : (a b c : Broken) → is_less a b ≡ true → is_less b c ≡ true → is_less a c ≡ true
 less_trans a b c p q = grind (arith, nat_tests)
@@ -34,3 +32,7 @@ lesser_of-merge a (Some b) (Some c) = lesser-lesser a b c
 pub least-append : (xs ys : List Broken) → least (xs ++ ys) ≡ merge (least xs) (least ys)
 least-append [] ys = refl
 least-append (x ∷ xs) ys = ap (λ o. Some (lesser_of x o)) (least-append xs ys) ∙ ap Some (lesser_of-merge x (least xs) (least ys))
+
+-- the least of what a test finds among members, one more at the end
+pub least-push : {A : Type 0} (f : A → List Broken) (xs : List A) (x : A) → least (flat_map f (xs ++ x ∷ [])) ≡ merge (least (flat_map f xs)) (least (f x))
+least-push f xs x = ap least (flat_map-append f xs (x ∷ []) ∙ ap (λ ys. flat_map f xs ++ ys) (append-nil (f x))) ∙ least-append (flat_map f xs) (f x)

@@ -1,5 +1,5 @@
 -- What the statements of a program do, one executed after another (ANSI X3.9-1978, chapters 10 to 12).
-use Rattle.std.specs.Prelude.{ℕ, zero, suc, ◌+◌, Bool, true, false, List, [], ◌∷◌, ◌++◌, Option, Some, None, Result, Ok, Err}
+use Rattle.std.specs.Prelude.{unwrap_or, ℕ, zero, suc, ◌+◌, Bool, true, false, List, [], ◌∷◌, ◌++◌, Option, Some, None, Result, Ok, Err}
 use Rattle.meaning.specs.declared.ending.FaultKind.{FaultKind}
 use Rattle.meaning.specs.declared.ending.FaultKind.TheVariants.{F4}
 use Rattle.meaning.specs.Characters.{number_of}
@@ -50,13 +50,16 @@ descriptors_if true (writing unit label es) = None
 descriptors_if true ending = None
 descriptors_if false s = None
 
-abbrev pub or_else : Option (List Descriptor) → List Descriptor → List Descriptor
-or_else None ds = ds
-or_else (Some ds) others = ds
+abbrev pub or_else : Option (List Descriptor) → Option (List Descriptor) → Option (List Descriptor)
+or_else None o = o
+or_else (Some ds) o = Some ds
 
-unfoldable pub format_at : List MemberTree → ℕ → List Descriptor
-format_at [] label = []
-format_at (m ∷ ms) label = or_else (descriptors_if (has_label label m) m.shape) (format_at ms label)
+unfoldable pub format_found : List MemberTree → ℕ → Option (List Descriptor)
+format_found [] label = None
+format_found (m ∷ ms) label = or_else (descriptors_if (has_label label m) m.shape) (format_found ms label)
+
+abbrev pub format_at : List MemberTree → ℕ → List Descriptor
+format_at members label = unwrap_or (format_found members label) []
 
 -- what statements do: all of a list, what is left of it, the map and the turns that are left
 abbrev pub Meaning : Type 0

@@ -8,10 +8,9 @@ use Rattle.meaning.specs.declared.syntax.Tree.{Tree}
 use Rattle.meaning.specs.Syntax.{ShapeTree, assignment, writing, format, ending, shape_tree, MemberTree}
 use Rattle.meaning.specs.Refusals.{◌>>=◌}
 
--- a program unit: its statements before END, and END
+-- a program unit: its statements, the last of which is END
 pub record Nested : Type 0 where
   pub body : List MemberTree
-  pub last : MemberTree
 
 abbrev pub is_end : ShapeTree → Bool
 is_end ending = true
@@ -21,11 +20,15 @@ is_end (format text) = false
 
 -- the statements of a program unit in order
 abbrev pub flatten : Nested → List MemberTree
-flatten t = t.body ++ t.last ∷ []
+flatten t = t.body
 
+-- END is the last statement, and there is one
 pub record IsProgram (t : Nested) : Type 0 where
-  pub open_body : AllByRecursion (λ m. IsFalse (is_end m.shape)) t.body
-  pub closed : IsTrue (is_end t.last.shape)
+  pub front : List MemberTree
+  pub last : MemberTree
+  pub parts : flatten t ≡ front ++ last ∷ []
+  pub open_front : AllByRecursion (λ m. IsFalse (is_end m.shape)) front
+  pub closed : IsTrue (is_end last.shape)
 
 -- the statements nest as the program unit
 pub record NestsAs (members : List MemberTree) (t : Nested) : Type 0 where
@@ -40,13 +43,13 @@ pub record IsViable (members : List MemberTree) : Type 0 where
 
 -- ---- reading
 
--- a statement in front of the body
+-- a statement in front
 abbrev pub with_member : MemberTree → Nested → Nested
-with_member m t = record { body = m ∷ t.body; last = t.last }
+with_member m t = record { body = m ∷ t.body }
 
 -- what stands from END on, where it is reached, after a statement at this line: nothing more may stand there
 abbrev pub closed_by : MemberTree → List MemberTree → Result Nested Broken
-closed_by m [] = Ok (record { body = []; last = m })
+closed_by m [] = Ok (record { body = m ∷ [] })
 closed_by m (x ∷ xs) = Err (record { line = x.line; rule = N2 })
 
 -- the program unit of the statements after one at this line, or N2: at the last statement's line where END is
@@ -67,4 +70,4 @@ abbrev pub member_tree : Member → MemberTree
 member_tree m = record { line = m.line; label = m.label; shape = shape_tree m.form.shape }
 
 abbrev pub nested : Tree → Nested
-nested t = record { body = map member_tree t.body.items; last = member_tree t.end }
+nested t = record { body = map member_tree t.body.items }

@@ -21,6 +21,11 @@ abbrev pub least : List Broken → Option Broken
 least [] = None
 least (b ∷ bs) = Some (lesser_of b (least bs))
 
+-- the lesser of two, where there are two
+abbrev pub merge : Option Broken → Option Broken → Option Broken
+merge None o = o
+merge (Some a) o = Some (lesser_of a o)
+
 -- what was read, unless a rule is broken
 abbrev pub unless : {A : Type 0} → Option Broken → A → Result A Broken
 unless None x = Ok x

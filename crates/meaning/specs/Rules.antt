@@ -67,9 +67,16 @@ abbrev pub is_repeated : List MemberTree → Option ℕ → Bool
 is_repeated before None = false
 is_repeated before (Some s) = list_any (has_label s) before
 
+unfoldable pub repeated_labels : List MemberTree → List MemberTree → List Broken
+repeated_labels before [] = []
+repeated_labels before (m ∷ ms) = broken_if (is_repeated before m.label) m.line K1 ++ repeated_labels (before ++ m ∷ []) ms
+
 -- K3: a variable is REAL
 abbrev pub has_real : ShapeTree → Bool
 has_real s = list_any is_real (names_of s)
+
+abbrev pub real_names : MemberTree → List Broken
+real_names m = broken_if (has_real m.shape) m.line K3
 
 -- K6: a constant is outside INTEGER
 abbrev pub is_too_great : List ℕ → Bool
@@ -77,6 +84,9 @@ is_too_great digits = nat_lt 2147483647 (number_of digits)
 
 abbrev pub has_too_great : ShapeTree → Bool
 has_too_great s = list_any is_too_great (flat_map numbers_in (exprs_of s))
+
+abbrev pub great_constants : MemberTree → List Broken
+great_constants m = broken_if (has_too_great m.shape) m.line K6
 
 -- K11: the unit is neither an asterisk nor a constant expression of value 6
 abbrev pub is_six : Valued → Bool
@@ -96,8 +106,11 @@ is_format (assignment target e) = false
 is_format (writing unit label es) = false
 is_format ending = false
 
+abbrev pub is_format_at : ℕ → MemberTree → Bool
+is_format_at label m = is_format m.shape && has_label label m
+
 abbrev pub has_format : List MemberTree → ℕ → Bool
-has_format all label = list_any (λ m. is_format m.shape && has_label label m) all
+has_format all label = list_any (is_format_at label) all
 
 -- K11
 abbrev pub is_misformed : List MemberTree → Option ℕ → ShapeTree → Bool
@@ -106,15 +119,15 @@ is_misformed all at (writing unit label es) = not (is_unit unit) || not (has_for
 is_misformed all at (format text) = is_none at || is_none (descriptors_of text)
 is_misformed all at ending = false
 
--- the pairs of a statement among all, with those before it
-abbrev pub broken_at : List MemberTree → List MemberTree → MemberTree → List Broken
-broken_at all before m =
-    broken_if (is_repeated before m.label) m.line K1 ++ (broken_if (has_real m.shape) m.line K3 ++ (broken_if (has_too_great m.shape) m.line K6 ++ broken_if (is_misformed all m.label m.shape) m.line K11))
+abbrev pub misformed : List MemberTree → MemberTree → List Broken
+misformed all m = broken_if (is_misformed all m.label m.shape) m.line K11
 
-unfoldable pub broken_among : List MemberTree → List MemberTree → List MemberTree → List Broken
-broken_among all before [] = []
-broken_among all before (m ∷ ms) = broken_at all before m ++ broken_among all (before ++ m ∷ []) ms
+-- ---- all of them
+
+abbrev pub broken_rules : List MemberTree → List Broken
+broken_rules all =
+    repeated_labels [] all ++ (flat_map real_names all ++ (flat_map great_constants all ++ flat_map (misformed all) all))
 
 -- the program unit, or the least broken pair
 unfoldable pub checked : Nested → Result Nested Broken
-checked t = unless (least (broken_among (flatten t) [] (flatten t))) t
+checked t = unless (least (broken_rules (flatten t))) t

@@ -2,6 +2,7 @@
 #![tactic(auto)]
 
 pub mod ending;
+pub mod number;
 pub mod refusal;
 pub mod statement;
 pub mod syntax;

@@ -83,11 +83,10 @@ pub struct Member {
     pub form: Form,
 }
 
-/// A program unit: its statements before END, and END.
+/// A program unit: its statements, the last of which is END.
 #[derive(Drop)]
 pub struct Tree {
     pub body: Vec<Member>,
-    pub end: Member,
 }
 
 /// Which statement a bare text can be.

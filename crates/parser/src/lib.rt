@@ -1,13 +1,10 @@
-// A library with one function.
+//! Statements' texts as forms: the bare text, its kind, and the form that it reads as.
 #![tactic(auto)]
 
-ghost use Rattle.std.specs.Prelude.{◌≡◌};
-ghost use Rattle.parser.specs.Echo.{echo_of};
+mod expression;
+mod lexer;
+mod read_error;
+mod scan;
+mod token;
 
-// The `ensures` clause is the contract: what `echo` returns is `echo_of` of its argument, a definition
-// in `specs/Echo.antt`, which a caller's clause can cite too.
-pub fn echo(x: usize) -> usize
-    ensures { result ≡ echo_of x }
-{
-    x
-}
+pub use lexer::{bare, kind};

@@ -1,0 +1,4 @@
+pub mod Parts
+pub mod Passes
+pub mod Held
+pub mod Labelled

@@ -1,0 +1,20 @@
+-- One more statement in a pass over all.
+use Rattle.std.proofs.Common.{◌≡◌, ℕ, ◌+◌, ◌<◌, List, [], ◌∷◌, ◌++◌, length, get_or, take, map, Option, refl, sym, ap, ◌∙◌, arith}
+use Rattle.std.specs.Prelude.{flat_map}
+use Rattle.std.proofs.lemmas.List.{take_more, map-append}
+use Rattle.meaning.specs.declared.refusal.Broken.{Broken}
+use Rattle.meaning.specs.declared.syntax.Member.{Member}
+use Rattle.meaning.specs.Syntax.{MemberTree}
+use Rattle.meaning.specs.Nesting.{member_tree}
+use Rattle.meaning.specs.Refusals.{merge, least}
+use Rattle.meaning.proofs.Least.{least-push}
+
+pub trees_more : (ms : List Member) (i : ℕ) (m : Member) → i < length ms → m ≡ get_or ms i m → map member_tree (take (i + 1) ms) ≡ map member_tree (take i ms) ++ member_tree m ∷ []
+trees_more ms i m lt is =
+    ap (map member_tree) (take_more ms i m lt ∙ ap (λ x. take i ms ++ x ∷ []) (sym is)) ∙ map-append member_tree (take i ms) (m ∷ [])
+
+pub least_more : (f : MemberTree → List Broken) (ms : List Member) (i : ℕ) (m : Member) (best b next : Option Broken) → i < length ms → m ≡ get_or ms i m → best ≡ least (flat_map f (map member_tree (take i ms))) → b ≡ least (f (member_tree m)) → next ≡ merge best b → next ≡ least (flat_map f (map member_tree (take (i + 1) ms)))
+least_more f ms i m best b next lt is so_far here added =
+    added ∙ ap (λ x. merge x b) so_far ∙ ap (λ x. merge (least (flat_map f (map member_tree (take i ms)))) x) here
+    ∙ sym (least-push f (map member_tree (take i ms)) (member_tree m))
+    ∙ ap (λ xs. least (flat_map f xs)) (sym (trees_more ms i m lt is))

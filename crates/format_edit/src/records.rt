@@ -1,0 +1,99 @@
+//! Putting bytes into records (ANSI X3.9-1978, 12.9.5 and 13.5).
+
+ghost use Rattle.std.specs.Prelude.{◌≡◌, ◌≤◌, ◌+◌, ◌++◌, ◌↔◌, IsTrue, length, vec_len, replicate, OnOk, Ok, []};
+ghost use Rattle.std.specs.Fmt.{signed_decimal};
+ghost use Rattle.meaning.specs.Records.{Course, stops, puts, moves, ends, justified};
+ghost use Rattle.format_edit.specs.Edits.{Follows, ahead};
+
+use crate::fault::EditFault;
+use crate::sheet::Sheet;
+use itoa::Buffer;
+use std::alloc::{AllocError, Global};
+
+/// The most bytes that a WRITE statement writes, each record's line feed included.
+const BYTE_LIMIT: usize = 1_048_576;
+
+/// Puts a byte so many times behind others. Where memory is refused they are no more than that longer.
+fn put_run(bytes: &mut Vec<u8>, byte: u8, count: usize) -> Result<(), AllocError>
+    requires { vec_len bytes.old + count ≤ 1048576 }
+    ensures items { OnOk result (bytes.new.items ≡ bytes.old.items ++ replicate count byte) }
+    ensures len { vec_len bytes.new ≤ vec_len bytes.old + count }
+{
+    let len = bytes.len() + count;
+    bytes.resize(len, byte)
+}
+
+/// The start of a WRITE statement.
+pub(crate) fn blank_sheet(alloc: Global) -> Sheet
+    ensures bytes { result.bytes.items ≡ [] }
+    ensures gap { result.gap ≡ 0 }
+{
+    Sheet {
+        bytes: Vec::new(alloc),
+        gap: 0,
+    }
+}
+
+/// Moves n positions to the right.
+pub(crate) fn skip(sheet: &mut Sheet, n: usize)
+    ensures { (c : Course) → ahead sheet.old (moves n c) ≡ ahead sheet.new c }
+{
+    sheet.gap = sheet.gap.saturating_add(n);
+}
+
+/// Whether so many bytes have room behind the blanks that are due.
+fn has_room(sheet: &Sheet, count: usize, len: usize) -> bool
+    ensures { IsTrue result ↔ (length sheet.now.bytes.items + sheet.now.gap + (count + len) ≤ 1048576) }
+{
+    let room = BYTE_LIMIT - sheet.bytes.len();
+    if room < sheet.gap {
+        return false;
+    }
+    let room = room - sheet.gap;
+    count <= room && len <= room - count
+}
+
+/// Puts a byte so many times and then a text, behind the blanks that are due. Nothing where both are empty.
+pub(crate) fn put(sheet: &mut Sheet, fill: u8, count: usize, text: &[u8]) -> Result<(), EditFault>
+    ensures { (c : Course) → Follows result (ahead sheet.old (puts (replicate count fill ++ text.now) c)) (λ _. ahead sheet.new c) }
+{
+    let len = text.len();
+    if count == 0 && len == 0 {
+        return Ok(());
+    }
+    if !has_room(sheet, count, len) {
+        return Err(EditFault::F8);
+    }
+    put_run(&mut sheet.bytes, b' ', sheet.gap)?;
+    put_run(&mut sheet.bytes, fill, count)?;
+    sheet.bytes.extend_from_slice(text)?;
+    sheet.gap = 0;
+    Ok(())
+}
+
+/// Puts an integer right justified, or asterisks where it doesn't fit.
+pub(crate) fn put_integer(sheet: &mut Sheet, width: usize, value: i32) -> Result<(), EditFault>
+    ensures { (c : Course) → Follows result (ahead sheet.old (puts (justified width (signed_decimal value)) c)) (λ _. ahead sheet.new c) }
+{
+    let mut buffer = Buffer::new();
+    let digits = buffer.format(value).as_bytes();
+    if width < digits.len() {
+        put(sheet, b'*', width, &[])
+    } else {
+        put(sheet, b' ', width - digits.len(), digits)
+    }
+}
+
+/// Ends the record: a line feed, and no blanks are due.
+pub(crate) fn end_record(sheet: &mut Sheet) -> Result<(), EditFault>
+    ensures leads { (c : Course) → Follows result (ahead sheet.old (ends c)) (λ _. ahead sheet.new c) }
+    // Where it is the last one.
+    ensures closes { Follows result (ahead sheet.old stops) (λ _. Ok sheet.new.bytes.items) }
+{
+    if sheet.bytes.len() == BYTE_LIMIT {
+        return Err(EditFault::F8);
+    }
+    sheet.bytes.push(b'\n')?;
+    sheet.gap = 0;
+    Ok(())
+}

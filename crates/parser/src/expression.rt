@@ -1,0 +1,1 @@
+//! Expressions, by precedence climbing.

@@ -1,0 +1,54 @@
+//! The bare text of a statement, and which statement it can be.
+
+ghost use Rattle.std.specs.Prelude.{◌≡◌, IfOk};
+ghost use Rattle.meaning.specs.BareText.{bare as bare_text};
+ghost use Rattle.meaning.specs.Kinds.{kind_of};
+
+use crate::scan::{begins, has_equals_sign};
+use meaning::statement::{Bare, Statement};
+use meaning::syntax::Kind;
+use std::alloc::{AllocError, Global};
+
+/// The bare text of a statement: blanks outside apostrophes are left out, and letters there are raised
+/// (ANSI X3.9-1978, 3.1.5 and 3.1.6).
+pub fn bare(alloc: Global, statement: &Statement) -> Result<Bare, AllocError>
+    ensures line { IfOk result (λ b. b.line ≡ statement.now.line) }
+    ensures text { IfOk result (λ b. b.text.items ≡ bare_text statement.now.text.items) }
+{
+    let mut text = Vec::new(alloc);
+    let mut inside = false;
+    for &c in &statement.text {
+        if inside || c != b' ' {
+            text.push(if inside { c } else { c.to_ascii_uppercase() })?;
+        }
+        inside ^= c == b'\'';
+    }
+    Ok(Bare { line: statement.line, text })
+}
+
+/// Which statement a bare text can be: an assignment where an equals sign stands outside parentheses and
+/// apostrophes, and else what its first keyword says.
+#[tactic(auto, unfolding(meaning::specs::Kinds::kind_of))]
+pub fn kind(bare: &Bare) -> Kind
+    ensures { result ≡ kind_of bare.now.text.items }
+{
+    kind_of_text(&bare.text)
+}
+
+/// Which statement a text can be.
+#[tactic(auto, unfolding(meaning::specs::Kinds::kind_of))]
+pub fn kind_of_text(text: &[u8]) -> Kind
+    ensures { result ≡ kind_of text.now }
+{
+    if has_equals_sign(text) {
+        Kind::Assignment
+    } else if begins(text, b"WRITE(") {
+        Kind::Write
+    } else if begins(text, b"FORMAT(") {
+        Kind::Format
+    } else if begins(text, b"END") {
+        Kind::End
+    } else {
+        Kind::Other
+    }
+}

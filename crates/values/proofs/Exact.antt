@@ -1,0 +1,31 @@
+-- An exact result is an INTEGER exactly where it fits 32 bits.
+use Rattle.std.proofs.Common.{◌≡◌, ℕ, ◌<◌, ◌≤◌, ◌^◌, Bool, true, false, cond, ltb, Option, Some, None, Ok, Err, ℤ, pos, negsuc, refl, sym, ap, ◌∙◌, arith}
+use Rattle.std.specs.Prelude.{SomeIff, FitsSigned}
+use Rattle.std.specs.Int.{w32}
+use Rattle.std.proofs.lemmas.Bool.{lt-ltb, ne_eqb, cases_lt, le-ltb}
+use Rattle.meaning.specs.declared.ending.FaultKind.TheVariants.{F2}
+use Rattle.meaning.specs.declared.ending.Value.TheVariants.{Int}
+use Rattle.meaning.specs.Values.{Valued, integer, is_integer}
+
+abbrev pub outcome : Option ℤ → Valued
+outcome None = Err F2
+outcome (Some x) = Ok (Int x)
+
+fits_is : (z : ℤ) → FitsSigned w32 z → is_integer z ≡ true
+fits_is (pos n) h = lt-ltb n (2 ^ 31) h.sfits
+fits_is (negsuc n) h = lt-ltb n (2 ^ 31) h.sfits
+
+fits_not : (z : ℤ) → (FitsSigned w32 z → ⊥) → is_integer z ≡ false
+fits_not (pos n) h = le-ltb n (2 ^ 31) (above n (λ lt. h (record { sfits = lt })))
+  where
+    above : (n : ℕ) → (n < 2 ^ 31 → ⊥) → 2 ^ 31 ≤ n
+    above n f = omega arith
+fits_not (negsuc n) h = le-ltb n (2 ^ 31) (above n (λ lt. h (record { sfits = lt })))
+  where
+    above : (n : ℕ) → (n < 2 ^ 31 → ⊥) → 2 ^ 31 ≤ n
+    above n f = omega arith
+
+pub outcome-exact : (o : Option ℤ) (z : ℤ) → SomeIff o (FitsSigned w32 z) z → outcome o ≡ integer z
+unfolding integer
+outcome-exact None z h = rw (fits_not z h) refl
+outcome-exact (Some x) z h = rw (h.1, fits_is z h.0) refl
