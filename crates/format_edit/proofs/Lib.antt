@@ -1,2 +1,4 @@
 pub mod Ahead
 pub mod Walk
+pub mod Laid
+pub mod Front

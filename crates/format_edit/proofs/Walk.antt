@@ -1,5 +1,5 @@
 -- Walking steps over values.
-use Rattle.std.proofs.Common.{◌≡◌, ℕ, zero, suc, ◌+◌, ◌-◌, ◌<◌, ◌≤◌, Bool, true, false, List, [], ◌∷◌, ◌++◌, length, map, drop, get_or, replicate, Result, Ok, Err, refl, sym, ap, ◌∙◌, append_assoc, arith, ℤ}
+use Rattle.std.proofs.Common.{◌≡◌, ℕ, zero, suc, ◌+◌, ◌-◌, ◌<◌, ◌≤◌, Bool, true, false, ◌||◌, List, [], ◌∷◌, ◌++◌, length, map, drop, get_or, replicate, Result, Ok, Err, refl, sym, ap, ◌∙◌, append_assoc, arith, ℤ}
 use Rattle.std.proofs.lemmas.List.{at_drop_more, at_drop_all}
 use Rattle.std.proofs.lemmas.List.Concat.{flat_map-cons}
 use Rattle.std.specs.Fmt.{signed_decimal}
@@ -13,7 +13,7 @@ use Rattle.format_edit.specs.declared.fault.EditFault.TheVariants as faults
 use Rattle.format_edit.specs.declared.format.Descriptor.{Descriptor as DescriptorOf}
 use Rattle.format_edit.specs.declared.format.Descriptor.TheVariants.{Field, Skip}
 use Rattle.format_edit.specs.Formatted.{descriptor_of}
-use Rattle.format_edit.specs.Edits.{Made, Fails, ahead_of}
+use Rattle.format_edit.specs.Edits.{Made, Fails, Follows, ahead_of}
 
 -- what was made before leads to this state, where these steps and these values are left
 abbrev pub SoFar : (List Step → Made) → List ℕ → ℕ → List Step → List Value → Type 0
@@ -24,6 +24,10 @@ pub fails_along : (e : EditFault) (whole rest : Made) → whole ≡ rest → Fai
 fails_along faults.F7 whole rest same h = same ∙ h
 fails_along faults.F8 whole rest same h = same ∙ h
 fails_along faults.Memory whole rest same h = tt
+
+pub follows_along : {X : Type 0} (r : Result X EditFault) (whole rest : Made) (after : X → Made) → whole ≡ rest → Follows r rest after → Follows r whole after
+follows_along (Ok x) whole rest after same h = same ∙ h
+follows_along (Err e) whole rest after same h = fails_along e whole rest same h
 
 module _ (before : List Step → Made) (bytes : List ℕ) (gap : ℕ) (more : List Step) where
   -- ---- fields
@@ -75,12 +79,17 @@ module _ (before : List Step → Made) (bytes : List ℕ) (gap : ℕ) (ds : List
 
 -- ---- going back
 
--- a format with a field goes back
-pub goes_back : (ds : List Descriptor) (n : ℕ) → list_any is_field ds ≡ true → sequence ds n ≡ pass ds ++ again n (pass ds)
-goes_back ds n e = rw e refl
+-- whether a field is among the descriptors
+any_field : (ds : List DescriptorOf) → list_any is_field (map descriptor_of ds) ≡ list_any (λ d. is_field (descriptor_of d)) ds
+any_field [] = refl
+any_field (d ∷ ds) = ap (λ b. is_field (descriptor_of d) || b) (any_field ds)
 
-pub stays : (ds : List Descriptor) (n : ℕ) → list_any is_field ds ≡ false → sequence ds n ≡ pass ds ++ []
-stays ds n e = rw e refl
+-- a format with a field goes back
+pub goes_back : (ds : List DescriptorOf) (n : ℕ) → list_any (λ d. is_field (descriptor_of d)) ds ≡ true → sequence (map descriptor_of ds) n ≡ pass (map descriptor_of ds) ++ again n (pass (map descriptor_of ds))
+goes_back ds n e = let k = any_field ds ∙ e in rw k refl
+
+pub stays : (ds : List DescriptorOf) (n : ℕ) → list_any (λ d. is_field (descriptor_of d)) ds ≡ false → sequence (map descriptor_of ds) n ≡ pass (map descriptor_of ds) ++ []
+stays ds n e = let k = any_field ds ∙ e in rw k refl
 
 -- where the list is used up
 pub again_stops : (n : ℕ) (steps : List Step) (left : List Value) → length left ≡ 0 → course (again n steps) left ≡ stops

@@ -73,7 +73,7 @@ fn is_field(descriptor: &Descriptor) -> bool
 
 /// Whether some descriptor takes values.
 fn has_field(descriptors: &[Descriptor]) -> bool
-    ensures { result ≡ list_any is_field (map descriptor_of descriptors.now) }
+    ensures { result ≡ list_any (λ d. is_field (descriptor_of d)) descriptors.now }
 {
     descriptors.iter().any(is_field)
 }

@@ -1,9 +1,10 @@
 //! Reading the text of a format (ANSI X3.9-1978, 13.1 and 13.2).
 
-ghost use Rattle.std.specs.Prelude.{◌≡◌, ◌<◌, suc, [], ◌∷◌, length, map, IfSome, option_map, option_copied};
+ghost use Rattle.std.specs.Prelude.{◌≡◌, ◌<◌, suc, [], ◌∷◌, length, map, IfSome, option_map, option_copied, unwrap_or, not};
+ghost use Rattle.std.specs.List.{position};
 ghost use Rattle.meaning.specs.Characters.{is_digit, number_of};
 ghost use Rattle.meaning.specs.Reading.{run, after};
-ghost use Rattle.meaning.specs.Formats.{count_in, behind_count, descriptor_at, descriptors_at, descriptors_of, is_short_pass};
+ghost use Rattle.meaning.specs.Formats.{count_in, items_of, behind_count, descriptor_at, descriptors_at, descriptors_of, is_short_pass};
 ghost use Rattle.format_edit.specs.Formatted.{descriptor_of, descriptors, counted, Gives, Formatted};
 
 use crate::fault::FormatFault;
@@ -14,18 +15,25 @@ use std::alloc::Global;
 /// The most items that one pass of a format has when repeats are written out.
 const MOST_ITEMS: u32 = 65_536;
 
+/// How many digits stand at the front of a text.
+fn digit_count(text: &[u8]) -> usize
+    ensures { result ≡ unwrap_or (position (λ c. not (is_digit c)) text.now) (length text.now) }
+{
+    text.iter()
+        .position(|c| !c.is_ascii_digit())
+        .unwrap_or(text.len())
+}
+
 /// Splits a text behind the digits at its front.
 fn split_digits(text: &[u8]) -> (&[u8], &[u8])
     ensures { (result.0.now, result.1.now) ≡ run is_digit text.now }
 {
-    let end = text
-        .iter()
-        .position(|c| !c.is_ascii_digit())
-        .unwrap_or(text.len());
-    text.split_at(end)
+    let count = digit_count(text);
+    text.split_at(count)
 }
 
 /// The number that digits spell, where it is 1 to 9999.
+#[tactic(auto, unfolding(crate::specs::Formatted::counted))]
 fn number_in(digits: &[u8]) -> Option<u16>
     ensures { result ≡ counted (number_of digits.now) }
 {
@@ -38,6 +46,7 @@ fn number_in(digits: &[u8]) -> Option<u16>
 }
 
 /// The count that digits before a letter spell: 1 where there are none.
+#[tactic(auto, unfolding(crate::specs::Formatted::counted))]
 fn count(digits: &[u8]) -> Option<u16>
     ensures { result ≡ counted (count_in digits.now) }
 {
@@ -48,6 +57,7 @@ fn count(digits: &[u8]) -> Option<u16>
 }
 
 /// The letter of a descriptor behind its count, and what belongs to it.
+#[tactic(auto, unfolding(crate::specs::Formatted::counted, meaning::specs::Formats::behind_count, meaning::specs::Reading::when))]
 fn behind_count(count: u16, text: &[u8]) -> Option<(Descriptor, &[u8])>
     ensures { option_map (λ x. (descriptor_of x.0, x.1.now)) result ≡ behind_count count text.now }
 {
@@ -68,6 +78,7 @@ fn behind_count(count: u16, text: &[u8]) -> Option<(Descriptor, &[u8])>
 }
 
 /// The edit descriptor at the front of a text.
+#[tactic(auto, unfolding(crate::specs::Formatted::counted, meaning::specs::Formats::descriptor_at, meaning::specs::Reading::when))]
 fn descriptor_at(text: &[u8]) -> Option<(Descriptor, &[u8])>
     ensures reads { option_map (λ x. (descriptor_of x.0, x.1.now)) result ≡ descriptor_at text.now }
     ensures shorter { IfSome result (λ x. length x.1.now < length text.now) }
@@ -104,7 +115,9 @@ fn descriptors_at(alloc: Global, text: &[u8]) -> Result<(Vec<Descriptor>, &[u8])
 }
 
 /// How many items of a pass a descriptor makes.
-fn items(descriptor: Descriptor) -> u32 {
+fn items(descriptor: Descriptor) -> u32
+    ensures { result ≡ items_of (descriptor_of descriptor) }
+{
     match descriptor {
         Descriptor::Field { repeat, .. } => u32::from(repeat),
         Descriptor::Skip(_) => 1,
