@@ -7,7 +7,7 @@ use Rattle.meaning.specs.declared.syntax.Member.{Member}
 use Rattle.meaning.specs.Syntax.{MemberTree}
 use Rattle.meaning.specs.Nesting.{member_tree}
 use Rattle.meaning.specs.Refusals.{merge, least}
-use Rattle.meaning.proofs.Least.{least-push}
+use Rattle.meaning.proofs.Least.{least-append, least-push}
 
 pub trees_more : (ms : List Member) (i : ℕ) (m : Member) → i < length ms → m ≡ get_or ms i m → map member_tree (take (i + 1) ms) ≡ map member_tree (take i ms) ++ member_tree m ∷ []
 trees_more ms i m lt is =
@@ -18,3 +18,7 @@ least_more f ms i m best b next lt is so_far here added =
     added ∙ ap (λ x. merge x b) so_far ∙ ap (λ x. merge (least (flat_map f (map member_tree (take i ms)))) x) here
     ∙ sym (least-push f (map member_tree (take i ms)) (member_tree m))
     ∙ ap (λ xs. least (flat_map f xs)) (sym (trees_more ms i m lt is))
+
+pub least_four : (a b c d : List Broken) → least (a ++ (b ++ (c ++ d))) ≡ merge (least a) (merge (least b) (merge (least c) (least d)))
+least_four a b c d =
+    least-append a (b ++ (c ++ d)) ∙ ap (merge (least a)) (least-append b (c ++ d) ∙ ap (merge (least b)) (least-append c d))

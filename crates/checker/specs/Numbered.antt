@@ -1,10 +1,16 @@
 -- What a checked program keeps beside its statements: the numbers of its variables.
-use Rattle.std.specs.Prelude.{◌≡◌, ℕ, Bool, false, Option, Some, None, List, map, IsTrue}
+use Rattle.std.specs.Prelude.{◌≡◌, ◌≤◌, ◌^◌, ◌==◌, if◌then◌else◌, option_map, ℕ, Bool, false, Option, Some, None, List, map, IsTrue}
 use Rattle.std.specs.Global.{Vec}
 use Rattle.std.specs.Str.{bytes_eq}
 use Rattle.std.specs.List.{list_any, AllByRecursion}
 use Rattle.meaning.specs.Syntax.{MemberTree}
-use Rattle.meaning.specs.Rules.{names_of}
+use Rattle.std.specs.Ordering.{nat_cmp}
+use Rattle.std.specs.BTreeMap.{BTreeMap, get}
+use Rattle.meaning.specs.Formats.{Descriptor}
+use Rattle.meaning.specs.Execution.{descriptors_if}
+use Rattle.meaning.specs.Rules.{names_of, has_format, has_label}
+use Rattle.format_edit.specs.declared.format.Format.{Format}
+use Rattle.format_edit.specs.Formatted.{descriptors}
 
 -- the name is among the keys of a set
 abbrev pub Holds : List (Vec ℕ) → List ℕ → Type 0
@@ -21,3 +27,20 @@ Numbers keys members = AllByRecursion (λ m. HoldsAll keys (names_of m.shape)) m
 abbrev pub is_known : (ℕ → Bool) → Option ℕ → Bool
 is_known known None = false
 is_known known (Some s) = known s
+
+-- a set of labels has exactly those of FORMAT statements, and none is 2^32 or more
+pub record KnowsFormats (labels : ℕ → Bool) (all : List MemberTree) : Type 0 where
+  pub exact : (s : ℕ) → labels s ≡ has_format all s
+  pub small : (s : ℕ) → 2 ^ 32 ≤ s → has_format all s ≡ false
+
+-- the descriptors of the format behind a label
+abbrev pub found_in : BTreeMap ℕ Format → ℕ → Option (List Descriptor)
+found_in formats s = option_map descriptors (get nat_cmp formats s)
+
+-- what a statement says of a label's format
+abbrev pub format_here : ℕ → MemberTree → Option (List Descriptor)
+format_here s m = descriptors_if (has_label s m) m.shape
+
+-- descriptors, if they stand under the label
+abbrev pub format_under : ℕ → ℕ → Option (List Descriptor) → Option (List Descriptor)
+format_under label s ds = if label == s then ds else None

@@ -65,10 +65,10 @@ over_at_end whole m old new s =
 
 pub over_at_fault : (whole rest : Ran) (does : Follow → Ran) (go : Follow) (f : Fault) (old mid new : Told) → SoFar whole rest old mid → rest ≡ does go → Faults does f mid new → IsOver whole (Some f) old new
 over_at_fault whole rest does go f old mid new s e x =
-    let is : whole ≡ more s.pieces s.used x.ran = s.is ∙ ap (λ r. more s.pieces s.used r) (e ∙ x.is go) in
+    let is : whole ≡ more s.pieces s.used x.faults.ran = s.is ∙ ap (λ r. more s.pieces s.used r) (e ∙ x.faults.is go) in
     record {
-      outcome = ap (λ (r : Ran). r.outcome) is ∙ outcome-more s.pieces s.used x.ran ∙ x.outcome;
-      bytes = subst (λ ps. Took old new (concat ps)) (sym (ap (λ (r : Ran). r.pieces) is ∙ pieces-more s.pieces s.used x.ran ∙ ap (λ ps. s.pieces ++ ps) x.nothing ∙ append-nil s.pieces))
+      outcome = ap (λ (r : Ran). r.outcome) is ∙ outcome-more s.pieces s.used x.faults.ran ∙ x.faults.outcome;
+      bytes = subst (λ ps. Took old new (concat ps)) (sym (ap (λ (r : Ran). r.pieces) is ∙ pieces-more s.pieces s.used x.faults.ran ∙ ap (λ ps. s.pieces ++ ps) x.faults.nothing ∙ append-nil s.pieces))
       (subst (λ bs. Took old new bs) (append-nil (concat s.pieces)) (Took-then old mid new (concat s.pieces) [] s.bytes x.bytes));
     }
 
@@ -93,3 +93,7 @@ broken_off whole rest does go old mid new s e x =
         ap concat pieces ∙ concat-append s.pieces (x.piece ∷ (x.rest go).pieces) ∙ ap (λ bs. concat s.pieces ++ (bs ++ tail)) b.parts ∙ ap (λ bs. concat s.pieces ++ bs) (append_assoc b.taken b.lost tail) ∙ sym (append_assoc (concat s.pieces) b.taken (b.lost ++ tail));
       after = Took-refused old mid new (concat s.pieces) b.taken s.bytes b.after;
     }
+
+pub halts_at : (whole rest : Ran) (does : Follow → Ran) (go : Follow) (m : Map) (t : ℕ) (h : Halt) (old mid new : Told) → SoFar whole rest old mid → rest ≡ does go → Steps does m t (Err h) mid new → Halts whole.pieces h old new
+halts_at whole rest does go m t halts.Memory old mid new s e x = cut_short whole rest old mid new s x
+halts_at whole rest does go m t halts.WriteRefused old mid new s e x = broken_off whole rest does go old mid new s e x

@@ -1,3 +1,6 @@
 pub mod Taken
 pub mod Numbering
 pub mod Composed
+pub mod Assigned
+pub mod Executed
+pub mod Looped

@@ -1,11 +1,13 @@
 -- The map that cells stand for, when one of them is written.
-use Rattle.std.proofs.Common.{◌≡◌, ℕ, ℤ, pos, ◌<◌, Bool, true, false, cond, ◌&&◌, List, [], ◌∷◌, length, get_or, set, map, Option, Some, None, refl, sym, ap, ◌∙◌, arith}
+use Rattle.std.proofs.Common.{◌+◌, ltb, not, ◌≡◌, ℕ, ℤ, pos, ◌<◌, Bool, true, false, cond, ◌&&◌, List, [], ◌∷◌, length, get_or, set, map, Option, Some, None, refl, sym, ap, ◌∙◌, arith}
 use mathlib.Core.Path.{fun_ext}
 use Rattle.std.specs.Prelude.{slice_set}
 use Rattle.std.specs.Str.{bytes_eq}
 use Rattle.std.specs.Ordering.{int_eq}
 use Rattle.std.specs.Cmp.Lexicographic.{pointwise}
-use Rattle.std.specs.List.{position}
+use Rattle.std.specs.List.{position, position_or_len, prefix_len}
+use Rattle.std.specs.Global.{Vec}
+use Rattle.std.proofs.lemmas.List.{length-map}
 use Rattle.std.proofs.lemmas.Bool.{cases_Bool, cases_eq, false≢true}
 use Rattle.std.proofs.lemmas.List.{get_or-set_same, get_or-set_other}
 use Rattle.std.proofs.lemmas.List.Quantifiers.{position-Some}
@@ -45,3 +47,31 @@ pub put_is : (names : List (List ℕ)) (cells : List ℤ) (n : List ℕ) (i : �
 unfolding put
 put_is names cells n i v e lt =
     fun_ext (λ x. fun_ext (λ xs. after_write names cells n x i v (place_of names x) (bytes_eq n x) xs e lt refl refl (one_cell names cells n x i v (place_of names x) (bytes_eq n x) xs e lt refl refl)))
+
+-- ---- names kept as the keys of a set
+
+prefix_len-map : {X Y : Type 0} (f : X → Y) (p : Y → Bool) (xs : List X) → prefix_len p (map f xs) ≡ prefix_len (λ x. p (f x)) xs
+prefix_len-map f p [] = refl
+prefix_len-map f p (x ∷ xs) = ap (λ n. cond (p (f x)) (1 + n) 0) (prefix_len-map f p xs)
+
+position-map : {X Y : Type 0} (f : X → Y) (p : Y → Bool) (xs : List X) → position p (map f xs) ≡ position (λ x. p (f x)) xs
+position-map f p xs =
+    ap (λ n. cond (ltb n (length (map f xs))) (Some n) None) (prefix_len-map f (λ y. not (p y)) xs)
+    ∙ ap (λ k. cond (ltb (position_or_len (λ x. p (f x)) xs) k) (Some (position_or_len (λ x. p (f x)) xs)) None) (length-map xs f)
+
+abbrev pub key_place : List (Vec ℕ) → List ℕ → Option ℕ
+key_place keys n = position (λ k. bytes_eq n k.items) keys
+
+pub place-keys : (keys : List (Vec ℕ)) (n : List ℕ) → place_of (map (λ k. k.items) keys) n ≡ key_place keys n
+place-keys keys n = position-map (λ (k : Vec ℕ). k.items) (λ x. bytes_eq n x) keys
+
+pub read_at : (keys : List (Vec ℕ)) (cells : List ℤ) (n : List ℕ) (i : ℕ) → key_place keys n ≡ Some i → map_of (map (λ k. k.items) keys) cells n [] ≡ get_or cells i (pos 0)
+unfolding map_of
+read_at keys cells n i e = ap (λ o. cell_at cells o []) (place-keys keys n ∙ e)
+
+pub read_nowhere : (keys : List (Vec ℕ)) (cells : List ℤ) (n : List ℕ) → key_place keys n ≡ None → map_of (map (λ k. k.items) keys) cells n [] ≡ pos 0
+unfolding map_of
+read_nowhere keys cells n e = ap (λ o. cell_at cells o []) (place-keys keys n ∙ e)
+
+pub put_at : (keys : List (Vec ℕ)) (cells : List ℤ) (n : List ℕ) (i : ℕ) (v : ℤ) → key_place keys n ≡ Some i → i < length cells → put (map_of (map (λ k. k.items) keys) cells) n [] v ≡ map_of (map (λ k. k.items) keys) (set cells i v)
+put_at keys cells n i v e lt = put_is (map (λ k. k.items) keys) cells n i v (place-keys keys n ∙ e) lt

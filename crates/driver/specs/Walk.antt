@@ -3,7 +3,8 @@ use Rattle.std.specs.Prelude.{◌≡◌, ℕ, List, [], ◌∷◌, Option, Some,
 use Rattle.std.specs.List.{concat}
 use Rattle.meaning.specs.declared.ending.Fault.{Fault}
 use Rattle.meaning.specs.Maps.{Map}
-use Rattle.meaning.specs.Execution.{Outcome, normal, fault, Ran, more}
+use Rattle.meaning.specs.Execution.{Outcome, normal, fault, Ran, more, pass_over, fuelled}
+use Rattle.meaning.specs.Syntax.{MemberTree}
 use Rattle.meaning.specs.Promise.{Told, Took, IsFront, IsBroken}
 use Rattle.driver.specs.declared.halt.Halt.{Halt}
 use Rattle.driver.specs.declared.halt.Halt.TheVariants as halts
@@ -39,12 +40,15 @@ pub record GoesOn (does : Follow → Ran) (m : Map) (t : ℕ) (old new : Told) :
   pub is : (go : Follow) → does go ≡ more pieces used (go m t)
   pub bytes : Took old new (concat pieces)
 
--- it faults, whatever follows, and writes nothing
-pub record Faults (does : Follow → Ran) (f : Fault) (old new : Told) : Type 0 where
+-- it faults, whatever follows, and has no pieces
+pub record FaultsAs (does : Follow → Ran) (f : Fault) : Type 0 where
   pub ran : Ran
   pub is : (go : Follow) → does go ≡ ran
   pub outcome : ran.outcome ≡ fault f.kind f.line
   pub nothing : ran.pieces ≡ []
+
+pub record Faults (does : Follow → Ran) (f : Fault) (old new : Told) : Type 0 where
+  pub faults : FaultsAs does f
   pub bytes : Took old new []
 
 -- a write was refused in its piece
@@ -67,3 +71,7 @@ pub record SoFar (whole rest : Ran) (old new : Told) : Type 0 where
   pub used : ℕ
   pub is : whole ≡ more pieces used rest
   pub bytes : Took old new (concat pieces)
+
+-- what the statements of a list do from a map with turns left, all of a program being given and its turn limit
+abbrev pub all_from : List MemberTree → ℕ → List MemberTree → Map → ℕ → Ran
+all_from program limit rest m t = pass_over program (fuelled program limit) program rest m t

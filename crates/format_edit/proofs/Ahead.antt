@@ -1,12 +1,12 @@
 -- What is made from a point on.
-use Rattle.std.proofs.Common.{◌≡◌, ℕ, zero, suc, ◌+◌, ◌-◌, ◌<◌, ◌≤◌, Bool, true, false, List, [], ◌∷◌, ◌++◌, length, replicate, Result, Ok, Err, refl, sym, ap, ◌∙◌, append_assoc, arith, min, ◌^◌, inl, inr}
+use Rattle.std.proofs.Common.{◌≡◌, ℕ, ◌+◌, ◌-◌, ◌<◌, ◌≤◌, Bool, true, false, List, [], ◌∷◌, ◌++◌, length, replicate, Ok, Err, refl, sym, ap, ◌∙◌, append_assoc, arith, min, ◌^◌, inl, inr}
 use Rattle.std.specs.Prelude.{nat_lt}
 use Rattle.std.proofs.lemmas.Bool.{lt-ltb, le-ltb, cases_lt}
 use Rattle.std.proofs.lemmas.List.{length-append, length-replicate}
 use Rattle.meaning.specs.declared.ending.FaultKind.TheVariants.{F7, F8}
 use Rattle.meaning.specs.Characters.{blank}
 use Rattle.meaning.specs.Records.{Course, stops, clashes, puts, moves, ends, is_clash, outcome_of, byte_limit}
-use Rattle.format_edit.specs.Edits.{Made, bytes_of, ahead_of}
+use Rattle.format_edit.specs.Ahead.{bytes_of, ahead_of}
 
 -- too many bytes, also without a last line feed
 pub too_many : (b : Bool) (bytes : List ℕ) → 1048577 < length bytes → outcome_of b bytes ≡ Err F8
@@ -61,7 +61,7 @@ moves_on bytes gap n after c e =
       | inr le ↦ far bytes (gap + n) after c (omega arith) (omega arith)
     ]
 
-pub ends_too_many : (bytes : List ℕ) (gap : ℕ) (c : Course) → length bytes ≡ 1048576 → ahead_of bytes gap (ends c) ≡ Err F8
+pub ends_too_many : (bytes : List ℕ) (gap : ℕ) (c : Course) → 1048576 ≤ length bytes → ahead_of bytes gap (ends c) ≡ Err F8
 unfolding ahead_of bytes_of
 ends_too_many bytes gap c h = too_many (is_clash c) (bytes ++ (10 ∷ bytes_of 0 c)) (simp length-append (omega (arith, bytes_some 0 c)))
 
@@ -70,7 +70,7 @@ unfolding ahead_of bytes_of
 ends_one bytes gap c = ap (outcome_of (is_clash c)) (simp append_assoc)
 
 -- the last line feed
-pub stops_too_many : (bytes : List ℕ) (gap : ℕ) → length bytes ≡ 1048576 → ahead_of bytes gap stops ≡ Err F8
+pub stops_too_many : (bytes : List ℕ) (gap : ℕ) → 1048576 ≤ length bytes → ahead_of bytes gap stops ≡ Err F8
 unfolding ahead_of bytes_of outcome_of
 stops_too_many bytes gap h = let e : nat_lt byte_limit (length (bytes ++ 10 ∷ [])) ≡ true = lt-ltb _ _ (simp length-append (omega arith)) in rw e refl
 

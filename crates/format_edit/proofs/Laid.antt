@@ -1,5 +1,5 @@
 -- Records as sets of positions and bytes, and the bytes that they are written as.
-use Rattle.std.proofs.Common.{◌≡◌, ℕ, zero, suc, ◌+◌, ◌-◌, ◌<◌, ◌≤◌, max, Bool, true, false, List, [], ◌∷◌, ◌++◌, length, map, get_or, replicate, refl, sym, ap, ◌∙◌, append_assoc, arith, cond, eqb, add-zero, zero-add}
+use Rattle.std.proofs.Common.{◌≡◌, ℕ, zero, suc, ◌+◌, ◌-◌, ◌<◌, ◌≤◌, max, true, false, List, [], ◌∷◌, ◌++◌, length, map, replicate, refl, sym, ap, ◌∙◌, append_assoc, arith, cond, eqb, add-zero, zero-add}
 use Rattle.std.specs.List.{range_with_len}
 use Rattle.std.proofs.lemmas.Bool.{ne_eqb, eq-eqb}
 use Rattle.std.proofs.lemmas.List.{append-nil, map-append}
@@ -7,7 +7,7 @@ use Rattle.meaning.specs.Characters.{blank}
 use Rattle.meaning.specs.declared.ending.Value.{Value}
 use Rattle.meaning.specs.Formats.{Descriptor}
 use Rattle.meaning.specs.Records.{Course, stops, clashes, puts, moves, ends, Record, placed, laid, byte_at, extent, text_of, written, is_clash, outcome_of, course, sequence, edited}
-use Rattle.format_edit.specs.Edits.{Made, bytes_of, ahead_of}
+use Rattle.format_edit.specs.Ahead.{bytes_of, ahead_of}
 
 -- ---- bytes at positions
 

@@ -1,19 +1,19 @@
 -- Walking steps over values.
-use Rattle.std.proofs.Common.{◌≡◌, ℕ, zero, suc, ◌+◌, ◌-◌, ◌<◌, ◌≤◌, Bool, true, false, ◌||◌, List, [], ◌∷◌, ◌++◌, length, map, drop, get_or, replicate, Result, Ok, Err, refl, sym, ap, ◌∙◌, append_assoc, arith, ℤ}
+use Rattle.std.proofs.Common.{◌≡◌, ℕ, zero, suc, ◌+◌, ◌<◌, ◌≤◌, Bool, true, false, ◌||◌, List, [], ◌∷◌, ◌++◌, length, map, drop, get_or, replicate, Result, Ok, Err, refl, ap, ◌∙◌, append_assoc, arith, ℤ}
 use Rattle.std.proofs.lemmas.List.{at_drop_more, at_drop_all}
 use Rattle.std.proofs.lemmas.List.Concat.{flat_map-cons}
 use Rattle.std.specs.Fmt.{signed_decimal}
 use Rattle.std.specs.List.{list_any}
 use Rattle.meaning.specs.declared.ending.Value.{Value}
 use Rattle.meaning.specs.declared.ending.Value.TheVariants as values
-use Rattle.meaning.specs.Formats.{Descriptor}
-use Rattle.meaning.specs.Records.{Step, integer_field, move, revert, Course, stops, clashes, puts, moves, ends, course, justified, steps_of, pass, is_field, again, sequence}
+use Rattle.meaning.specs.Records.{Step, integer_field, stops, clashes, puts, moves, ends, course, justified, steps_of, pass, is_field, again, sequence}
 use Rattle.format_edit.specs.declared.fault.EditFault.{EditFault}
 use Rattle.format_edit.specs.declared.fault.EditFault.TheVariants as faults
 use Rattle.format_edit.specs.declared.format.Descriptor.{Descriptor as DescriptorOf}
 use Rattle.format_edit.specs.declared.format.Descriptor.TheVariants.{Field, Skip}
 use Rattle.format_edit.specs.Formatted.{descriptor_of}
-use Rattle.format_edit.specs.Edits.{Made, Fails, Follows, ahead_of}
+use Rattle.format_edit.specs.Edits.{Made, Fails, Follows}
+use Rattle.format_edit.specs.Ahead.{ahead_of}
 
 -- what was made before leads to this state, where these steps and these values are left
 abbrev pub SoFar : (List Step → Made) → List ℕ → ℕ → List Step → List Value → Type 0

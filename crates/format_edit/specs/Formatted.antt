@@ -7,6 +7,7 @@ use Rattle.format_edit.specs.declared.format.Format.{Format}
 use Rattle.format_edit.specs.declared.fault.FormatFault.{FormatFault}
 use Rattle.format_edit.specs.declared.fault.FormatFault.TheVariants as faults
 
+-- what a descriptor and a format stand for
 abbrev pub descriptor_of : DescriptorOf → Descriptor
 descriptor_of (Field repeat width) = field repeat width
 descriptor_of (Skip n) = skip n
@@ -28,5 +29,6 @@ abbrev pub Gives : {X A : Type 0} → (X → A) → Result X FormatFault → Opt
 Gives view (Ok x) read = read ≡ Some (view x)
 Gives view (Err e) read = Breaks e read
 
+-- the format is the one that was read
 abbrev pub Formatted : Result Format FormatFault → Option (List Descriptor) → Type 0
 Formatted result read = Gives descriptors result read

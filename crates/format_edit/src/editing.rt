@@ -4,7 +4,8 @@ ghost use Rattle.std.specs.Prelude.{◌≡◌, ◌++◌, List, [], length, map, 
 ghost use Rattle.std.specs.List.{list_any};
 ghost use Rattle.meaning.specs.Records.{Step, integer_field, steps_of, pass, is_field, again, sequence, course, stops, edited};
 ghost use Rattle.format_edit.specs.Formatted.{descriptor_of, descriptors};
-ghost use Rattle.format_edit.specs.Edits.{Follows, Edits, ahead, onward};
+ghost use Rattle.format_edit.specs.Edits.{Follows, Edits};
+ghost use Rattle.format_edit.specs.Ahead.{ahead, onward};
 
 use crate::fault::EditFault;
 use crate::format::{Descriptor, Format};
@@ -82,10 +83,9 @@ fn has_field(descriptors: &[Descriptor]) -> bool
 fn close(sheet: &Sheet, left: &[Value]) -> Result<(), EditFault>
     ensures { Follows result (ahead sheet.now (course [] left.now)) (λ _. ahead sheet.now stops) }
 {
-    if left.len() == 0 {
-        Ok(())
-    } else {
-        Err(EditFault::F7)
+    match left.first() {
+        None => Ok(()),
+        Some(_) => Err(EditFault::F7),
     }
 }
 
@@ -102,7 +102,7 @@ fn go_back(
 {
     let mut left = values;
     for _ in 0..times {
-        if left.len() == 0 {
+        if left.is_empty() {
             return Ok(());
         }
         end_record(sheet)?;

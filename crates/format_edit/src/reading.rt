@@ -1,7 +1,7 @@
 //! Reading the text of a format (ANSI X3.9-1978, 13.1 and 13.2).
 
-ghost use Rattle.std.specs.Prelude.{◌≡◌, ◌<◌, suc, [], ◌∷◌, length, map, IfSome, option_map, option_copied, unwrap_or, not};
-ghost use Rattle.std.specs.List.{position};
+ghost use Rattle.std.specs.Prelude.{◌≡◌, suc, [], ◌∷◌, length, map, option_map, option_copied};
+ghost use Rattle.std.specs.List.{prefix_len};
 ghost use Rattle.meaning.specs.Characters.{is_digit, number_of};
 ghost use Rattle.meaning.specs.Reading.{run, after};
 ghost use Rattle.meaning.specs.Formats.{count_in, items_of, behind_count, descriptor_at, descriptors_at, descriptors_of, is_short_pass};
@@ -17,11 +17,9 @@ const MOST_ITEMS: u32 = 65_536;
 
 /// How many digits stand at the front of a text.
 fn digit_count(text: &[u8]) -> usize
-    ensures { result ≡ unwrap_or (position (λ c. not (is_digit c)) text.now) (length text.now) }
+    ensures { result ≡ prefix_len is_digit text.now }
 {
-    text.iter()
-        .position(|c| !c.is_ascii_digit())
-        .unwrap_or(text.len())
+    text.iter().take_while(|c| c.is_ascii_digit()).count()
 }
 
 /// Splits a text behind the digits at its front.
@@ -80,8 +78,7 @@ fn behind_count(count: u16, text: &[u8]) -> Option<(Descriptor, &[u8])>
 /// The edit descriptor at the front of a text.
 #[tactic(auto, unfolding(crate::specs::Formatted::counted, meaning::specs::Formats::descriptor_at, meaning::specs::Reading::when))]
 fn descriptor_at(text: &[u8]) -> Option<(Descriptor, &[u8])>
-    ensures reads { option_map (λ x. (descriptor_of x.0, x.1.now)) result ≡ descriptor_at text.now }
-    ensures shorter { IfSome result (λ x. length x.1.now < length text.now) }
+    ensures { option_map (λ x. (descriptor_of x.0, x.1.now)) result ≡ descriptor_at text.now }
 {
     let (digits, rest) = split_digits(text);
     let count = count(digits)?;
@@ -89,10 +86,12 @@ fn descriptor_at(text: &[u8]) -> Option<(Descriptor, &[u8])>
 }
 
 /// What stands behind a comma.
+#[tactic(auto, unfolding(meaning::specs::Reading::after, meaning::specs::Reading::when))]
 fn after_comma(text: &[u8]) -> Option<&[u8]>
     ensures { option_copied result ≡ after (44 ∷ []) text.now }
 {
-    text.strip_prefix(b",")
+    let (first, rest) = text.split_first()?;
+    if *first == b',' { Some(rest) } else { None }
 }
 
 /// Edit descriptors with commas between, one at least.

@@ -3,7 +3,8 @@
 ghost use Rattle.std.specs.Prelude.{◌≡◌, ◌≤◌, ◌+◌, ◌++◌, ◌↔◌, IsTrue, length, vec_len, replicate, OnOk, Ok, []};
 ghost use Rattle.std.specs.Fmt.{signed_decimal};
 ghost use Rattle.meaning.specs.Records.{Course, stops, puts, moves, ends, justified};
-ghost use Rattle.format_edit.specs.Edits.{Follows, ahead};
+ghost use Rattle.format_edit.specs.Edits.{Follows};
+ghost use Rattle.format_edit.specs.Ahead.{ahead};
 
 use crate::fault::EditFault;
 use crate::sheet::Sheet;
@@ -90,10 +91,10 @@ pub(crate) fn end_record(sheet: &mut Sheet) -> Result<(), EditFault>
     // Where it is the last one.
     ensures closes { Follows result (ahead sheet.old stops) (λ _. Ok sheet.new.bytes.items) }
 {
-    if sheet.bytes.len() == BYTE_LIMIT {
+    sheet.gap = 0;
+    if !has_room(sheet, 0, 1) {
         return Err(EditFault::F8);
     }
     sheet.bytes.push(b'\n')?;
-    sheet.gap = 0;
     Ok(())
 }

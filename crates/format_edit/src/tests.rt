@@ -1,13 +1,41 @@
-use super::*;
-use meaning::ending::Value;
-use std::test::*;
+//! What a text reads as, and the records that formats make.
 
-#[test]
-fn first(rt: HostRuntime) -> Result<(), Fail> {
-    let format = Format::read(rt.alloc(), b"1X,I5").ok().ok_or("a format")?;
-    let bytes = edit(rt.alloc(), &format, &[Value::Int(42)])
-        .ok()
-        .ok_or("no fault")?;
-    assert_eq!(rt; bytes.as_slice(), b"    42\n".as_slice());
-    Ok(())
+mod formats;
+mod limits;
+mod records;
+
+use crate::{EditFault, Format, edit};
+use meaning::ending::Value;
+use std::alloc::{AllocError, Global};
+use std::test::Fail;
+
+/// Values that are INTEGER.
+fn integers(alloc: Global, numbers: &[i32]) -> Result<Vec<Value>, AllocError> {
+    let mut values = Vec::new(alloc);
+    for number in numbers {
+        values.push(Value::Int(*number))?;
+    }
+    Ok(values)
+}
+
+/// So many zeros, and then .TRUE. where it is asked for.
+fn zeros(alloc: Global, count: usize, and_true: bool) -> Result<Vec<Value>, AllocError> {
+    let mut values = Vec::new(alloc);
+    for _ in 0..count {
+        values.push(Value::Int(0))?;
+    }
+    if and_true {
+        values.push(Value::Bool(true))?;
+    }
+    Ok(values)
+}
+
+/// What editing values under the text of a format answers.
+fn outcome(
+    alloc: Global,
+    text: &[u8],
+    values: &[Value],
+) -> Result<Result<Vec<u8>, EditFault>, Fail> {
+    let format = Format::read(alloc, text)?;
+    Ok(edit(alloc, &format, values))
 }

@@ -1,6 +1,6 @@
 -- How the statements of a program unit nest (ANSI X3.9-1978, 3.5 and 11): so far END alone is nested, and is the last.
-use Rattle.std.specs.Prelude.{◌≡◌, ℕ, Bool, true, false, List, [], ◌∷◌, ◌++◌, map, Result, Ok, Err, IsTrue, IsFalse}
-use Rattle.std.specs.List.{AllByRecursion}
+use Rattle.std.specs.Prelude.{◌≡◌, ℕ, Bool, true, false, List, [], ◌∷◌, ◌++◌, map, Result, Ok, Err, IsTrue, IsFalse, ◌⊎◌}
+use Rattle.std.specs.List.{AllByRecursion, fold}
 use Rattle.meaning.specs.declared.refusal.Broken.{Broken}
 use Rattle.meaning.specs.declared.refusal.Rule.TheVariants.{N2}
 use Rattle.meaning.specs.declared.syntax.Member.{Member}
@@ -40,6 +40,28 @@ pub record IsViable (members : List MemberTree) : Type 0 where
   pub more : List MemberTree
   pub whole : Nested
   pub nests : NestsAs (members ++ more) whole
+
+-- ---- refusals
+
+-- no statement is END; told at the last statement, or at line 1 where there is none
+pub record LacksEnd (members : List MemberTree) (line : ℕ) : Type 0 where
+  pub open_all : AllByRecursion (λ m. IsFalse (is_end m.shape)) members
+  pub at : line ≡ fold (λ above m. m.line) 1 members
+
+-- told at a statement up to which no program unit begins so, while one begins with those before it
+pub record GoesTooFar (members : List MemberTree) (line : ℕ) : Type 0 where
+  pub front : List MemberTree
+  pub member : MemberTree
+  pub back : List MemberTree
+  pub parts : members ≡ front ++ member ∷ back
+  pub at : line ≡ member.line
+  pub viable : IsViable front
+  pub over : ¬ IsViable (front ++ member ∷ [])
+
+-- where statements that don't nest are refused
+pub record IsRefusedAt (members : List MemberTree) (b : Broken) : Type 0 where
+  pub rule_is : b.rule ≡ N2
+  pub place : LacksEnd members b.line ⊎ GoesTooFar members b.line
 
 -- ---- reading
 

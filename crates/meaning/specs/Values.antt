@@ -30,10 +30,14 @@ as_integer (values.Int z) = z
 as_integer (values.Bool true) = pos 1
 as_integer (values.Bool false) = pos 0
 
+-- what follows a value, or the fault
+unfoldable pub and_then : {A B : Type 0} → Result A FaultKind → (A → Result B FaultKind) → Result B FaultKind
+and_then (Ok x) f = f x
+and_then (Err k) f = Err k
+
 infixl 10 ◌>>=◌
-unfoldable pub ◌>>=◌ : {A B : Type 0} → Result A FaultKind → (A → Result B FaultKind) → Result B FaultKind
-(Ok x) >>= f = f x
-(Err k) >>= f = Err k
+abbrev pub ◌>>=◌ : {A B : Type 0} → Result A FaultKind → (A → Result B FaultKind) → Result B FaultKind
+r >>= f = and_then r f
 
 abbrev pub with_sign : Sign → ℤ → ℤ
 with_sign signs.Plus z = z
@@ -45,7 +49,7 @@ combined operators.Subtract x y = x -ℤ y
 combined operators.Multiply x y = x *ℤ y
 
 unfoldable pub value : ExprTree → Map → Valued
-unfolding ◌>>=◌
+unfolding and_then
 value (number digits) m = integer (pos (number_of digits))
 value (name letters) m = integer (m letters [])
 value (signed sign e) m = value e m >>= λ x. integer (with_sign sign (as_integer x))
@@ -54,6 +58,6 @@ value (binary operator a b) m =
 
 -- the values of a list, first to last
 unfoldable pub values_of : List ExprTree → Map → Result (List Value) FaultKind
-unfolding ◌>>=◌
+unfolding and_then
 values_of [] m = Ok []
 values_of (e ∷ es) m = value e m >>= λ x. values_of es m >>= λ xs. Ok (x ∷ xs)

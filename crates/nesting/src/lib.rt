@@ -1,13 +1,11 @@
-// A library with one function.
+//! How the statements of a program unit nest (ANSI X3.9-1978, 3.5 and 11).
 #![tactic(auto)]
 
-ghost use Rattle.std.specs.Prelude.{◌≡◌};
-ghost use Rattle.nesting.specs.Echo.{echo_of};
+mod laws;
+mod nesting;
 
-// The `ensures` clause is the contract: what `echo` returns is `echo_of` of its argument, a definition
-// in `specs/Echo.antt`, which a caller's clause can cite too.
-pub fn echo(x: usize) -> usize
-    ensures { result ≡ echo_of x }
-{
-    x
-}
+pub use laws::{nests_exactly, one_nesting, refuses_exactly};
+pub use nesting::tree;
+
+#[cfg(test)]
+mod tests;

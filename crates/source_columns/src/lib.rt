@@ -1,13 +1,12 @@
-// A library with one function.
+//! The statements of a source by its lines and columns (ANSI X3.9-1978, 3.1 to 3.4).
 #![tactic(auto)]
 
-ghost use Rattle.std.specs.Prelude.{◌≡◌};
-ghost use Rattle.source_columns.specs.Echo.{echo_of};
+mod cards;
+mod labels;
+mod lines;
+mod reading;
 
-// The `ensures` clause is the contract: what `echo` returns is `echo_of` of its argument, a definition
-// in `specs/Echo.antt`, which a caller's clause can cite too.
-pub fn echo(x: usize) -> usize
-    ensures { result ≡ echo_of x }
-{
-    x
-}
+pub use reading::statements;
+
+#[cfg(test)]
+mod tests;

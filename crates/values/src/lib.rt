@@ -1,16 +1,18 @@
 //! The values of expressions (ANSI X3.9-1978, 6.1 and 6.6).
 #![tactic(auto)]
 
-ghost use Rattle.std.specs.Prelude.{◌≡◌, ◌+ℤ◌, ◌-ℤ◌, ◌*ℤ◌, neg_ℤ, ℤ, pos, [], FitsSigned, SomeIff, IfErr, OnOk};
-ghost use Rattle.meaning.specs.Syntax.{expr_tree};
-ghost use Rattle.meaning.specs.Values.{value as value_of, integer, as_integer as integer_in, with_sign, combined};
+ghost use Rattle.std.specs.Prelude.{◌≡◌, ◌+ℤ◌, ◌-ℤ◌, ◌*ℤ◌, neg_ℤ, ℤ, pos, [], FitsSigned, SomeIff, IfOk};
+ghost use Rattle.meaning.specs.Syntax.{expr_tree, exprs_trees};
+ghost use Rattle.meaning.specs.Values.{value as value_of, values_of, integer, as_integer as integer_in, with_sign, combined};
 ghost use Rattle.meaning.specs.Maps.{Map, start};
 ghost use Rattle.meaning.specs.Characters.{number_of};
 ghost use Rattle.std.specs.Int.{w32};
+ghost use Rattle.values.specs.Listed.{Listed};
 
 use meaning::ending::{FaultKind, Value};
 use meaning::number::number;
-use meaning::syntax::{Expr, Operator, Sign};
+use meaning::syntax::{Expr, Exprs, Operator, Sign};
+use std::alloc::{AllocError, Global};
 
 /// What gives each variable its value.
 pub trait Variables {
@@ -102,4 +104,24 @@ fn integer_of(exact: Option<i32>) -> Result<Value, FaultKind>
         Some(x) => Ok(Value::Int(x)),
         None => Err(FaultKind::F2),
     }
+}
+
+/// The values of a list, first to last, or the leftmost fault. The `AllocError` comes where a growth was refused.
+pub fn values<V: Variables>(
+    alloc: Global,
+    list: &Exprs,
+    variables: &V,
+) -> Result<Result<Vec<Value>, FaultKind>, AllocError>
+    ensures { IfOk result (λ r. Listed r (values_of (exprs_trees list.now) (V.map variables.now))) }
+{
+    let mut found = Vec::new(alloc);
+    let mut rest = list;
+    while let Exprs::More(first, next) = rest {
+        match value(first, variables) {
+            Ok(x) => found.push(x)?,
+            Err(kind) => return Ok(Err(kind)),
+        }
+        rest = next;
+    }
+    Ok(Ok(found))
 }

@@ -1,8 +1,6 @@
-use Rattle.std.proofs.Common.{◌≡◌, ap, sym, ◌∙◌, length, [], map}
+use Rattle.std.proofs.Common.{◌∙◌}
 use Rattle.std.proofs.lemmas.Result.{err_from_is_err_and}
-use Rattle.meaning.specs.Records.{edited, sequence, course}
 use Rattle.format_edit.specs.Formatted.{descriptors}
-use Rattle.format_edit.specs.Edits.{ahead, ahead_of}
 use Rattle.format_edit.proofs.Laid.{edited_is}
 use Rattle.format_edit.proofs.Walk.{fails_along}
 use Rattle.format_edit.proofs.editing.edit.Goals as goal

@@ -1,9 +1,10 @@
-use Rattle.std.proofs.Common.{◌≡◌, ◌+◌, ◌-◌, ◌<◌, ◌++◌, suc, List, length, replicate, arith, rules, ap, sym, ◌∙◌, w32}
+use Rattle.std.proofs.Common.{◌+◌, ◌-◌, ◌++◌, List, replicate, arith, rules, ap, sym, ◌∙◌, w32}
 use Rattle.std.proofs.lemmas.Result.{err_from_is_err_and}
 use Rattle.std.proofs.lemmas.Int.{to_z-of_z}
 use Rattle.meaning.specs.declared.ending.Value.TheVariants as values
-use Rattle.meaning.specs.Records.{Step, integer_field, course, stops, clashes}
-use Rattle.format_edit.specs.Edits.{Made, ahead, ahead_of}
+use Rattle.meaning.specs.Records.{Step, integer_field, course}
+use Rattle.format_edit.specs.Edits.{Made}
+use Rattle.format_edit.specs.Ahead.{ahead}
 use Rattle.format_edit.proofs.Ahead.{clashes_within}
 use Rattle.format_edit.proofs.Walk.{field_stops, field_clashes, field_puts, fails_along}
 use Rattle.format_edit.proofs.editing.edit_fields.Goals as goal

@@ -1,6 +1,6 @@
 use Rattle.std.proofs.Common.{◌-◌, ◌++◌, replicate}
 use Rattle.meaning.specs.Records.{integer_field, course}
-use Rattle.format_edit.specs.Edits.{ahead}
+use Rattle.format_edit.specs.Ahead.{ahead}
 use Rattle.format_edit.proofs.Walk.{SoFar}
 use Rattle.format_edit.proofs.editing.edit_fields.Given as goal
 

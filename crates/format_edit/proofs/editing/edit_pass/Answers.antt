@@ -1,9 +1,10 @@
-use Rattle.std.proofs.Common.{◌≡◌, ◌+◌, ◌<◌, ◌++◌, List, ap, sym, ◌∙◌, drop, map}
+use Rattle.std.proofs.Common.{◌+◌, ◌++◌, List, ap, ◌∙◌, drop, map}
 use Rattle.std.proofs.lemmas.Result.{err_from_is_err_and}
 use Rattle.meaning.specs.Records.{Step, pass, course}
 use Rattle.format_edit.specs.Formatted.{descriptor_of}
-use Rattle.format_edit.specs.Edits.{Made, ahead, onward}
-use Rattle.format_edit.proofs.Walk.{fails_along, pass_ends, pass_fields, pass_skips}
+use Rattle.format_edit.specs.Edits.{Made}
+use Rattle.format_edit.specs.Ahead.{ahead, onward}
+use Rattle.format_edit.proofs.Walk.{fails_along, pass_fields, pass_skips}
 use Rattle.format_edit.proofs.editing.edit_pass.Goals as goal
 use Rattle.format_edit.proofs.editing.edit_pass.Goals.{in-Field+in_ok-rest-in-Field+in-Some, in-Skip}
 

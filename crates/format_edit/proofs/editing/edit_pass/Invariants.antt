@@ -1,7 +1,7 @@
 use Rattle.std.proofs.Common.{◌++◌, map, drop}
 use Rattle.meaning.specs.Records.{pass, course}
 use Rattle.format_edit.specs.Formatted.{descriptor_of}
-use Rattle.format_edit.specs.Edits.{ahead}
+use Rattle.format_edit.specs.Ahead.{ahead}
 use Rattle.format_edit.proofs.Walk.{SoFar}
 use Rattle.format_edit.proofs.editing.edit_pass.Given as goal
 

@@ -1,7 +1,7 @@
 use Rattle.std.proofs.Common.{◌≡◌, ◌-◌, map}
 use Rattle.meaning.specs.Records.{pass, again, course}
 use Rattle.format_edit.specs.Formatted.{descriptor_of}
-use Rattle.format_edit.specs.Edits.{ahead}
+use Rattle.format_edit.specs.Ahead.{ahead}
 use Rattle.format_edit.proofs.editing.go_back.Given as goal
 
 abbrev pub invariant-loop : goal.invariant-loop

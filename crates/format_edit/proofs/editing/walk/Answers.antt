@@ -1,7 +1,7 @@
-use Rattle.std.proofs.Common.{◌≡◌, ap, sym, ◌∙◌, map, length, []}
+use Rattle.std.proofs.Common.{ap, sym, ◌∙◌, map, length, []}
 use Rattle.meaning.specs.Records.{pass, again, course}
 use Rattle.format_edit.specs.Formatted.{descriptor_of}
-use Rattle.format_edit.specs.Edits.{ahead, onward}
+use Rattle.format_edit.specs.Ahead.{ahead, onward}
 use Rattle.format_edit.proofs.Walk.{follows_along, goes_back, stays}
 use Rattle.format_edit.proofs.editing.walk.Goals as goal
 

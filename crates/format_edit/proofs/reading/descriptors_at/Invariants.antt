@@ -1,5 +1,4 @@
-use Rattle.std.proofs.Common.{◌≡◌, suc, length, map}
-use Rattle.meaning.specs.Formats.{descriptors_at}
+use Rattle.std.proofs.Common.{◌≡◌, length, map}
 use Rattle.format_edit.specs.Formatted.{descriptor_of}
 use Rattle.format_edit.proofs.Front.{with_front, all_at}
 use Rattle.format_edit.proofs.reading.descriptors_at.Given as goal

@@ -1,6 +1,6 @@
-use Rattle.std.proofs.Common.{ℕ, ap, ◌∙◌, arith, ◌≡◌, ◌+◌, ◌∷◌, [], ◌++◌, ◌<◌, ◌≤◌, length, sym, List, replicate, append_assoc}
+use Rattle.std.proofs.Common.{ℕ, ap, ◌∙◌, arith, ◌≡◌, ◌+◌, ◌++◌, ◌<◌, length, List, replicate, append_assoc}
 use Rattle.std.proofs.lemmas.List.{length-append, length-replicate}
-use Rattle.format_edit.specs.Edits.{ahead_of}
+use Rattle.format_edit.specs.Ahead.{ahead_of}
 use Rattle.format_edit.proofs.Ahead.{puts_nothing, puts_too_many, puts_some}
 use Rattle.format_edit.proofs.records.put.Goals as goal
 

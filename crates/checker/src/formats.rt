@@ -1,0 +1,149 @@
+// FORMAT statements and the labels that name them (ANSI X3.9-1978, 12.4 and 13.1).
+
+ghost use Rattle.std.specs.Prelude.{◌≡◌, ◌^◌, ◌≤◌, ℕ, List, map, flat_map, IfOk, OnOk, MatchOption, option_map, None};
+ghost use Rattle.std.specs.Ordering.{nat_cmp};
+ghost use Rattle.std.specs.BTreeSet.{contains};
+ghost use Rattle.meaning.specs.Characters.{number_of};
+ghost use Rattle.meaning.specs.Formats.{descriptors_of};
+ghost use Rattle.meaning.specs.Syntax.{MemberTree, shape_tree};
+ghost use Rattle.meaning.specs.Rules.{has_format, is_misformed as is_broken, misformed};
+ghost use Rattle.meaning.specs.Refusals.{least};
+ghost use Rattle.meaning.specs.Execution.{format_found, or_else};
+ghost use Rattle.meaning.specs.Nesting.{member_tree};
+ghost use Rattle.format_edit.specs.Formatted.{descriptors};
+ghost use Rattle.checker.specs.Numbered.{found_in, KnowsFormats, format_here, format_under};
+
+use crate::labels::format_labels;
+use crate::least::{broken_if, lesser};
+use crate::units::is_unit;
+use format_edit::{Format, FormatFault};
+use meaning::number::number;
+use meaning::refusal::{Broken, Rule};
+use meaning::syntax::{Member, Shape};
+use std::alloc::{AllocError, Global};
+use std::collections::{BTreeMap, BTreeSet};
+
+// The format that a text is, if it is one.
+fn format_of(alloc: Global, text: &[u8]) -> Result<Option<Format>, AllocError>
+    ensures { IfOk result (λ f. option_map descriptors f ≡ descriptors_of text.now) }
+{
+    match Format::read(alloc, text) {
+        Ok(format) => Ok(Some(format)),
+        Err(FormatFault::Broken) => Ok(None),
+        Err(FormatFault::Memory) => Err(AllocError),
+    }
+}
+
+// The label that digits spell, if it is below 2^32.
+pub fn label_of(digits: &[u8]) -> Option<u32>
+    ensures { MatchOption result (2 ^ 32 ≤ number_of digits.now) (λ s. s ≡ number_of digits.now) }
+{
+    let label = number(digits);
+    if label > 0xffff_ffff {
+        None
+    } else {
+        Some(label as u32)
+    }
+}
+
+// Whether a FORMAT statement has the label that digits spell.
+fn is_format_label(labels: &BTreeSet<u32>, digits: &[u8]) -> bool
+    ensures { (all : List MemberTree) → KnowsFormats (contains nat_cmp labels.now) all → result ≡ has_format all (number_of digits.now) }
+{
+    match label_of(digits) {
+        Some(label) => labels.contains(&label),
+        None => false,
+    }
+}
+
+// Whether a statement has a unit, a format label or a format that isn't allowed.
+fn is_misformed(
+    alloc: Global,
+    labels: &BTreeSet<u32>,
+    member: &Member,
+) -> Result<bool, AllocError>
+    ensures { (all : List MemberTree) → KnowsFormats (contains nat_cmp labels.now) all → IfOk result (λ b. b ≡ is_broken all member.now.label (shape_tree member.now.form.shape)) }
+{
+    match &member.form.shape {
+        Shape::Assignment { .. } => Ok(false),
+        Shape::Write {
+            unit,
+            label,
+            list: _,
+        } => Ok(!is_unit(unit) || !is_format_label(labels, label)),
+        Shape::Format(text) => {
+            let format = format_of(alloc, text)?;
+            Ok(member.label.is_none() || format.is_none())
+        }
+        Shape::End => Ok(false),
+    }
+}
+
+// K11: the least pair of the statements.
+pub fn misformed_statement(
+    alloc: Global,
+    members: &[Member],
+) -> Result<Option<Broken>, AllocError>
+    ensures { IfOk result (λ b. b ≡ least (flat_map (misformed (map member_tree members.now)) (map member_tree members.now))) }
+{
+    let labels = format_labels(alloc, members)?;
+    let mut best = None;
+    for member in members {
+        let is_here = is_misformed(alloc, &labels, member)?;
+        let broken = broken_if(is_here, member.line, Rule::K11);
+        best = lesser(best, broken);
+    }
+    Ok(best)
+}
+
+// Puts a FORMAT statement's format behind its label, unless one stands there.
+fn add_format(
+    formats: &mut BTreeMap<u32, Format>,
+    alloc: Global,
+    member: &Member,
+) -> Result<(), AllocError>
+    ensures found { OnOk result ((s : ℕ) → found_in formats.new s ≡ or_else (found_in formats.old s) (format_here s (member_tree member.now))) }
+    ensures small { (s : ℕ) → 2 ^ 32 ≤ s → format_here s (member_tree member.now) ≡ None }
+{
+    match &member.form.shape {
+        Shape::Format(text) => match member.label {
+            Some(label) => add_at(formats, alloc, label, text),
+            None => Ok(()),
+        },
+        Shape::Assignment { .. } => Ok(()),
+        Shape::Write { .. } => Ok(()),
+        Shape::End => Ok(()),
+    }
+}
+
+// Puts the format that a text is behind a label, unless one stands there.
+fn add_at(
+    formats: &mut BTreeMap<u32, Format>,
+    alloc: Global,
+    label: u32,
+    text: &[u8],
+) -> Result<(), AllocError>
+    ensures { OnOk result ((s : ℕ) → found_in formats.new s ≡ or_else (found_in formats.old s) (format_under label s (descriptors_of text.now))) }
+{
+    if !formats.contains_key(&label) {
+        if let Some(format) = format_of(alloc, text)? {
+            formats.insert(label, format)?;
+        }
+    }
+    Ok(())
+}
+
+// The formats of the FORMAT statements by their labels.
+pub fn formats_by_label(
+    alloc: Global,
+    members: &[Member],
+) -> Result<BTreeMap<u32, Format>, AllocError>
+    ensures found { IfOk result (λ formats. (s : ℕ) → found_in formats s ≡ format_found (map member_tree members.now) s) }
+    ensures small { OnOk result ((s : ℕ) → 2 ^ 32 ≤ s → format_found (map member_tree members.now) s ≡ None) }
+{
+    let mut formats = BTreeMap::new(alloc);
+    for member in members {
+        add_format(&mut formats, alloc, member)?;
+    }
+    Ok(formats)
+}
