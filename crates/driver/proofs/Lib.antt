@@ -4,3 +4,5 @@ pub mod Composed
 pub mod Assigned
 pub mod Executed
 pub mod Looped
+pub mod Listed
+pub mod Promised

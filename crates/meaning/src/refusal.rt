@@ -2,6 +2,7 @@
 
 ghost use Rattle.std.specs.Prelude.{◌≡◌};
 ghost use Rattle.meaning.specs.Ranks.{rank_of};
+ghost use Rattle.meaning.specs.Refusals.{merge};
 ghost use Rattle.meaning.specs.declared.refusal.Refusal.TheVariants.{Memory};
 
 use std::alloc::{AllocError, AllocFailed};
@@ -105,5 +106,22 @@ impl<T: Drop> From<AllocFailed<T>> for Refusal {
 
     fn from(_error: AllocFailed<T>) -> Refusal {
         Refusal::Memory
+    }
+}
+
+/// The lesser of two broken rules: that of the lesser line, and at one line that of the lesser rank.
+pub fn lesser(a: Option<Broken>, b: Option<Broken>) -> Option<Broken>
+    ensures { result ≡ merge a b }
+{
+    match (a, b) {
+        (None, other) => other,
+        (Some(a), None) => Some(a),
+        (Some(a), Some(b)) => {
+            if b.line < a.line || (b.line == a.line && b.rule.rank() < a.rule.rank()) {
+                Some(b)
+            } else {
+                Some(a)
+            }
+        }
     }
 }

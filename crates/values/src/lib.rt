@@ -125,3 +125,6 @@ pub fn values<V: Variables>(
     }
     Ok(Ok(found))
 }
+
+#[cfg(test)]
+mod tests;

@@ -1,5 +1,5 @@
 use Rattle.std.proofs.Common.{sym, ◌∙◌}
-use Rattle.values.proofs.Exact.{list_more, list_fails, list_ends}
+use Rattle.values.proofs.Lists.{list_more, list_fails, list_ends}
 use Rattle.values.proofs.values.Goals as goal
 
 pub returns-in-Err : goal.returns-in-Err

@@ -1,7 +1,7 @@
 use Rattle.std.proofs.Common.{◌≡◌}
 use Rattle.meaning.specs.Syntax.{exprs_trees}
 use Rattle.meaning.specs.Values.{values_of}
-use Rattle.values.proofs.Exact.{with_front}
+use Rattle.values.proofs.Lists.{with_front}
 use Rattle.values.proofs.values.Given as goal
 
 abbrev pub invariant-loop-rest : goal.invariant-loop-rest
