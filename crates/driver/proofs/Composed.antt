@@ -69,7 +69,7 @@ over_at_fault whole rest does go f old mid new s e x =
     record {
       outcome = ap (λ (r : Ran). r.outcome) is ∙ outcome-more s.pieces s.used x.faults.ran ∙ x.faults.outcome;
       bytes = subst (λ ps. Took old new (concat ps)) (sym (ap (λ (r : Ran). r.pieces) is ∙ pieces-more s.pieces s.used x.faults.ran ∙ ap (λ ps. s.pieces ++ ps) x.faults.nothing ∙ append-nil s.pieces))
-      (subst (λ bs. Took old new bs) (append-nil (concat s.pieces)) (Took-then old mid new (concat s.pieces) [] s.bytes x.bytes));
+          (subst (λ bs. Took old new bs) (append-nil (concat s.pieces)) (Took-then old mid new (concat s.pieces) [] s.bytes x.bytes));
     }
 
 pub cut_short : (whole rest : Ran) (old mid new : Told) → SoFar whole rest old mid → Took mid new [] → IsFront whole.pieces old new
@@ -90,7 +90,7 @@ broken_off whole rest does go old mid new s e x =
       taken = concat s.pieces ++ b.taken;
       lost = b.lost ++ tail;
       parts =
-        ap concat pieces ∙ concat-append s.pieces (x.piece ∷ (x.rest go).pieces) ∙ ap (λ bs. concat s.pieces ++ (bs ++ tail)) b.parts ∙ ap (λ bs. concat s.pieces ++ bs) (append_assoc b.taken b.lost tail) ∙ sym (append_assoc (concat s.pieces) b.taken (b.lost ++ tail));
+          ap concat pieces ∙ concat-append s.pieces (x.piece ∷ (x.rest go).pieces) ∙ ap (λ bs. concat s.pieces ++ (bs ++ tail)) b.parts ∙ ap (λ bs. concat s.pieces ++ bs) (append_assoc b.taken b.lost tail) ∙ sym (append_assoc (concat s.pieces) b.taken (b.lost ++ tail));
       after = Took-refused old mid new (concat s.pieces) b.taken s.bytes b.after;
     }
 

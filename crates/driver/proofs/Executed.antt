@@ -49,7 +49,7 @@ module _ (line : ℕ) (m : Map) where
       record {
         ran = more [] 1 (failed k line m);
         is =
-          λ go. turn_some t u (λ n. with_ok r line m (λ y. does go y n)) e ∙ ap (λ s. more [] 1 (with_ok s line m (λ y. does go y u))) h;
+            λ go. turn_some t u (λ n. with_ok r line m (λ y. does go y n)) e ∙ ap (λ s. more [] 1 (with_ok s line m (λ y. does go y u))) h;
         outcome = refl;
         nothing = refl;
       }

@@ -34,4 +34,3 @@ TakesTurn old new false = (old ≡ 0) × (new ≡ 0)
 abbrev pub Does : (Follow → Ran) → Map → ℕ → Option Fault → Type 0
 Does does m t None = (go : Follow) → does go ≡ more [] 1 (go m t)
 Does does m t (Some f) = FaultsAs does f
-

@@ -35,11 +35,22 @@ pub struct Out<W: Write> {
 
 impl<W: Write> Out<W> {
     /// A sink that hasn't refused.
-    pub fn new(writer: W) -> Self {
+    pub fn new(writer: W) -> Self
+        ensures writer { result.writer ≡ writer }
+        ensures refused { result.refused ≡ false }
+    {
         Out {
             writer,
             refused: false,
         }
+    }
+
+    /// The writer.
+    pub fn into_inner(self) -> W
+        ensures { result ≡ self.writer }
+    {
+        let Out { writer, refused: _ } = self;
+        writer
     }
 }
 

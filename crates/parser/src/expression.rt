@@ -1,1 +1,164 @@
 //! Expressions, by precedence climbing.
+
+ghost use Rattle.std.specs.Prelude.{◌≡◌, ◌+◌, length, IfOk};
+ghost use Rattle.meaning.specs.Spelling.{level, level_of};
+ghost use Rattle.meaning.specs.Syntax.{binary, expr_tree};
+ghost use Rattle.meaning.specs.Reading.{primary_at, front_at, may_follow, operations_at, expression_at, whole_expression_at};
+ghost use Rattle.parser.specs.Reports.{Agrees};
+
+use crate::read_error::ReadError;
+use crate::token::{read_name, read_operator, read_sign, split_digits};
+use meaning::syntax::{Expr, Operator};
+use std::alloc::{AllocError, Global};
+
+/// The level of a sign with its operand.
+const SIGNED: u8 = 5;
+
+/// The level of the term that a sign takes.
+const TERM: u8 = 6;
+
+/// The level of digits and names.
+const PRIMARY: u8 = 8;
+
+/// How strongly an operator binds (ANSI X3.9-1978, 6.1.3 and 6.5).
+fn level_of_operator(operator: Operator) -> u8
+    ensures { result ≡ level operator }
+{
+    match operator {
+        Operator::Add | Operator::Subtract => 5,
+        Operator::Multiply => 6,
+    }
+}
+
+/// The level at which an expression stands: a primary binds strongest.
+fn level_of_expression(expression: &Expr) -> u8
+    ensures { result ≡ level_of (expr_tree expression.now) }
+{
+    match expression {
+        Expr::Number(_) | Expr::Name(_) => PRIMARY,
+        Expr::Signed(_, _) => SIGNED,
+        Expr::Binary(operator, _, _) => level_of_operator(*operator),
+    }
+}
+
+/// The least level of what stands on the right of an operator: operators of one level group from the left.
+fn least_on_right(operator: Operator) -> u8
+    ensures { result ≡ level operator + 1 }
+{
+    level_of_operator(operator) + 1
+}
+
+/// Whether an operator of this level or a stronger one may have this operand on its left.
+fn continues(least: u8, left: &Expr, operator: Operator) -> bool
+    ensures { result ≡ may_follow least (expr_tree left.now) operator }
+{
+    let level = level_of_operator(operator);
+    least <= level && level <= level_of_expression(left)
+}
+
+/// An operator and its operands.
+fn join(alloc: Global, operator: Operator, left: Expr, right: Expr) -> Result<Expr, AllocError>
+    ensures { IfOk result (λ e. expr_tree e ≡ binary operator (expr_tree left) (expr_tree right)) }
+{
+    let left = Box::new(alloc, left)?;
+    let right = Box::new(alloc, right)?;
+    Ok(Expr::Binary(operator, left, right))
+}
+
+/// Digits or a name.
+#[tactic(auto, unfolding(meaning::specs::Reading::primary_at, meaning::specs::Reading::name_at))]
+fn read_primary(alloc: Global, text: &[u8]) -> Result<(Expr, &[u8]), ReadError>
+    ensures { Agrees (λ x. (expr_tree x.0, x.1.now)) result (primary_at text.now) }
+{
+    let first = text.first().ok_or(ReadError::NoReading)?;
+    if first.is_ascii_digit() {
+        let (digits, rest) = split_digits(text);
+        return Ok((Expr::Number(Vec::from_slice(alloc, digits)?), rest));
+    }
+    let (name, rest) = read_name(alloc, text)?;
+    Ok((Expr::Name(name), rest))
+}
+
+/// What an expression of a level begins with: a sign and one term, where the level lets a sign stand, or a primary.
+#[cycle(expression)]
+#[tactic(auto, unfolding(meaning::specs::Reading::front_at, meaning::specs::Reading::either, meaning::specs::Reading::when))]
+fn read_front(
+    alloc: Global,
+    depth: usize,
+    least: u8,
+    text: &[u8],
+) -> Result<(Expr, &[u8]), ReadError>
+    ensures { Agrees (λ x. (expr_tree x.0, x.1.now)) result (front_at (expression_at depth) least text.now) }
+{
+    match read_sign(text) {
+        None => read_primary(alloc, text),
+        Some((sign, behind)) => {
+            if least > SIGNED {
+                return Err(ReadError::NoReading);
+            }
+            let (operand, rest) = read_expression(alloc, depth, TERM, behind)?;
+            Ok((Expr::Signed(sign, Box::new(alloc, operand)?), rest))
+        }
+    }
+}
+
+/// What begins with an operand: operators that bind this strongly, each with an operand that binds more strongly.
+#[cycle(expression)]
+#[tactic(auto, unfolding(meaning::specs::Reading::operations_at, meaning::specs::Reading::either))]
+fn read_operations(
+    alloc: Global,
+    depth: usize,
+    least: u8,
+    first: Expr,
+    text: &[u8],
+) -> Result<(Expr, &[u8]), ReadError>
+    ensures { Agrees (λ x. (expr_tree x.0, x.1.now)) result (operations_at (expression_at depth) (length text.now) least (expr_tree first) text.now) }
+{
+    let mut left = first;
+    let mut rest = text;
+    for _ in 0..text.len() {
+        match read_operator(rest) {
+            None => return Ok((left, rest)),
+            Some((operator, behind)) => {
+                if !continues(least, &left, operator) {
+                    return Ok((left, rest));
+                }
+                let (right, after) = read_expression(
+                    alloc,
+                    depth,
+                    least_on_right(operator),
+                    behind,
+                )?;
+                left = join(alloc, operator, left, right)?;
+                rest = after;
+            }
+        }
+    }
+    Ok((left, rest))
+}
+
+/// An expression whose operators bind at least this strongly, nested no deeper than this.
+#[cycle(expression)]
+#[tactic(auto, unfolding(meaning::specs::Reading::expression_at))]
+fn read_expression(
+    alloc: Global,
+    depth: usize,
+    least: u8,
+    text: &[u8],
+) -> Result<(Expr, &[u8]), ReadError>
+    ensures { Agrees (λ x. (expr_tree x.0, x.1.now)) result (expression_at depth least text.now) }
+{
+    if depth == 0 {
+        return Err(ReadError::NoReading);
+    }
+    let (front, rest) = read_front(alloc, depth - 1, least, text)?;
+    read_operations(alloc, depth - 1, least, front, rest)
+}
+
+/// An expression of the weakest level.
+#[tactic(auto, unfolding(meaning::specs::Reading::whole_expression_at))]
+pub fn read_whole_expression(alloc: Global, text: &[u8]) -> Result<(Expr, &[u8]), ReadError>
+    ensures { Agrees (λ x. (expr_tree x.0, x.1.now)) result (whole_expression_at text.now) }
+{
+    read_expression(alloc, text.len() + 1, 0, text)
+}

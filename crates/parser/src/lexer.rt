@@ -11,6 +11,7 @@ use std::alloc::{AllocError, Global};
 
 /// The bare text of a statement: blanks outside apostrophes are left out, and letters there are raised
 /// (ANSI X3.9-1978, 3.1.5 and 3.1.6).
+#[tactic(auto, unfolding(meaning::specs::BareText::bare_behind, meaning::specs::BareText::bare))]
 pub fn bare(alloc: Global, statement: &Statement) -> Result<Bare, AllocError>
     ensures line { IfOk result (λ b. b.line ≡ statement.now.line) }
     ensures text { IfOk result (λ b. b.text.items ≡ bare_text statement.now.text.items) }
@@ -18,12 +19,19 @@ pub fn bare(alloc: Global, statement: &Statement) -> Result<Bare, AllocError>
     let mut text = Vec::new(alloc);
     let mut inside = false;
     for &c in &statement.text {
-        if inside || c != b' ' {
-            text.push(if inside { c } else { c.to_ascii_uppercase() })?;
+        if inside {
+            text.push(c)?;
+        } else if c != b' ' {
+            text.push(c.to_ascii_uppercase())?;
         }
-        inside ^= c == b'\'';
+        if c == b'\'' {
+            inside = !inside;
+        }
     }
-    Ok(Bare { line: statement.line, text })
+    Ok(Bare {
+        line: statement.line,
+        text,
+    })
 }
 
 /// Which statement a bare text can be: an assignment where an equals sign stands outside parentheses and
@@ -32,14 +40,7 @@ pub fn bare(alloc: Global, statement: &Statement) -> Result<Bare, AllocError>
 pub fn kind(bare: &Bare) -> Kind
     ensures { result ≡ kind_of bare.now.text.items }
 {
-    kind_of_text(&bare.text)
-}
-
-/// Which statement a text can be.
-#[tactic(auto, unfolding(meaning::specs::Kinds::kind_of))]
-pub fn kind_of_text(text: &[u8]) -> Kind
-    ensures { result ≡ kind_of text.now }
-{
+    let text = bare.text.as_slice();
     if has_equals_sign(text) {
         Kind::Assignment
     } else if begins(text, b"WRITE(") {

@@ -2,9 +2,16 @@
 #![tactic(auto)]
 
 mod expression;
+mod laws;
 mod lexer;
 mod read_error;
 mod scan;
+mod statement;
 mod token;
 
+pub use laws::{one_kind, one_reading, one_spelling};
 pub use lexer::{bare, kind};
+pub use statement::form;
+
+#[cfg(test)]
+mod tests;

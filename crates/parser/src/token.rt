@@ -1,17 +1,138 @@
 //! Words, names, digits and operators at the front of a text.
 
-ghost use Rattle.std.specs.Prelude.{◌≡◌, Option, option_map, ◌+◌};
-ghost use Rattle.meaning.specs.Characters.{is_digit, is_alphanumeric, is_name, is_label};
-ghost use Rattle.meaning.specs.Spelling.{level};
-ghost use Rattle.meaning.specs.Reading.{after, run, name_at, label_at, sign_at, operator_at};
+ghost use Rattle.std.specs.Prelude.{◌≡◌, option_map, nat_lt};
+ghost use Rattle.std.specs.List.{list_all, list_any, prefix_len};
+ghost use Rattle.meaning.specs.Characters.{is_digit as digit_test, is_alphanumeric as alphanumeric_test, is_name, is_label, number_of};
+ghost use Rattle.meaning.specs.Reading.{after, before_last_parenthesis, run, name_at, label_at, sign_at, operator_at};
+ghost use Rattle.parser.specs.Reports.{Agrees};
 
+use crate::read_error::ReadError;
 use meaning::syntax::{Operator, Sign};
+use std::alloc::Global;
 
 /// What stands behind a word at the front.
+#[tactic(auto, using(crate::proofs::Words::behind_is))]
 pub fn behind<'t>(word: &[u8], text: &'t [u8]) -> Option<&'t [u8]>
     ensures { option_map (λ x. x.now) result ≡ after word.now text.now }
 {
     text.strip_prefix(word)
+}
+
+/// What stands before a last closing parenthesis.
+#[tactic(auto, using(crate::proofs::Words::before_is))]
+pub fn before_parenthesis(text: &[u8]) -> Option<&[u8]>
+    ensures { option_map (λ x. x.now) result ≡ before_last_parenthesis text.now }
+{
+    text.strip_suffix(b")")
+}
+
+/// A digit.
+fn is_digit(c: u8) -> bool
+    ensures { result ≡ digit_test c }
+{
+    c.is_ascii_digit()
+}
+
+/// A letter or a digit.
+fn is_alphanumeric(c: u8) -> bool
+    ensures { result ≡ alphanumeric_test c }
+{
+    c.is_ascii_uppercase() || c.is_ascii_digit()
+}
+
+/// How many digits stand at the front.
+fn digits_len(text: &[u8]) -> usize
+    ensures { result ≡ prefix_len digit_test text.now }
+{
+    text.iter().take_while(|c| is_digit(**c)).count()
+}
+
+/// How many letters and digits stand at the front.
+fn alphanumerics_len(text: &[u8]) -> usize
+    ensures { result ≡ prefix_len alphanumeric_test text.now }
+{
+    text.iter().take_while(|c| is_alphanumeric(**c)).count()
+}
+
+/// The longest front of digits, and what stands behind.
+#[tactic(auto, using(crate::proofs::Words::runs))]
+pub fn split_digits(text: &[u8]) -> (&[u8], &[u8])
+    ensures { (result.0.now, result.1.now) ≡ run digit_test text.now }
+{
+    text.split_at(digits_len(text))
+}
+
+/// The longest front of letters and digits, and what stands behind.
+#[tactic(auto, using(crate::proofs::Words::runs))]
+fn split_alphanumerics(text: &[u8]) -> (&[u8], &[u8])
+    ensures { (result.0.now, result.1.now) ≡ run alphanumeric_test text.now }
+{
+    text.split_at(alphanumerics_len(text))
+}
+
+/// Whether all are digits.
+fn are_digits(text: &[u8]) -> bool
+    ensures { result ≡ list_all digit_test text.now }
+{
+    text.iter().all(|c| is_digit(*c))
+}
+
+/// Whether all are letters or digits.
+fn are_alphanumeric(text: &[u8]) -> bool
+    ensures { result ≡ list_all alphanumeric_test text.now }
+{
+    text.iter().all(|c| is_alphanumeric(*c))
+}
+
+/// Whether a digit above 0 is among them.
+fn has_positive(digits: &[u8]) -> bool
+    ensures { result ≡ list_any (λ c. nat_lt 48 c) digits.now }
+{
+    digits.iter().any(|c| *c > b'0')
+}
+
+/// Whether a text is a symbolic name: a letter and up to five letters or digits (ANSI X3.9-1978, 2.2).
+fn is_symbolic_name(text: &[u8]) -> bool
+    ensures { result ≡ is_name text.now }
+{
+    match text.split_first() {
+        None => false,
+        Some((first, rest)) => first.is_ascii_uppercase()
+            && are_alphanumeric(rest)
+            && rest.len() <= 5,
+    }
+}
+
+/// Whether digits are a statement label: one to five, not all zero (ANSI X3.9-1978, 3.4).
+#[tactic(auto, using(crate::proofs::Words::positive_is))]
+fn is_statement_label(digits: &[u8]) -> bool
+    ensures { result ≡ is_label digits.now }
+{
+    !digits.is_empty() && are_digits(digits) && digits.len() <= 5 && has_positive(digits)
+}
+
+/// A symbolic name at the front, and what stands behind.
+#[tactic(auto, unfolding(meaning::specs::Reading::name_at))]
+pub fn read_name(alloc: Global, text: &[u8]) -> Result<(Vec<u8>, &[u8]), ReadError>
+    ensures { Agrees (λ x. (x.0.items, x.1.now)) result (name_at text.now) }
+{
+    let (name, rest) = split_alphanumerics(text);
+    if !is_symbolic_name(name) {
+        return Err(ReadError::NoReading);
+    }
+    Ok((Vec::from_slice(alloc, name)?, rest))
+}
+
+/// A statement label at the front, and what stands behind.
+#[tactic(auto, unfolding(meaning::specs::Reading::label_at))]
+pub fn read_label(alloc: Global, text: &[u8]) -> Result<(Vec<u8>, &[u8]), ReadError>
+    ensures { Agrees (λ x. (x.0.items, x.1.now)) result (label_at text.now) }
+{
+    let (digits, rest) = split_digits(text);
+    if !is_statement_label(digits) {
+        return Err(ReadError::NoReading);
+    }
+    Ok((Vec::from_slice(alloc, digits)?, rest))
 }
 
 /// A sign at the front, and what stands behind.
@@ -19,17 +140,11 @@ pub fn behind<'t>(word: &[u8], text: &'t [u8]) -> Option<&'t [u8]>
 pub fn read_sign(text: &[u8]) -> Option<(Sign, &[u8])>
     ensures { option_map (λ x. (x.0, x.1.now)) result ≡ sign_at text.now }
 {
-    match text.split_first() {
-        None => None,
-        Some((c, rest)) => {
-            if *c == b'+' {
-                Some((Sign::Plus, rest))
-            } else if *c == b'-' {
-                Some((Sign::Minus, rest))
-            } else {
-                None
-            }
-        }
+    let (c, rest) = text.split_first()?;
+    match c {
+        b'+' => Some((Sign::Plus, rest)),
+        b'-' => Some((Sign::Minus, rest)),
+        _ => None,
     }
 }
 
@@ -38,28 +153,11 @@ pub fn read_sign(text: &[u8]) -> Option<(Sign, &[u8])>
 pub fn read_operator(text: &[u8]) -> Option<(Operator, &[u8])>
     ensures { option_map (λ x. (x.0, x.1.now)) result ≡ operator_at text.now }
 {
-    match text.split_first() {
-        None => None,
-        Some((c, rest)) => {
-            if *c == b'+' {
-                Some((Operator::Add, rest))
-            } else if *c == b'-' {
-                Some((Operator::Subtract, rest))
-            } else if *c == b'*' {
-                Some((Operator::Multiply, rest))
-            } else {
-                None
-            }
-        }
-    }
-}
-
-/// How strongly an operator binds (ANSI X3.9-1978, 6.1.3 and 6.5).
-pub fn level_of_operator(operator: Operator) -> u8
-    ensures { result ≡ level operator }
-{
-    match operator {
-        Operator::Add | Operator::Subtract => 5,
-        Operator::Multiply => 6,
+    let (c, rest) = text.split_first()?;
+    match c {
+        b'+' => Some((Operator::Add, rest)),
+        b'-' => Some((Operator::Subtract, rest)),
+        b'*' => Some((Operator::Multiply, rest)),
+        _ => None,
     }
 }

@@ -17,7 +17,7 @@ loop-statement-preserved c =
     elim c.match-member_in.branch [
       | in-Ok+in_ok-push-in-Ok w ↦
           rw (w.broken-is, w.members-is, w.in_ok-push-in-Ok.ensures.items, map_push member_tree c.loop-statement.members.items w.in-Ok.member) (listed_more c.args.found.now i s c.loop-statement-test.true c.statement-item.is c.loop-statement.broken before (member_tree w.in-Ok.member) c.loop-statement.invariant w.in-Ok.ensures)
-      | in-Err-Rule w ↦ 
+      | in-Err-Rule w ↦
           let told = rw w.in-Err-Rule.field-0-is at w.in-Err-Rule.ensures in
           rw (w.broken-is, w.members-is, w.lesser-broken.ensures) (broken_more c.args.found.now i s c.loop-statement-test.true c.statement-item.is c.loop-statement.broken before _ c.loop-statement.invariant told)
     ]

@@ -6,7 +6,7 @@ abbrev pub invariant-loop-done : goal.invariant-loop-done
 invariant-loop-done g l = record {
   within : l.done ≤ length l.piece;
   open_still : (g.S.Sink.told l.sink).refused ≡ false;
-  took : Took (g.S.Sink.told l.initial.sink) (g.S.Sink.told l.sink) (take l.done l.piece)
+  took : Took (g.S.Sink.told l.initial.sink) (g.S.Sink.told l.sink) (take l.done l.piece);
 }
 
 abbrev pub decreases-loop-done : goal.decreases-loop-done

@@ -1,0 +1,324 @@
+//! The program over readers and writers in memory. Expected bytes come from the rules of docs/LANGUAGE.md.
+
+use crate::engine::engine;
+use crate::run::run;
+use crate::sink::{Out, Sink};
+use meaning::ending::{Ending, Fault, FaultKind};
+use meaning::refusal::Rule;
+use std::alloc::{AllocError, Global};
+use std::io;
+use std::io::{ErrorKind, Write};
+use std::test::*;
+
+/// A writer in memory that takes at most `step` bytes a call and `room` bytes in all; past that it answers 0, or an
+/// error.
+#[derive(Drop)]
+struct Meter {
+    bytes: Vec<u8>,
+    step: usize,
+    room: usize,
+    errs: bool,
+}
+
+impl Write for Meter {
+    fn write(&mut self, buf: &[u8]) -> io::Result<usize> {
+        let count = buf.len().min(self.step).min(self.room);
+        if count == 0 && self.errs && !buf.is_empty() {
+            return Err(io::Error::from(ErrorKind::BrokenPipe));
+        }
+        self.bytes.extend_from_slice(&buf[..count])?;
+        self.room -= count;
+        Ok(count)
+    }
+
+    fn flush(&mut self) -> io::Result<()> {
+        if self.room == 0 && self.errs {
+            Err(io::Error::from(ErrorKind::BrokenPipe))
+        } else {
+            Ok(())
+        }
+    }
+}
+
+fn make_meter(alloc: Global, step: usize, room: usize, errs: bool) -> Meter {
+    Meter {
+        bytes: Vec::new(alloc),
+        step,
+        room,
+        errs,
+    }
+}
+
+const ANSWER: &str = "      WRITE (6,10) 42\n   10 FORMAT (1X,I5)\n      END\n";
+
+const FORTY_TWO: &str = "    42\n";
+
+const TWO_NUMBERS: &str =
+    "      I=3\n      J=2-I*4\n      WRITE (6,10) I,J\n   10 FORMAT (2I4)\n      END\n";
+
+const MANY: u64 = 1_000_000_000;
+
+// The ending of a source, and the bytes that it writes into a writer with room.
+fn outcome(alloc: Global, source: &[u8], turns: u64) -> (Ending, Vec<u8>) {
+    let mut sink = Out::new(make_meter(alloc, usize::MAX, usize::MAX, false));
+    let ending = run(alloc, source, turns, &mut sink);
+    let Meter { bytes, .. } = sink.into_inner();
+    (ending, bytes)
+}
+
+#[test]
+fn worked_programs(rt: HostRuntime) {
+    let rows = [
+        (ANSWER, FORTY_TWO),
+        (TWO_NUMBERS, "   3 -10\n"),
+        // a trailing X writes nothing, and control goes back for each value
+        (
+            "      WRITE (*,7) 1,22,333\n    7 FORMAT (I2,3X)\n      END\n",
+            " 1\n22\n**\n",
+        ),
+        // no list: one empty record
+        ("      WRITE (6,1)\n    1 FORMAT ()\n      END", "\n"),
+        // blanks and case have no meaning, nor has what stands past column 72
+        (
+            "C \u{e9}\n      k = 2 * 3 - 10\n      w r i t e (6, 0 1 0) k                                               X\n   10 f o r m a t (i 3)\n* THE END\n      e n d\n",
+            " -4\n",
+        ),
+        // a sign takes a whole term, and operators of one level group from the left
+        (
+            "      I=5\n      WRITE (6,10) -I*2+1,I-1-2,+7\n   10 FORMAT (3I4)\n      END\n",
+            "  -9   2   7\n",
+        ),
+        // a name that nothing gave a value is 0, and FORMAT may stand before the WRITE that uses it
+        (
+            "   10 FORMAT (I1)\r\n      WRITE (6,10) N\r\n      END\r\n",
+            "0\n",
+        ),
+    ];
+    for (source, records) in rows {
+        let (ending, bytes) = outcome(rt.alloc(), source.as_bytes(), MANY);
+        assert_eq!(rt; ending, Ending::Ended, "{source}");
+        assert_eq!(rt; bytes.as_slice(), records.as_bytes(), "{source}");
+    }
+}
+
+#[test]
+fn refused_sources(rt: HostRuntime) {
+    let rows = [
+        ("", Rule::N2, 1),
+        ("      I=\t1\n      END\n", Rule::C1, 1),
+        ("   A  I=1\n      END\n", Rule::C2, 1),
+        ("  00  I=1\n      END\n", Rule::C2, 1),
+        ("      I=1\n     1+2\n      END\n", Rule::C4, 2),
+        ("      I='A\n      END\n", Rule::C6, 1),
+        ("      I='A'\n      END\n", Rule::G1, 1),
+        ("      READ (5,*) N\n      END\n", Rule::G2, 1),
+        ("      I=1\n      GO TO 10\n      END\n", Rule::G1, 2),
+        (
+            "      I=((((((((((((((((((((((((((((((((((((((((((((((((((((((((((((\n",
+            Rule::G1,
+            1,
+        ),
+        ("      I=1\n", Rule::N2, 1),
+        ("      END\n      I=1\n      END\n", Rule::N2, 2),
+        ("   10 I=1\n   10 J=1\n      END\n", Rule::K1, 2),
+        ("      X=1\n      END\n", Rule::K3, 1),
+        ("      I=1\n      J=2147483648\n      END\n", Rule::K6, 2),
+        (
+            "      WRITE (5,10)\n   10 FORMAT ()\n      END\n",
+            Rule::K11,
+            1,
+        ),
+        ("      WRITE (6,10)\n      END\n", Rule::K11, 1),
+        ("   10 FORMAT (A5)\n      END\n", Rule::K11, 1),
+        ("      FORMAT (I5)\n      END\n", Rule::K11, 1),
+        // two broken: the earlier phase, then the lesser line, then the lesser rule
+        ("      X=1\n      I=\n", Rule::G1, 2),
+        ("      J=9999999999\n      X=1\n      END\n", Rule::K6, 1),
+        ("      X=9999999999\n      END\n", Rule::K3, 1),
+        ("  00  I=\t'\n      END\n", Rule::C1, 1),
+    ];
+    for (source, rule, line) in rows {
+        let (ending, bytes) = outcome(rt.alloc(), source.as_bytes(), MANY);
+        assert_eq!(rt; ending, Ending::Refused(rule, line), "{source}");
+        assert!(rt; bytes.is_empty(), "{source}");
+    }
+}
+
+#[test]
+fn long_sources(rt: HostRuntime) -> Result<(), Fail> {
+    // comment lines up to 1,048,576 bytes are read, one byte more is not
+    let mut source = Vec::from_slice(rt.alloc(), ANSWER.as_bytes())?;
+    while source.len() < 1_048_576 {
+        let filler: &[u8] = if source.len() % 64 == 63 { b"\n" } else { b"*" };
+        source.extend_from_slice(filler)?;
+    }
+    let (ending, _) = outcome(rt.alloc(), &source, MANY);
+    assert_eq!(rt; ending, Ending::Ended);
+    source.push(b'*')?;
+    let (ending, _) = outcome(rt.alloc(), &source, MANY);
+    assert_eq!(rt; ending, Ending::Refused(Rule::C7, 1));
+    Ok(())
+}
+
+#[test]
+fn faults(rt: HostRuntime) {
+    let rows = [
+        (
+            "      I=2147483647\n      I=I+1\n      END\n",
+            FaultKind::F2,
+            2,
+        ),
+        (
+            "      I=-2147483647-1\n      J=-I\n      END\n",
+            FaultKind::F2,
+            2,
+        ),
+        (
+            "      WRITE (6,10) 1\n   10 FORMAT (3X)\n      END\n",
+            FaultKind::F7,
+            1,
+        ),
+        (
+            "      WRITE (6,1) 1,1,1,1,1,1,1,1,1,1,1,1,1,1,1,1\n    1 FORMAT (9999X,9999X,9999X,9999X,9999X,9999X,9999X,9999X,I1)\n      END\n",
+            FaultKind::F8,
+            1,
+        ),
+        // nothing of a WRITE goes out where a later item faults
+        (
+            "      WRITE (6,10) 1,2147483647+1\n   10 FORMAT (I1)\n      END\n",
+            FaultKind::F2,
+            1,
+        ),
+    ];
+    for (source, kind, line) in rows {
+        let (ending, bytes) = outcome(rt.alloc(), source.as_bytes(), MANY);
+        assert_eq!(rt; ending, Ending::Fault(Fault { kind, line }), "{source}");
+        assert!(rt; bytes.is_empty(), "{source}");
+    }
+}
+
+#[test]
+fn turn_limit(rt: HostRuntime) {
+    let fourth = Ending::Fault(Fault {
+        kind: FaultKind::F4,
+        line: 3,
+    });
+    let (ending, bytes) = outcome(rt.alloc(), TWO_NUMBERS.as_bytes(), 2);
+    assert_eq!(rt; ending, fourth);
+    assert!(rt; bytes.is_empty());
+    let (ending, bytes) = outcome(rt.alloc(), TWO_NUMBERS.as_bytes(), 3);
+    assert_eq!(rt; ending, Ending::Ended);
+    assert_eq!(rt; bytes.as_slice(), b"   3 -10\n".as_slice());
+}
+
+#[test]
+fn fronts_of_a_source(rt: HostRuntime) {
+    let source = ANSWER.as_bytes();
+    assert_eq!(rt; source.len(), 53);
+    for kept in 0..54usize {
+        let expected = match kept {
+            0..=6 | 18..=25 => Ending::Refused(Rule::N2, 1),
+            7..=17 => Ending::Refused(Rule::G1, 1),
+            26..=41 => Ending::Refused(Rule::G1, 2),
+            42..=49 => Ending::Refused(Rule::N2, 2),
+            50 | 51 => Ending::Refused(Rule::G1, 3),
+            _ => Ending::Ended,
+        };
+        let (ending, bytes) = outcome(rt.alloc(), &source[..kept], MANY);
+        assert_eq!(rt; ending, expected, "{kept} bytes");
+        let records: &[u8] = if kept < 52 { b"" } else { FORTY_TWO.as_bytes() };
+        assert_eq!(rt; bytes.as_slice(), records, "{kept} bytes");
+    }
+}
+
+// Two WRITEs, of 7 and 8 bytes.
+const TWO_WRITES: &str =
+    "      WRITE (6,10) 123\n      WRITE (6,20) 45\n   10 FORMAT (I6)\n   20 FORMAT (I7)\n      END\n";
+
+const BOTH: &str = "   123\n     45\n";
+
+#[test]
+fn a_byte_at_a_time(rt: HostRuntime) {
+    let mut sink = Out::new(make_meter(rt.alloc(), 1, usize::MAX, false));
+    let ending = run(rt.alloc(), TWO_WRITES.as_bytes(), MANY, &mut sink);
+    assert_eq!(rt; ending, Ending::Ended);
+    assert!(rt; !sink.refused());
+    assert_eq!(rt; sink.into_inner().bytes.as_slice(), BOTH.as_bytes());
+}
+
+#[test]
+fn refused_writes(rt: HostRuntime) {
+    for errs in [false, true] {
+        for step in [1usize, 3, 100] {
+            for room in 0..17usize {
+                let mut sink = Out::new(make_meter(rt.alloc(), step, room, errs));
+                let ending = run(rt.alloc(), TWO_WRITES.as_bytes(), MANY, &mut sink);
+                let expected = if room < 15 {
+                    Ending::WriteRefused
+                } else {
+                    Ending::Ended
+                };
+                assert_eq!(rt; ending, expected, "room {room}");
+                assert_eq!(rt; sink.refused(), room < 15, "room {room}");
+                let kept = room.min(15);
+                assert_eq!(rt;
+                    sink.into_inner().bytes.as_slice(),
+                    &BOTH.as_bytes()[..kept]
+                );
+            }
+        }
+    }
+}
+
+// The status of the program, what it writes and its line on standard error.
+fn whole(
+    rt: &HostRuntime,
+    words: &[&str],
+    source: &[u8],
+    room: usize,
+) -> Result<(u8, Vec<u8>), AllocError> {
+    let mut input = source;
+    let mut err = Vec::new(rt.alloc());
+    let out = make_meter(rt.alloc(), usize::MAX, room, true);
+    let status = engine(rt, words, &mut input, out, &mut err);
+    Ok((status, err))
+}
+
+#[test]
+fn statuses(rt: HostRuntime) -> Result<(), Fail> {
+    let name = ["f77run"];
+    let rows = [
+        (ANSWER, 100, 0, ""),
+        ("", 100, 2, "REFUSED N2 LINE 1\n"),
+        (
+            "      I=2147483647\n      I=I+1\n      END\n",
+            100,
+            1,
+            "FAULT F2 LINE 2\n",
+        ),
+        (ANSWER, 3, 5, "WRITE REFUSED\n"),
+        // a flush that fails takes the place of the ending
+        (ANSWER, 7, 5, "WRITE REFUSED\n"),
+    ];
+    for (source, room, status, line) in rows {
+        let (found, told) = whole(&rt, name.as_slice(), source.as_bytes(), room)?;
+        assert_eq!(rt; found, status, "{source}");
+        assert_eq!(rt; told.as_slice(), line.as_bytes(), "{source}");
+    }
+    let (status, told) = whole(&rt, ["f77run", "a.f", "b.f"].as_slice(), b"", 100)?;
+    assert_eq!(rt; status, 3);
+    assert_eq!(rt;
+        told.as_slice(),
+        b"more than one file is named; usage: f77run [FILE]\n".as_slice()
+    );
+    let (status, told) = whole(&rt, ["f77run", "--turns"].as_slice(), b"", 100)?;
+    assert_eq!(rt; status, 3);
+    assert_eq!(rt;
+        told.as_slice(),
+        b"there are no options; usage: f77run [FILE]\n".as_slice()
+    );
+    let (status, told) = whole(&rt, ["f77run", "no such file.f"].as_slice(), b"", 100)?;
+    assert_eq!(rt; status, 5);
+    assert_eq!(rt; told.as_slice(), b"FILE REFUSED\n".as_slice());
+    Ok(())
+}

@@ -1,0 +1,260 @@
+-- What is read is spelled so, and well formed.
+use Rattle.std.proofs.Common.{◌≡◌, ℕ, zero, suc, ◌+◌, ◌≤◌, true, leb, eqb, List, [], ◌∷◌, ◌++◌, length, Option, Some, None, inl, inr, refl, sym, ap, subst, ◌∙◌, append_assoc, arith}
+use Rattle.std.specs.Prelude.{IsTrue, codes}
+use Rattle.std.proofs.lemmas.Bool.{cases_Bool, and_parts, eqb-true, leb-true, le-leb}
+use Rattle.std.proofs.lemmas.Bool.Decides.{nat_tests}
+use Rattle.std.proofs.lemmas.Option.{cond_some, same_Some}
+use Rattle.std.proofs.lemmas.List.{append-nil}
+use Rattle.meaning.specs.declared.syntax.Sign.{Sign}
+use Rattle.meaning.specs.declared.syntax.Sign.TheVariants as signs
+use Rattle.meaning.specs.declared.syntax.Operator.{Operator}
+use Rattle.meaning.specs.declared.syntax.Operator.TheVariants as operators
+use Rattle.meaning.specs.Characters.{is_digit, is_alphanumeric, is_name, is_number, is_label}
+use Rattle.meaning.specs.Syntax.{ExprTree, number, name, signed, binary, UnitTree, star, unit_number, ShapeTree, assignment, writing, format, ending}
+use Rattle.meaning.specs.Spelling.{sign_byte, operator_text, spell_expr, level, level_of, IsWellExpr, spell_more, spell_list, AreWellExprs, spell_unit, IsWellUnit, Reads}
+use Rattle.meaning.specs.declared.syntax.Kind.{Kind}
+use Rattle.meaning.specs.declared.syntax.Kind.TheVariants as kinds
+use Rattle.meaning.specs.Kinds.{kind_of}
+use Rattle.meaning.specs.Reading.{Text, Reader, ◌>>=◌, either, run, sign_at, operator_at, name_at, label_at, primary_at, front_at, may_follow, operations_at, expression_at, whole_expression_at, expressions_at, list_of, unit_at, at_end, after, assignment_of, writing_of, format_of, ending_of, shape_of}
+use Rattle.parser.proofs.Words.{after_takes, before_takes, bind_some, when_some, made_is, run_takes, run_passes}
+
+-- ---- tokens
+
+-- the text is the spelling of what was read, and the rest
+abbrev pub Takes : {A : Type 0} → (A → Text) → Text → A × Text → Type 0
+Takes spelled t x = t ≡ spelled x.0 ++ x.1
+
+pub sign_takes : (t : Text) (x : Sign × Text) → sign_at t ≡ Some x → t ≡ sign_byte x.0 ∷ x.1
+unfolding sign_at
+sign_takes [] x e = absurd cc
+sign_takes (c ∷ t) x e =
+    let P : Sign × Text → Type 0 = λ y. c ∷ t ≡ sign_byte y.0 ∷ y.1 in
+    elim (cases_Bool (eqb c 43)) [
+      | inl plus ↦ made_is P (signs.Plus, t) x (rw plus at e) (rw (eqb-true c 43 plus) refl)
+      | inr other ↦ elim (cases_Bool (eqb c 45)) [
+        | inl minus ↦ made_is P (signs.Minus, t) x (rw (other, minus) at e) (rw (eqb-true c 45 minus) refl)
+        | inr none ↦ let no : None ≡ Some x = rw (other, none) at e in absurd cc
+      ]
+    ]
+
+pub operator_takes : (t : Text) (x : Operator × Text) → operator_at t ≡ Some x → t ≡ operator_text x.0 ++ x.1
+unfolding operator_at
+operator_takes [] x e = absurd cc
+operator_takes (c ∷ t) x e =
+    let P : Operator × Text → Type 0 = λ y. c ∷ t ≡ operator_text y.0 ++ y.1 in
+    elim (cases_Bool (eqb c 43)) [
+      | inl plus ↦ made_is P (operators.Add, t) x (rw plus at e) (rw (eqb-true c 43 plus) refl)
+      | inr other ↦ elim (cases_Bool (eqb c 45)) [
+        | inl minus ↦ made_is P (operators.Subtract, t) x (rw (other, minus) at e) (rw (eqb-true c 45 minus) refl)
+        | inr more ↦ elim (cases_Bool (eqb c 42)) [
+          | inl times ↦ made_is P (operators.Multiply, t) x (rw (other, more, times) at e) (rw (eqb-true c 42 times) refl)
+          | inr none ↦ let no : None ≡ Some x = rw (other, more, none) at e in absurd cc
+        ]
+      ]
+    ]
+
+pub name_takes : (t : Text) (x : Text × Text) → name_at t ≡ Some x → (t ≡ x.0 ++ x.1) × IsTrue (is_name x.0)
+unfolding name_at
+name_takes t x e =
+    let q = cond_some (is_name (run is_alphanumeric t).0) (run is_alphanumeric t) x e in
+    subst (λ (y : Text × Text). (t ≡ y.0 ++ y.1) × IsTrue (is_name y.0)) q.1 (run_takes is_alphanumeric t, q.0)
+
+pub label_takes : (t : Text) (x : Text × Text) → label_at t ≡ Some x → (t ≡ x.0 ++ x.1) × IsTrue (is_label x.0)
+unfolding label_at
+label_takes t x e =
+    let q = cond_some (is_label (run is_digit t).0) (run is_digit t) x e in
+    subst (λ (y : Text × Text). (t ≡ y.0 ++ y.1) × IsTrue (is_label y.0)) q.1 (run_takes is_digit t, q.0)
+
+-- ---- expressions
+
+-- the text begins with the spelling of an expression that binds this strongly
+pub record Begins (least : ℕ) (t : Text) (x : ExprTree × Text) : Type 0 where
+  pub whole : t ≡ spell_expr x.0 ++ x.1
+  pub well : IsWellExpr x.0
+  pub strong : least ≤ level_of x.0
+
+digits_are : (c : ℕ) (t : Text) → is_digit c ≡ true → is_number (run is_digit (c ∷ t)).0 ≡ true
+unfolding run
+digits_are c t digit = rw (digit, digit, run_passes is_digit t) (grind (arith, nat_tests))
+
+pub primary_takes : (least : ℕ) (t : Text) (x : ExprTree × Text) → least ≤ 8 → primary_at t ≡ Some x → Begins least t x
+unfolding primary_at ◌>>=◌
+primary_takes least [] x low e = absurd cc
+primary_takes least (c ∷ t) x low e =
+    elim (cases_Bool (is_digit c)) [
+      | inl digit ↦ made_is (Begins least (c ∷ t)) (number (run is_digit (c ∷ t)).0, (run is_digit (c ∷ t)).1) x (rw digit at e)
+          (record { whole = run_takes is_digit (c ∷ t); well = digits_are c t digit; strong = low })
+      | inr other ↦ bind_some (name_at (c ∷ t)) (λ n. Some (name n.0, n.1)) x (rw other at e) (λ n e1 e2.
+          let m = name_takes (c ∷ t) n e1 in
+          made_is (Begins least (c ∷ t)) (name n.0, n.1) x e2 (record { whole = m.0; well = m.1; strong = low }))
+    ]
+
+-- what is read by a reader of expressions
+abbrev pub ReadsWell : (ℕ → Reader ExprTree) → Type 0
+ReadsWell rec = (least : ℕ) (t : Text) (x : ExprTree × Text) → least ≤ 8 → rec least t ≡ Some x → Begins least t x
+
+-- no operator binds so strongly that nothing could stand on its right
+pub level_below : (o : Operator) → level o + 1 ≤ 8
+level_below operators.Add = omega arith
+level_below operators.Subtract = omega arith
+level_below operators.Multiply = omega arith
+
+module _ (rec : ℕ → Reader ExprTree) (reads_well : ReadsWell rec) where
+  pub front_takes : (least : ℕ) (t : Text) (x : ExprTree × Text) → least ≤ 8 → front_at rec least t ≡ Some x → Begins least t x
+  unfolding front_at either ◌>>=◌
+  front_takes least t x low e = at_sign (sign_at t) refl
+    where
+      at_sign : (o : Option (Sign × Text)) → sign_at t ≡ o → Begins least t x
+      at_sign None is = primary_takes least t x low (rw is at e)
+      at_sign (Some s) is =
+          when_some (leb least 5) (rec 6 s.1 >>= λ e. Some (signed s.0 e.0, e.1)) x (rw is at e) (λ lets e1.
+          bind_some (rec 6 s.1) (λ e. Some (signed s.0 e.0, e.1)) x e1 (λ y e2 e3.
+          let b = reads_well 6 s.1 y (omega arith) e2 in
+          made_is (Begins least t) (signed s.0 y.0, y.1) x e3 (record {
+            whole = sign_takes t s is ∙ ap (λ u. sign_byte s.0 ∷ u) b.whole;
+            well = (b.well, le-leb 6 (level_of y.0) b.strong);
+            strong = leb-true least 5 lets;
+          })))
+
+  pub operations_take : (n least : ℕ) (left : ExprTree) (t : Text) (x : ExprTree × Text) → IsWellExpr left → least ≤ level_of left → operations_at rec n least left t ≡ Some x → Begins least (spell_expr left ++ t) x
+  unfolding operations_at either ◌>>=◌
+  operations_take zero least left t x well strong e = made_is (Begins least (spell_expr left ++ t)) (left, t) x e (record { whole = refl; well = well; strong = strong })
+  operations_take (suc n) least left t x well strong e = at_operator (operator_at t) refl (operations_take n)
+    where
+      ends : Some (left, t) ≡ Some x → Begins least (spell_expr left ++ t) x
+      ends e = made_is (Begins least (spell_expr left ++ t)) (left, t) x e (record { whole = refl; well = well; strong = strong })
+
+      at_operator : (o : Option (Operator × Text)) → operator_at t ≡ o
+          → ((least : ℕ) (left : ExprTree) (t : Text) (x : ExprTree × Text) → IsWellExpr left → least ≤ level_of left → operations_at rec n least left t ≡ Some x → Begins least (spell_expr left ++ t) x)
+          → Begins least (spell_expr left ++ t) x
+      at_operator None is again = ends (rw is at e)
+      at_operator (Some o) is again =
+          elim (cases_Bool (may_follow least left o.0)) [
+            | inr stops ↦ ends (rw (is, stops) at e)
+            | inl follows ↦
+                bind_some (rec (level o.0 + 1) o.1) (λ right. operations_at rec n least (binary o.0 left right.0) right.1) x (rw (is, follows) at e) (λ right e1 e2.
+                let both = and_parts (leb least (level o.0)) (leb (level o.0) (level_of left)) follows in
+                let b = reads_well (level o.0 + 1) o.1 right (level_below o.0) e1 in
+                let more = again least (binary o.0 left right.0) right.1 x (well, (b.well, (both.1, le-leb (level o.0 + 1) (level_of right.0) b.strong))) (leb-true least (level o.0) both.0) e2 in
+                rw (operator_takes t o is, b.whole) (simp append_assoc at more))
+          ]
+
+pub expression_takes : (n : ℕ) → ReadsWell (expression_at n)
+unfolding expression_at ◌>>=◌
+expression_takes zero least t x low e = absurd cc
+expression_takes (suc n) least t x low e =
+    bind_some (front_at (expression_at n) least t) (λ e. operations_at (expression_at n) (length e.1) least e.0 e.1) x e (λ y e1 e2.
+    let b = front_takes (expression_at n) (expression_takes n) least t y low e1 in
+    rw b.whole (operations_take (expression_at n) (expression_takes n) (length y.1) least y.0 y.1 x b.well b.strong e2))
+
+pub whole_takes : (t : Text) (x : ExprTree × Text) → whole_expression_at t ≡ Some x → Begins 0 t x
+unfolding whole_expression_at
+whole_takes t x e = expression_takes (suc (length t)) 0 t x (omega arith) e
+
+-- ---- lists and units
+
+pub record BeginsList (t : Text) (x : List ExprTree × Text) : Type 0 where
+  pub whole : t ≡ spell_list x.0 ++ x.1
+  pub well : AreWellExprs x.0
+  pub has_one : spell_more x.0 ≡ 44 ∷ spell_list x.0
+
+pub expressions_take : (n : ℕ) (t : Text) (x : List ExprTree × Text) → expressions_at n t ≡ Some x → BeginsList t x
+unfolding expressions_at either ◌>>=◌
+expressions_take zero t x e = absurd cc
+expressions_take (suc n) t x e =
+    bind_some (whole_expression_at t) (λ e. either (after (44 ∷ []) e.1) (Some (e.0 ∷ [], e.1)) (λ rest. expressions_at n rest >>= λ es. Some (e.0 ∷ es.0, es.1))) x e (λ y e1 e2.
+    at_comma n t y x (whole_takes t y e1) (after (44 ∷ []) y.1) refl e2 (λ u z e. expressions_take n u z e))
+  where
+    at_comma : (n : ℕ) (t : Text) (y : ExprTree × Text) (x : List ExprTree × Text) → Begins 0 t y → (o : Option Text) → after (44 ∷ []) y.1 ≡ o
+        → either o (Some (y.0 ∷ [], y.1)) (λ rest. expressions_at n rest >>= λ es. Some (y.0 ∷ es.0, es.1)) ≡ Some x
+        → ((u : Text) (z : List ExprTree × Text) → expressions_at n u ≡ Some z → BeginsList u z) → BeginsList t x
+    at_comma n t y x b None is e again = made_is (BeginsList t) (y.0 ∷ [], y.1) x e (record { whole = rw append-nil b.whole; well = (b.well, tt); has_one = refl })
+    at_comma n t y x b (Some u) is e again =
+        bind_some (expressions_at n u) (λ es. Some (y.0 ∷ es.0, es.1)) x e (λ z e1 e2.
+        let m = again u z e1 in
+        made_is (BeginsList t) (y.0 ∷ z.0, z.1) x e2 (record {
+          whole = b.whole ∙ ap (λ v. spell_expr y.0 ++ v) (after_takes (44 ∷ []) y.1 u is ∙ ap (λ v. 44 ∷ v) m.whole ∙ ap (λ v. v ++ z.1) (sym m.has_one)) ∙ sym (append_assoc (spell_expr y.0) (spell_more z.0) z.1);
+          well = (b.well, m.well);
+          has_one = refl;
+        }))
+
+ends_takes : {A : Type 0} (x : A × Text) (y : A) → at_end x ≡ Some y → (x.0 ≡ y) × (x.1 ≡ [])
+ends_takes (x, []) y e = (same_Some x y e, refl)
+ends_takes (x, c ∷ t) y e = absurd cc
+
+pub list_takes : (t : Text) (es : List ExprTree) → list_of t ≡ Some es → (t ≡ spell_list es) × AreWellExprs es
+unfolding list_of ◌>>=◌
+list_takes [] es e = made_is (λ es. ([] ≡ spell_list es) × AreWellExprs es) [] es e (refl, tt)
+list_takes (c ∷ t) es e =
+    bind_some (expressions_at (suc (length (c ∷ t))) (c ∷ t)) at_end es e (λ x e1 e2.
+    let b = expressions_take (suc (length (c ∷ t))) (c ∷ t) x e1 in
+    let m = ends_takes x es e2 in
+    subst (λ es. (c ∷ t ≡ spell_list es) × AreWellExprs es) m.0 (b.whole ∙ ap (λ r. spell_list x.0 ++ r) m.1 ∙ append-nil (spell_list x.0), b.well))
+
+pub unit_takes : (t : Text) (x : UnitTree × Text) → unit_at t ≡ Some x → (t ≡ spell_unit x.0 ++ x.1) × IsWellUnit x.0
+unfolding unit_at either ◌>>=◌
+unit_takes t x e = at_star (after (42 ∷ []) t) refl
+  where
+    at_star : (o : Option Text) → after (42 ∷ []) t ≡ o → (t ≡ spell_unit x.0 ++ x.1) × IsWellUnit x.0
+    at_star (Some u) is = made_is (λ x. (t ≡ spell_unit x.0 ++ x.1) × IsWellUnit x.0) (star, u) x (rw is at e) (after_takes (42 ∷ []) t u is, tt)
+    at_star None is =
+        bind_some (whole_expression_at t) (λ e. Some (unit_number e.0, e.1)) x (rw is at e) (λ y e1 e2.
+        let b = whole_takes t y e1 in
+        made_is (λ x. (t ≡ spell_unit x.0 ++ x.1) × IsWellUnit x.0) (unit_number y.0, y.1) x e2 (b.whole, b.well))
+
+-- ---- statements
+
+assignment_takes : (t : Text) (s : ShapeTree) → assignment_of t ≡ Some s → Reads t s
+unfolding assignment_of
+assignment_takes t s e =
+    bind_some _ _ s e (λ n e1 e. bind_some _ _ s e (λ rest e2 e. bind_some _ _ s e (λ x e3 e. bind_some _ _ s e (λ v e4 e.
+    let a = name_takes t n e1 in
+    let b = after_takes (61 ∷ []) n.1 rest e2 in
+    let c = whole_takes rest x e3 in
+    let d = ends_takes x v e4 in
+    made_is (Reads t) (assignment n.0 v) s e (record {
+      well = (a.1, subst IsWellExpr d.0 c.well);
+      spelled = rw (a.0, b, c.whole, d.0, d.1, append-nil) refl;
+    })))))
+
+writing_takes : (t : Text) (s : ShapeTree) → writing_of t ≡ Some s → Reads t s
+unfolding writing_of
+writing_takes t s e =
+    bind_some _ _ s e (λ rest e1 e. bind_some _ _ s e (λ u e2 e. bind_some _ _ s e (λ behind e3 e. bind_some _ _ s e (λ l e4 e. bind_some _ _ s e (λ list e5 e. bind_some _ _ s e (λ es e6 e.
+    let a = after_takes (codes "WRITE(") t rest e1 in
+    let b = unit_takes rest u e2 in
+    let c = after_takes (44 ∷ []) u.1 behind e3 in
+    let d = label_takes behind l e4 in
+    let f = after_takes (41 ∷ []) l.1 list e5 in
+    let g = list_takes list es e6 in
+    made_is (Reads t) (writing u.0 l.0 es) s e (record {
+      well = (b.1, (d.1, g.1));
+      spelled = rw (a, b.0, c, d.0, f, g.0) refl;
+    })))))))
+
+format_takes : (t : Text) (s : ShapeTree) → format_of t ≡ Some s → Reads t s
+unfolding format_of
+format_takes t s e =
+    bind_some _ _ s e (λ rest e1 e. bind_some _ _ s e (λ text e2 e. when_some _ _ s e (λ is_text e.
+    let a = after_takes (codes "FORMAT(") t rest e1 in
+    let b = before_takes rest text e2 in
+    made_is (Reads t) (format text) s e (record { well = is_text; spelled = rw (a, b) refl }))))
+
+ending_takes : (t : Text) (s : ShapeTree) → ending_of t ≡ Some s → Reads t s
+unfolding ending_of
+ending_takes t s e =
+    bind_some _ _ s e (λ rest e1 e.
+    let a = after_takes (codes "END") t rest e1 in
+    let b = ends_takes (ending, rest) s e in
+    subst (Reads t) b.0 (record { well = tt; spelled = rw (a, b.1) refl }))
+
+pub shape_takes : (t : Text) (s : ShapeTree) → shape_of t ≡ Some s → Reads t s
+unfolding shape_of
+shape_takes t s e = at_kind (kind_of t) refl
+  where
+    at_kind : (k : Kind) → kind_of t ≡ k → Reads t s
+    at_kind kinds.Assignment is = assignment_takes t s (rw (is, shape_of) at e)
+    at_kind kinds.Write is = writing_takes t s (rw (is, shape_of) at e)
+    at_kind kinds.Format is = format_takes t s (rw (is, shape_of) at e)
+    at_kind kinds.End is = ending_takes t s (rw (is, shape_of) at e)
+    at_kind kinds.Other is = let no : None ≡ Some s = rw (is, shape_of) at e in absurd cc

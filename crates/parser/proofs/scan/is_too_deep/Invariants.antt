@@ -1,0 +1,9 @@
+use Rattle.std.proofs.Common.{◌≡◌, ◌≤◌, drop, false, ltb}
+use Rattle.meaning.specs.Reading.{most_open}
+use Rattle.parser.proofs.scan.is_too_deep.Given as goal
+
+abbrev pub invariant-loop-c : goal.invariant-loop-c
+invariant-loop-c l = record {
+  low : l.depth ≤ 64;
+  same : ltb 64 (most_open l.depth l.inside (drop l.c-index l.text)) ≡ ltb 64 (most_open 0 false l.text);
+}

@@ -1,0 +1,287 @@
+use super::*;
+use meaning::refusal::Refusal;
+use meaning::statement::{Bare, Statement};
+use meaning::syntax::{Expr, Exprs, Form, Kind, Operator, Shape, Sign, Unit};
+use std::alloc::{AllocError, Global};
+use std::test::*;
+
+/// A text of 1320 bytes at most, at line 7.
+fn bare_of(alloc: Global, text: &[u8]) -> Result<Option<Bare>, AllocError> {
+    if text.len() > 1320 {
+        return Ok(None);
+    }
+    Ok(Some(Bare {
+        line: 7,
+        text: Vec::from_slice(alloc, text)?,
+    }))
+}
+
+/// An expression with parentheses round each sign and each operator with its operands.
+fn write_expression(out: &mut Vec<u8>, expression: &Expr) -> Result<(), AllocError> {
+    match expression {
+        Expr::Number(digits) => out.extend_from_slice(digits)?,
+        Expr::Name(name) => out.extend_from_slice(name)?,
+        Expr::Signed(sign, operand) => {
+            out.push(b'(')?;
+            out.push(match sign {
+                Sign::Plus => b'+',
+                Sign::Minus => b'-',
+            })?;
+            write_expression(out, operand)?;
+            out.push(b')')?;
+        }
+        Expr::Binary(operator, left, right) => {
+            out.push(b'(')?;
+            write_expression(out, left)?;
+            out.push(match operator {
+                Operator::Add => b'+',
+                Operator::Subtract => b'-',
+                Operator::Multiply => b'*',
+            })?;
+            write_expression(out, right)?;
+            out.push(b')')?;
+        }
+    }
+    Ok(())
+}
+
+/// Expressions, each with a semicolon before it.
+fn write_list(out: &mut Vec<u8>, list: &Exprs) -> Result<(), AllocError> {
+    match list {
+        Exprs::Empty => Ok(()),
+        Exprs::More(first, others) => {
+            out.push(b';')?;
+            write_expression(out, first)?;
+            write_list(out, others)
+        }
+    }
+}
+
+fn write_shape(out: &mut Vec<u8>, shape: &Shape) -> Result<(), AllocError> {
+    match shape {
+        Shape::Assignment { name, value } => {
+            out.extend_from_slice(b"assign ")?;
+            out.extend_from_slice(name)?;
+            out.push(b' ')?;
+            write_expression(out, value)?;
+        }
+        Shape::Write { unit, label, list } => {
+            out.extend_from_slice(b"write ")?;
+            match unit {
+                Unit::Star => out.push(b'*')?,
+                Unit::Number(number) => write_expression(out, number)?,
+            }
+            out.push(b' ')?;
+            out.extend_from_slice(label)?;
+            write_list(out, list)?;
+        }
+        Shape::Format(text) => {
+            out.extend_from_slice(b"format ")?;
+            out.extend_from_slice(text)?;
+        }
+        Shape::End => out.extend_from_slice(b"end")?,
+    }
+    Ok(())
+}
+
+/// What a bare text reads as, with its parts told apart, or its refusal.
+fn reading(alloc: Global, text: &[u8]) -> Result<String, Fail> {
+    let bare = bare_of(alloc, text)?.ok_or("the text is too long")?;
+    match form(alloc, &bare) {
+        Ok(Form { shape }) => {
+            let mut out = Vec::new(alloc);
+            write_shape(&mut out, &shape)?;
+            Ok(String::from_utf8(out).ok().ok_or("the form is no text")?)
+        }
+        Err(Refusal::Rule { rule, line }) => Ok(format!(in alloc; "{rule} {line}")?),
+        Err(Refusal::Memory) => Ok(format!(in alloc; "memory")?),
+    }
+}
+
+#[test]
+fn forms(rt: HostRuntime) -> Result<(), Fail> {
+    let table = [
+        ("I=3", "assign I 3"),
+        ("J=2-I*4", "assign J (2-(I*4))"),
+        ("J=2*I-4", "assign J ((2*I)-4)"),
+        ("I=A-B-C", "assign I ((A-B)-C)"),
+        ("I=A*B*C", "assign I ((A*B)*C)"),
+        ("I=-A*B", "assign I (-(A*B))"),
+        ("I=-A+B", "assign I ((-A)+B)"),
+        ("I=+3", "assign I (+3)"),
+        ("ABCDEF=1", "assign ABCDEF 1"),
+        ("DO10I=1", "assign DO10I 1"),
+        ("END=1", "assign END 1"),
+        ("WRITE=2", "assign WRITE 2"),
+        ("FORMAT=3", "assign FORMAT 3"),
+        ("READ=3", "assign READ 3"),
+        ("CALL=1", "assign CALL 1"),
+        ("WRITE(6,10)I,J", "write 6 10;I;J"),
+        ("WRITE(6,10)42", "write 6 10;42"),
+        ("WRITE(6,10)-I*2,J", "write 6 10;(-(I*2));J"),
+        ("WRITE(*,10)", "write * 10"),
+        ("WRITE(3+3,010)", "write (3+3) 010"),
+        ("FORMAT(1X,I5)", "format 1X,I5"),
+        ("FORMAT()", "format "),
+        ("FORMAT('(')", "format '('"),
+        ("FORMAT((I5),'=')", "format (I5),'='"),
+        ("END", "end"),
+    ];
+    for (text, wanted) in table {
+        assert_eq!(rt; reading(rt.alloc(), text.as_bytes())?.as_str(), wanted);
+    }
+    Ok(())
+}
+
+#[test]
+fn refusals(rt: HostRuntime) -> Result<(), Fail> {
+    let no_reading = [
+        "",
+        "I",
+        "I=",
+        "=3",
+        "I=2*-3",
+        "I=A*-B",
+        "I=A+-B",
+        "I=--3",
+        "I=(3)",
+        "I=3+",
+        "I=3=4",
+        "I=3)",
+        "I=3A",
+        "1A=2",
+        "ABCDEFG=1",
+        "TOOLONGNAME=1",
+        "I_J=1",
+        "i=1",
+        "ENDX",
+        "FORMAT(I5",
+        "FORMAT(I5))",
+        "FORMAT(')",
+        "FORMAT",
+        "WRITE(6,0)",
+        "WRITE(6,000000)",
+        "WRITE(6,000001)",
+        "WRITE(6,123456)",
+        "WRITE(6,10)I,",
+        "WRITE(6,10),I",
+        "WRITE(6,10)I J",
+        "WRITE(6)",
+        "WRITE(,10)",
+        "GOTO10",
+        "CONTINUE",
+    ];
+    for text in no_reading {
+        assert_eq!(rt;
+            reading(rt.alloc(), text.as_bytes())?.as_str(),
+            "G1 7",
+            "{text}"
+        );
+    }
+    let left_out = [
+        "READ(5,*)N",
+        "PRINT*,I",
+        "WRITE(*,*)I",
+        "WRITE(6,*)",
+        "CALLF",
+        "REALX",
+        "ENDFILE6",
+        "SUBROUTINEF(X)",
+        "IMPLICITREAL(A-H)",
+    ];
+    for text in left_out {
+        assert_eq!(rt;
+            reading(rt.alloc(), text.as_bytes())?.as_str(),
+            "G2 7",
+            "{text}"
+        );
+    }
+    Ok(())
+}
+
+/// A text with this many parentheses that are opened behind it.
+fn opened(alloc: Global, front: &[u8], count: usize) -> Result<Vec<u8>, AllocError> {
+    let mut text = Vec::from_slice(alloc, front)?;
+    for _ in 0..count {
+        text.push(b'(')?;
+    }
+    Ok(text)
+}
+
+#[test]
+fn parentheses(rt: HostRuntime) -> Result<(), Fail> {
+    let table: [(&str, usize, &str); 5] = [
+        ("CALLF", 64, "G2 7"),
+        ("CALLF", 65, "G3 7"),
+        ("I=", 64, "G1 7"),
+        ("I=", 65, "G3 7"),
+        ("I='", 65, "G1 7"),
+    ];
+    for (front, count, wanted) in table {
+        let text = opened(rt.alloc(), front.as_bytes(), count)?;
+        assert_eq!(rt; reading(rt.alloc(), &text)?.as_str(), wanted, "{count}");
+    }
+    Ok(())
+}
+
+/// The longest texts are read within the stack.
+#[test]
+fn long_texts(rt: HostRuntime) -> Result<(), Fail> {
+    for (front, more) in [("I=1", "-1"), ("WRITE(6,10)I", ",I")] {
+        let mut text = Vec::from_slice(rt.alloc(), front.as_bytes())?;
+        for _ in 0..650 {
+            text.extend_from_slice(more.as_bytes())?;
+        }
+        let read = bare_of(rt.alloc(), &text)?.ok_or("the text is too long")?;
+        assert!(rt; form(rt.alloc(), &read).is_ok());
+    }
+    Ok(())
+}
+
+#[test]
+fn bare_texts(rt: HostRuntime) -> Result<(), Fail> {
+    let table = [
+        ("wRiTe (6, 10) ' a B'", "WRITE(6,10)' a B'"),
+        (" x = 'it''s a B' + y ", "X='it''s a B'+Y"),
+        ("D O 10 I = 1", "DO10I=1"),
+        ("", ""),
+    ];
+    for (columns, wanted) in table {
+        let statement = statement_of(rt.alloc(), columns.as_bytes())?.ok_or(
+            "the text is too long",
+        )?;
+        let read = bare(rt.alloc(), &statement)?;
+        assert_eq!(rt; read.line, 3);
+        assert_eq!(rt; read.text.as_slice(), wanted.as_bytes());
+    }
+    Ok(())
+}
+
+/// A statement at line 3.
+fn statement_of(alloc: Global, columns: &[u8]) -> Result<Option<Statement>, AllocError> {
+    if columns.len() > 1320 {
+        return Ok(None);
+    }
+    Ok(Some(Statement {
+        line: 3,
+        label: None,
+        text: Vec::from_slice(alloc, columns)?,
+    }))
+}
+
+#[test]
+fn kinds(rt: HostRuntime) -> Result<(), Fail> {
+    let table = [
+        ("DO10I=1", Kind::Assignment),
+        ("END=1", Kind::Assignment),
+        ("WRITE(6,10)I,J", Kind::Write),
+        ("FORMAT('=',(A='))", Kind::Format),
+        ("ENDX", Kind::End),
+        ("GOTO10", Kind::Other),
+    ];
+    for (text, wanted) in table {
+        let read = bare_of(rt.alloc(), text.as_bytes())?.ok_or("the text is too long")?;
+        assert_eq!(rt; kind(&read), wanted, "{text}");
+    }
+    Ok(())
+}
