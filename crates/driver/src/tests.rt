@@ -148,9 +148,8 @@ fn refused_sources(rt: HostRuntime) {
 fn long_sources(rt: HostRuntime) -> Result<(), Fail> {
     // comment lines up to 1,048,576 bytes are read, one byte more is not
     let mut source = Vec::from_slice(rt.alloc(), ANSWER.as_bytes())?;
-    while source.len() < 1_048_576 {
-        let filler: &[u8] = if source.len() % 64 == 63 { b"\n" } else { b"*" };
-        source.extend_from_slice(filler)?;
+    for place in source.len()..1_048_576 {
+        source.push(if place % 64 == 63 { b'\n' } else { b'*' })?;
     }
     let (ending, _) = outcome(rt.alloc(), &source, MANY);
     assert_eq!(rt; ending, Ending::Ended);

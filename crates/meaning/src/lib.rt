@@ -6,3 +6,5 @@ pub mod number;
 pub mod refusal;
 pub mod statement;
 pub mod syntax;
+#[cfg(test)]
+mod tests;

@@ -20,10 +20,6 @@ use Rattle.parser.proofs.Words.{after_takes, before_takes, bind_some, when_some,
 
 -- ---- tokens
 
--- the text is the spelling of what was read, and the rest
-abbrev pub Takes : {A : Type 0} → (A → Text) → Text → A × Text → Type 0
-Takes spelled t x = t ≡ spelled x.0 ++ x.1
-
 pub sign_takes : (t : Text) (x : Sign × Text) → sign_at t ≡ Some x → t ≡ sign_byte x.0 ∷ x.1
 unfolding sign_at
 sign_takes [] x e = absurd cc

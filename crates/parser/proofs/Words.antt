@@ -30,6 +30,7 @@ made_is P made x e p = subst P (same_Some made x e) p
 
 -- ---- words
 
+-- a word that is read stands at the front
 pub after_takes : (w t r : List ℕ) → after w t ≡ Some r → t ≡ w ++ r
 unfolding after when
 after_takes [] t r e = cc
@@ -40,6 +41,7 @@ after_takes (x ∷ w) (c ∷ t) r e =
       | inr other ↦ let no : None ≡ Some r = rw other at e in absurd cc
     ]
 
+-- a word at the front is read
 pub after_again : (w r : List ℕ) → after w (w ++ r) ≡ Some r
 unfolding after when
 after_again [] r = refl
@@ -56,6 +58,7 @@ behind_is t w (Some x) said = sym (ap (after w) (strip_prefix_is Decides-eqb t w
 
 -- ---- what stands before a last parenthesis
 
+-- a last parenthesis that is read stands at the end
 pub before_takes : (t r : List ℕ) → before_last_parenthesis t ≡ Some r → t ≡ r ++ 41 ∷ []
 unfolding before_last_parenthesis ◌>>=◌ when
 before_takes [] r e = absurd cc
@@ -68,6 +71,7 @@ before_takes (c ∷ d ∷ t) r e =
     bind_some (before_last_parenthesis (d ∷ t)) (λ r. Some (c ∷ r)) r e (λ front e1 e2.
     made_is (λ (r : List ℕ). c ∷ d ∷ t ≡ r ++ 41 ∷ []) (c ∷ front) r e2 (ap (λ x. c ∷ x) (before_takes (d ∷ t) front e1)))
 
+-- one at the end is read
 pub before_again : (r : List ℕ) → before_last_parenthesis (r ++ 41 ∷ []) ≡ Some r
 unfolding before_last_parenthesis ◌>>=◌ when
 before_again [] = refl
@@ -81,6 +85,7 @@ before_is t (Some x) said = sym (ap before_last_parenthesis (strip_suffix_is Dec
 
 -- ---- runs
 
+-- a run as the front and the rest of a text
 pub run_is : (test : ℕ → Bool) (t : List ℕ) → run test t ≡ (take (prefix_len test t) t, drop (prefix_len test t) t)
 unfolding run
 run_is test [] = refl
@@ -118,6 +123,7 @@ abbrev pub stops_at : (ℕ → Bool) → List ℕ → Type 0
 stops_at test [] = Unit {0}
 stops_at test (c ∷ t) = test c ≡ false
 
+-- a run ends where a character doesn't pass
 pub run_again : (test : ℕ → Bool) (a t : List ℕ) → list_all test a ≡ true → stops_at test t → run test (a ++ t) ≡ (a, t)
 unfolding run
 run_again test [] [] passes stops = refl
