@@ -57,11 +57,7 @@ fn is_format_label(labels: &BTreeSet<u32>, digits: &[u8]) -> bool
 }
 
 // Whether a statement has a unit, a format label or a format that isn't allowed.
-fn is_misformed(
-    alloc: Global,
-    labels: &BTreeSet<u32>,
-    member: &Member,
-) -> Result<bool, AllocError>
+fn is_misformed(alloc: Global, labels: &BTreeSet<u32>, member: &Member) -> Result<bool, AllocError>
     ensures { (all : List MemberTree) → KnowsFormats (contains nat_cmp labels.now) all → IfOk result (λ b. b ≡ is_broken all member.now.label (shape_tree member.now.form.shape)) }
 {
     match &member.form.shape {
@@ -80,10 +76,7 @@ fn is_misformed(
 }
 
 // K11: the least pair of the statements.
-pub fn misformed_statement(
-    alloc: Global,
-    members: &[Member],
-) -> Result<Option<Broken>, AllocError>
+pub fn misformed_statement(alloc: Global, members: &[Member]) -> Result<Option<Broken>, AllocError>
     ensures { IfOk result (λ b. b ≡ least (flat_map (misformed (map member_tree members.now)) (map member_tree members.now))) }
 {
     let labels = format_labels(alloc, members)?;

@@ -168,10 +168,7 @@ fn add_names_of(
 }
 
 // The variables of the statements, in the order of their first appearance.
-pub fn names_in_order(
-    alloc: Global,
-    members: &[Member],
-) -> Result<IndexSet<Vec<u8>>, AllocError>
+pub fn names_in_order(alloc: Global, members: &[Member]) -> Result<IndexSet<Vec<u8>>, AllocError>
     ensures { IfOk result (λ names. Numbers names.keys (map member_tree members.now)) }
 {
     let mut names = IndexSet::new(alloc);

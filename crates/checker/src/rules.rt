@@ -7,12 +7,12 @@ ghost use Rattle.meaning.specs.Refusals.{least};
 ghost use Rattle.meaning.specs.Nesting.{member_tree, nested};
 ghost use Rattle.checker.specs.Checked.{tree_of, IsNumbered};
 
-use crate::program::Program;
 use crate::constants::great_constant;
 use crate::formats::{formats_by_label, misformed_statement};
 use crate::labels::repeated_label;
 use crate::least::lesser;
 use crate::names::{names_in_order, real_name};
+use crate::program::Program;
 use meaning::refusal::{Broken, Refusal};
 use meaning::syntax::{Member, Tree};
 use std::alloc::{AllocError, Global};

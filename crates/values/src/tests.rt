@@ -20,7 +20,11 @@ impl Variables for Fake {
     ghost map = { λ v name subscripts. if bytes_eq name (codes "I") then v.i else v.other };
 
     fn read(&self, name: &[u8]) -> i32 {
-        if name == b"I".as_slice() { self.i } else { self.other }
+        if name == b"I".as_slice() {
+            self.i
+        } else {
+            self.other
+        }
     }
 }
 
@@ -36,12 +40,7 @@ fn signed(alloc: Global, sign: Sign, operand: Expr) -> Result<Expr, AllocError> 
     Ok(Expr::Signed(sign, Box::new(alloc, operand)?))
 }
 
-fn binary(
-    alloc: Global,
-    operator: Operator,
-    left: Expr,
-    right: Expr,
-) -> Result<Expr, AllocError> {
+fn binary(alloc: Global, operator: Operator, left: Expr, right: Expr) -> Result<Expr, AllocError> {
     let left = Box::new(alloc, left)?;
     Ok(Expr::Binary(operator, left, Box::new(alloc, right)?))
 }
@@ -100,7 +99,11 @@ fn operations(rt: HostRuntime) -> Result<(), Fail> {
             constant(alloc, left)?,
             constant(alloc, right)?,
         )?;
-        assert_eq!(rt; value(&both, &Start), want.map(Value::Int), "{left:?} {operator:?} {right:?}");
+        assert_eq!(rt;
+            value(&both, &Start),
+            want.map(Value::Int),
+            "{left:?} {operator:?} {right:?}"
+        );
     }
     Ok(())
 }
@@ -131,7 +134,10 @@ fn least_integer(rt: HostRuntime) -> Result<(), Fail> {
 #[test]
 fn faults_of_operands(rt: HostRuntime) -> Result<(), Fail> {
     let alloc = rt.alloc();
-    for (left, right) in [(b"2147483648", b"0000000000"), (b"0000000000", b"2147483648")] {
+    for (left, right) in [
+        (b"2147483648", b"0000000000"),
+        (b"0000000000", b"2147483648"),
+    ] {
         let product = binary(
             alloc,
             Operator::Multiply,
@@ -147,8 +153,14 @@ fn faults_of_operands(rt: HostRuntime) -> Result<(), Fail> {
 fn names(rt: HostRuntime) -> Result<(), Fail> {
     let alloc = rt.alloc();
     let variables = Fake { i: 7, other: -3 };
-    assert_eq!(rt; value(&variable(alloc, b"I")?, &variables), Ok(Value::Int(7)));
-    assert_eq!(rt; value(&variable(alloc, b"J")?, &variables), Ok(Value::Int(-3)));
+    assert_eq!(rt;
+        value(&variable(alloc, b"I")?, &variables),
+        Ok(Value::Int(7))
+    );
+    assert_eq!(rt;
+        value(&variable(alloc, b"J")?, &variables),
+        Ok(Value::Int(-3))
+    );
     assert_eq!(rt; value(&variable(alloc, b"I")?, &Start), Ok(Value::Int(0)));
     let difference = binary(
         alloc,
