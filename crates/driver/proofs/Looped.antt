@@ -1,5 +1,5 @@
 -- The loop over the statements of a program.
-use Rattle.std.proofs.Common.{◌≡◌, ℕ, ℤ, pos, zero, suc, ◌+◌, ◌<◌, ◌≤◌, List, [], ◌∷◌, ◌++◌, length, get_or, take, drop, map, replicate, Option, Some, None, refl, sym, ap, ◌∙◌, arith, subst, inl, inr}
+use Rattle.std.proofs.Common.{◌≡◌, ℕ, ℤ, pos, zero, suc, ◌+◌, ◌<◌, ◌≤◌, List, [], ◌∷◌, ◌++◌, length, get_or, take, drop, map, replicate, Option, Some, None, Err, refl, sym, ap, ◌∙◌, arith, subst, inl, inr}
 use Rattle.std.specs.Global.{Vec}
 use mathlib.Core.Path.{fun_ext}
 use Rattle.std.proofs.lemmas.Bool.{cases_lt}
@@ -11,7 +11,11 @@ use Rattle.meaning.specs.Rules.{names_of}
 use Rattle.meaning.specs.Maps.{Map, start, place_of, cell_at, map_of}
 use Rattle.meaning.specs.Execution.{Ran, Meaning, ended, step, pass_over, fuelled, exec}
 use Rattle.checker.specs.Numbered.{HoldsAll, Numbers}
-use Rattle.driver.specs.Walk.{Follow, all_from}
+use Rattle.meaning.specs.declared.ending.Fault.{Fault}
+use Rattle.meaning.specs.Promise.{Told}
+use Rattle.driver.specs.declared.halt.Halt.{Halt}
+use Rattle.driver.specs.Walk.{Follow, GoesOn, Faults, Steps, Halts, IsOver, SoFar, all_from}
+use Rattle.driver.proofs.Composed.{so_far_more, over_at_fault, halts_at}
 
 pub named_at : (keys : List (Vec ℕ)) (ms : List Member) (i : ℕ) (m : Member) → i < length ms → m ≡ get_or ms i m → Numbers keys (map member_tree ms) → HoldsAll keys (names_of (shape_tree m.form.shape))
 named_at keys [] i m lt is h = absurd (omega arith)
@@ -57,3 +61,22 @@ zero_cell n (Some i) (x ∷ xs) = refl
 pub start_is : (names : List (List ℕ)) (n : ℕ) → map_of names (replicate n (pos 0)) ≡ start
 unfolding map_of start
 start_is names n = fun_ext (λ x. fun_ext (λ xs. zero_cell n (place_of names x) xs))
+
+-- ---- a turn of the loop, from what was run so far
+
+module _ (program : List MemberTree) (limit : ℕ) (ms : List Member) (whole : Ran) (i : ℕ) (x : Member) (m : Map) (t : ℕ) (old mid new : Told) (lt : i < length ms) (is : x ≡ get_or ms i x) (so_far : SoFar whole (from_place program limit ms i m t) old mid) where
+  -- what the statement at the place does
+  abbrev pub does_here : Follow → Ran
+  does_here go = step program (shape_tree x.form.shape) x.line m t go
+
+  pub turn_goes_on : (n : Map) (u : ℕ) → GoesOn does_here n u mid new → SoFar whole (from_place program limit ms (i + 1) n u) old new
+  turn_goes_on n u goes =
+      so_far_more whole (from_place program limit ms i m t) does_here (behind_place program limit ms i) n u old mid new so_far (at_place program limit ms i x m t lt is) goes
+
+  pub turn_faults : (f : Fault) → Faults does_here f mid new → IsOver whole (Some f) old new
+  turn_faults f faults =
+      over_at_fault whole (from_place program limit ms i m t) does_here (behind_place program limit ms i) f old mid new so_far (at_place program limit ms i x m t lt is) faults
+
+  pub turn_halts : (n : Map) (u : ℕ) (h : Halt) → Steps does_here n u (Err h) mid new → Halts whole.pieces h old new
+  turn_halts n u h steps =
+      halts_at whole (from_place program limit ms i m t) does_here (behind_place program limit ms i) n u h old mid new so_far (at_place program limit ms i x m t lt is) steps

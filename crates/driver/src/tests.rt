@@ -118,6 +118,12 @@ fn refused_sources(rt: HostRuntime) {
             Rule::G1,
             1,
         ),
+        // 65 parentheses open at once
+        (
+            "      (((((((((((((((((((((((((((((((((((((((((((((((((((((((((((((((((\n",
+            Rule::G3,
+            1,
+        ),
         ("      I=1\n", Rule::N2, 1),
         ("      END\n      I=1\n      END\n", Rule::N2, 2),
         ("   10 I=1\n   10 J=1\n      END\n", Rule::K1, 2),

@@ -1,14 +1,12 @@
 use Rattle.std.proofs.Common.{sym, ◌∙◌, subst, arith}
 use Rattle.std.proofs.lemmas.Result.{err_from_is_err_and}
-use Rattle.meaning.specs.Syntax.{shape_tree}
 use Rattle.meaning.specs.Maps.{map_of}
 use Rattle.meaning.specs.Nesting.{flatten}
-use Rattle.meaning.specs.Execution.{step}
 use Rattle.checker.specs.Numbered.{Numbers}
 use Rattle.checker.specs.Checked.{tree_of, names_of_program}
 use Rattle.driver.specs.Walk.{SoFar}
-use Rattle.driver.proofs.Composed.{so_far_none, so_far_more, over_at_end, over_at_fault, halts_at}
-use Rattle.driver.proofs.Looped.{named_at, from_place, behind_place, at_place, at_end_of}
+use Rattle.driver.proofs.Composed.{so_far_none, over_at_end}
+use Rattle.driver.proofs.Looped.{named_at, from_place, at_end_of, turn_goes_on, turn_faults, turn_halts}
 use Rattle.driver.proofs.execute.execute_all.Goals as goal
 
 pub execute_member-requires-clause-named : goal.execute_member-requires-clause-named
@@ -23,17 +21,10 @@ loop-member-init g c =
 pub loop-member-preserved : goal.loop-member-preserved
 loop-member-preserved g c =
     let told = g.S.Sink.told in
-    let program = flatten (tree_of c.args.program.now) in
     let names = names_of_program c.args.program.now in
-    let ms = c.args.members.now in
-    let i = c.loop-member.member-index in
-    let x = c.member-item.result in
-    let m = map_of names c.loop-member.cells.items in
-    let t = c.loop-member.left in
-    let here = at_place program c.args.turns ms i x m t c.loop-member-test.true c.member-item.is in
     let goes = rw c.in-None.is at c.in_ok-execute_member.ensures.steps in
     record {
-      so_far = so_far_more _ (from_place program c.args.turns ms i m t) (λ go. step program (shape_tree x.form.shape) x.line m t go) (behind_place program c.args.turns ms i) (map_of names c.execute_member.new.cells.items) c.execute_member.new.turns (told c.args.sink.now) (told c.loop-member.sink) (told c.execute_member.new.sink) c.loop-member.invariant.so_far here goes;
+      so_far = turn_goes_on (flatten (tree_of c.args.program.now)) c.args.turns c.args.members.now _ c.loop-member.member-index c.member-item.result (map_of names c.loop-member.cells.items) c.loop-member.left (told c.args.sink.now) (told c.loop-member.sink) (told c.execute_member.new.sink) c.loop-member-test.true c.member-item.is c.loop-member.invariant.so_far (map_of names c.execute_member.new.cells.items) c.execute_member.new.turns goes;
       sized = c.in_ok-execute_member.ensures.len ∙ c.loop-member.invariant.sized;
       unrefused = goes.bytes.stays ∙ c.loop-member.invariant.unrefused;
     }
@@ -41,30 +32,16 @@ loop-member-preserved g c =
 pub returns-in_err-execute_member : goal.returns-in_err-execute_member
 returns-in_err-execute_member g c =
     let told = g.S.Sink.told in
-    let program = flatten (tree_of c.args.program.now) in
     let names = names_of_program c.args.program.now in
-    let ms = c.args.members.now in
-    let i = c.loop-member.member-index in
-    let x = c.member-item.result in
-    let m = map_of names c.loop-member.cells.items in
-    let t = c.loop-member.left in
-    let here = at_place program c.args.turns ms i x m t c.loop-member-test.true c.member-item.is in
     let p = err_from_is_err_and c.from_residual.result c.from_residual.ensures.1 in
-    rw (p.1, p.2) (halts_at _ (from_place program c.args.turns ms i m t) (λ go. step program (shape_tree x.form.shape) x.line m t go) (behind_place program c.args.turns ms i) (map_of names c.execute_member.new.cells.items) c.execute_member.new.turns _ (told c.args.sink.now) (told c.loop-member.sink) (told c.execute_member.new.sink) c.loop-member.invariant.so_far here c.in_err-execute_member.ensures.steps)
+    rw (p.1, p.2) (turn_halts (flatten (tree_of c.args.program.now)) c.args.turns c.args.members.now _ c.loop-member.member-index c.member-item.result (map_of names c.loop-member.cells.items) c.loop-member.left (told c.args.sink.now) (told c.loop-member.sink) (told c.execute_member.new.sink) c.loop-member-test.true c.member-item.is c.loop-member.invariant.so_far (map_of names c.execute_member.new.cells.items) c.execute_member.new.turns _ c.in_err-execute_member.ensures.steps)
 
 pub returns-in-Some : goal.returns-in-Some
 returns-in-Some g c =
     let told = g.S.Sink.told in
-    let program = flatten (tree_of c.args.program.now) in
     let names = names_of_program c.args.program.now in
-    let ms = c.args.members.now in
-    let i = c.loop-member.member-index in
-    let x = c.member-item.result in
-    let m = map_of names c.loop-member.cells.items in
-    let t = c.loop-member.left in
-    let here = at_place program c.args.turns ms i x m t c.loop-member-test.true c.member-item.is in
     let faults = rw c.in-Some.is at c.in_ok-execute_member.ensures.steps in
-    over_at_fault _ (from_place program c.args.turns ms i m t) (λ go. step program (shape_tree x.form.shape) x.line m t go) (behind_place program c.args.turns ms i) c.in-Some.fault (told c.args.sink.now) (told c.loop-member.sink) (told c.execute_member.new.sink) c.loop-member.invariant.so_far here faults
+    turn_faults (flatten (tree_of c.args.program.now)) c.args.turns c.args.members.now _ c.loop-member.member-index c.member-item.result (map_of names c.loop-member.cells.items) c.loop-member.left (told c.args.sink.now) (told c.loop-member.sink) (told c.execute_member.new.sink) c.loop-member-test.true c.member-item.is c.loop-member.invariant.so_far c.in-Some.fault faults
 
 pub returns : goal.returns
 returns g c =
