@@ -1,4 +1,4 @@
-// Integer constants outside the range of INTEGER (ANSI X3.9-1978, 4.3).
+//! Integer constants outside the range of INTEGER (ANSI X3.9-1978, 4.3).
 
 ghost use Rattle.std.specs.Prelude.{◌≡◌, flat_map, map};
 ghost use Rattle.std.specs.List.{list_any};
@@ -7,18 +7,19 @@ ghost use Rattle.meaning.specs.Rules.{is_too_great as is_great, numbers_in, has_
 ghost use Rattle.meaning.specs.Refusals.{least};
 ghost use Rattle.meaning.specs.Nesting.{member_tree as tree_of};
 
-use crate::least::{broken_if, lesser};
+use crate::broken::broken_if;
 use meaning::number::number;
-use meaning::refusal::{Broken, Rule};
+use meaning::refusal::{Broken, Rule, lesser};
 use meaning::syntax::{Expr, Exprs, Member, Shape, Unit};
 
-// Whether a constant is too great.
+/// Whether a constant is too great.
 fn is_too_great(digits: &[u8]) -> bool
     ensures { result ≡ is_great digits.now }
 {
     number(digits) > 2_147_483_647
 }
 
+/// Whether a constant of an expression is too great.
 #[tactic(auto, using(crate::proofs::Parts::any_append))]
 fn has_too_great(expression: &Expr) -> bool
     ensures { result ≡ list_any is_great (numbers_in (expr_tree expression.now)) }
@@ -31,6 +32,7 @@ fn has_too_great(expression: &Expr) -> bool
     }
 }
 
+/// Whether a constant of a list is too great.
 #[tactic(auto, using(crate::proofs::Parts::any_append))]
 fn any_too_great(expressions: &Exprs) -> bool
     ensures { result ≡ list_any is_great (flat_map numbers_in (exprs_trees expressions.now)) }
@@ -41,6 +43,7 @@ fn any_too_great(expressions: &Exprs) -> bool
     }
 }
 
+/// Whether a constant of a statement is too great.
 #[tactic(auto, using(crate::proofs::Parts::any_append))]
 fn is_great_at(shape: &Shape) -> bool
     ensures { result ≡ has_great (shape_tree shape.now) }
@@ -62,7 +65,7 @@ fn is_great_at(shape: &Shape) -> bool
     }
 }
 
-// K6: the least pair of the statements.
+/// K6: the least line at which a constant is too great.
 pub fn great_constant(members: &[Member]) -> Option<Broken>
     ensures { result ≡ least (flat_map great_constants (map tree_of members.now)) }
 {

@@ -1,4 +1,4 @@
-// FORMAT statements and the labels that name them (ANSI X3.9-1978, 12.4 and 13.1).
+//! FORMAT statements and the labels that name them (ANSI X3.9-1978, 12.4 and 13.1).
 
 ghost use Rattle.std.specs.Prelude.{◌≡◌, ◌^◌, ◌≤◌, ℕ, List, map, flat_map, IfOk, OnOk, MatchOption, option_map, None};
 ghost use Rattle.std.specs.Ordering.{nat_cmp};
@@ -13,17 +13,17 @@ ghost use Rattle.meaning.specs.Nesting.{member_tree};
 ghost use Rattle.format_edit.specs.Formatted.{descriptors};
 ghost use Rattle.checker.specs.Numbered.{found_in, KnowsFormats, format_here, format_under};
 
+use crate::broken::broken_if;
 use crate::labels::format_labels;
-use crate::least::{broken_if, lesser};
 use crate::units::is_unit;
 use format_edit::{Format, FormatFault};
 use meaning::number::number;
-use meaning::refusal::{Broken, Rule};
+use meaning::refusal::{Broken, Rule, lesser};
 use meaning::syntax::{Member, Shape};
 use std::alloc::{AllocError, Global};
 use std::collections::{BTreeMap, BTreeSet};
 
-// The format that a text is, if it is one.
+/// The format that a text is, if it is one.
 fn format_of(alloc: Global, text: &[u8]) -> Result<Option<Format>, AllocError>
     ensures { IfOk result (λ f. option_map descriptors f ≡ descriptors_of text.now) }
 {
@@ -34,7 +34,7 @@ fn format_of(alloc: Global, text: &[u8]) -> Result<Option<Format>, AllocError>
     }
 }
 
-// The label that digits spell, if it is below 2^32.
+/// The label that digits spell, if it is below 2^32.
 pub fn label_of(digits: &[u8]) -> Option<u32>
     ensures { MatchOption result (2 ^ 32 ≤ number_of digits.now) (λ s. s ≡ number_of digits.now) }
 {
@@ -46,7 +46,7 @@ pub fn label_of(digits: &[u8]) -> Option<u32>
     }
 }
 
-// Whether a FORMAT statement has the label that digits spell.
+/// Whether a FORMAT statement has the label that digits spell.
 fn is_format_label(labels: &BTreeSet<u32>, digits: &[u8]) -> bool
     ensures { (all : List MemberTree) → KnowsFormats (contains nat_cmp labels.now) all → result ≡ has_format all (number_of digits.now) }
 {
@@ -56,7 +56,7 @@ fn is_format_label(labels: &BTreeSet<u32>, digits: &[u8]) -> bool
     }
 }
 
-// Whether a statement has a unit, a format label or a format that isn't allowed.
+/// Whether a statement has a unit, a format label or a format that isn't allowed.
 fn is_misformed(alloc: Global, labels: &BTreeSet<u32>, member: &Member) -> Result<bool, AllocError>
     ensures { (all : List MemberTree) → KnowsFormats (contains nat_cmp labels.now) all → IfOk result (λ b. b ≡ is_broken all member.now.label (shape_tree member.now.form.shape)) }
 {
@@ -75,7 +75,7 @@ fn is_misformed(alloc: Global, labels: &BTreeSet<u32>, member: &Member) -> Resul
     }
 }
 
-// K11: the least pair of the statements.
+/// K11: the least line at which a unit, a format label or a format isn't allowed.
 pub fn misformed_statement(alloc: Global, members: &[Member]) -> Result<Option<Broken>, AllocError>
     ensures { IfOk result (λ b. b ≡ least (flat_map (misformed (map member_tree members.now)) (map member_tree members.now))) }
 {
@@ -89,7 +89,7 @@ pub fn misformed_statement(alloc: Global, members: &[Member]) -> Result<Option<B
     Ok(best)
 }
 
-// Puts a FORMAT statement's format behind its label, unless one stands there.
+/// Puts a FORMAT statement's format behind its label, unless one stands there.
 fn add_format(
     formats: &mut BTreeMap<u32, Format>,
     alloc: Global,
@@ -109,7 +109,7 @@ fn add_format(
     }
 }
 
-// Puts the format that a text is behind a label, unless one stands there.
+/// Puts the format that a text is behind a label, unless one stands there.
 fn add_at(
     formats: &mut BTreeMap<u32, Format>,
     alloc: Global,
@@ -126,7 +126,7 @@ fn add_at(
     Ok(())
 }
 
-// The formats of the FORMAT statements by their labels.
+/// The formats of the FORMAT statements by their labels.
 pub fn formats_by_label(
     alloc: Global,
     members: &[Member],

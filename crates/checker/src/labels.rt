@@ -1,4 +1,4 @@
-// Statement labels (ANSI X3.9-1978, 3.4).
+//! Statement labels (ANSI X3.9-1978, 3.4).
 
 ghost use Rattle.std.specs.Prelude.{◌≡◌, ◌||◌, ◌^◌, ◌≤◌, ℕ, [], map, IfOk, OnOk, false};
 ghost use Rattle.std.specs.Ordering.{nat_cmp};
@@ -8,13 +8,13 @@ ghost use Rattle.meaning.specs.Refusals.{least};
 ghost use Rattle.meaning.specs.Nesting.{member_tree};
 ghost use Rattle.checker.specs.Numbered.{is_known};
 
-use crate::least::{broken_if, lesser};
-use meaning::refusal::{Broken, Rule};
+use crate::broken::broken_if;
+use meaning::refusal::{Broken, Rule, lesser};
 use meaning::syntax::{Member, Shape};
 use std::alloc::{AllocError, Global};
 use std::collections::BTreeSet;
 
-// Puts a label, if there is one, to those that are known, and says whether it was one of them.
+/// Puts a label, if there is one, to those that are known, and says whether it was one of them.
 fn note_label(known: &mut BTreeSet<u32>, label: Option<u32>) -> Result<bool, AllocError>
     ensures told { IfOk result (λ b. b ≡ is_known (contains nat_cmp known.old) label) }
     ensures noted { OnOk result ((s : ℕ) → contains nat_cmp known.new s ≡ (contains nat_cmp known.old s || is_label_at label s)) }
@@ -28,7 +28,7 @@ fn note_label(known: &mut BTreeSet<u32>, label: Option<u32>) -> Result<bool, All
     }
 }
 
-// K1: the least pair of the statements.
+/// K1: the least line at which an earlier statement's label stands again.
 pub fn repeated_label(alloc: Global, members: &[Member]) -> Result<Option<Broken>, AllocError>
     ensures { IfOk result (λ b. b ≡ least (repeated_labels [] (map member_tree members.now))) }
 {
@@ -42,7 +42,7 @@ pub fn repeated_label(alloc: Global, members: &[Member]) -> Result<Option<Broken
     Ok(best)
 }
 
-// The label of a FORMAT statement.
+/// The label of a FORMAT statement.
 fn format_label(member: &Member) -> Option<u32>
     ensures label { (s : ℕ) → is_label_at result s ≡ is_format_at s (member_tree member.now) }
     ensures small { (s : ℕ) → 2 ^ 32 ≤ s → is_label_at result s ≡ false }
@@ -58,7 +58,7 @@ fn format_label(member: &Member) -> Option<u32>
     }
 }
 
-// The labels of the FORMAT statements.
+/// The labels of the FORMAT statements.
 pub fn format_labels(alloc: Global, members: &[Member]) -> Result<BTreeSet<u32>, AllocError>
     ensures labels { IfOk result (λ labels. (s : ℕ) → contains nat_cmp labels s ≡ has_format (map member_tree members.now) s) }
     ensures small { OnOk result ((s : ℕ) → 2 ^ 32 ≤ s → has_format (map member_tree members.now) s ≡ false) }

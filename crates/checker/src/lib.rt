@@ -1,10 +1,10 @@
 //! The rules on a whole program, and the numbering of its variables (ANSI X3.9-1978, 2.5, 3.4, 4.1.2, 4.3 and 13.1).
 #![tactic(auto)]
 
+mod broken;
 mod constants;
 mod formats;
 mod labels;
-mod least;
 mod names;
 mod program;
 mod rules;
@@ -12,3 +12,6 @@ mod units;
 
 pub use program::Program;
 pub use rules::check;
+
+#[cfg(test)]
+mod tests;

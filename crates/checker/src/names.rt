@@ -1,4 +1,4 @@
-// The variables of a program (ANSI X3.9-1978, 2.5 and 4.1.2).
+//! The variables of a program (ANSI X3.9-1978, 2.5 and 4.1.2).
 
 ghost use Rattle.std.specs.Prelude.{◌≡◌, List, ℕ, flat_map, map, OnOk, IfOk};
 ghost use Rattle.std.specs.List.{list_any};
@@ -8,13 +8,13 @@ ghost use Rattle.meaning.specs.Refusals.{least};
 ghost use Rattle.meaning.specs.Nesting.{member_tree};
 ghost use Rattle.checker.specs.Numbered.{Holds, HoldsAll, Numbers};
 
-use crate::least::{broken_if, lesser};
+use crate::broken::broken_if;
 use indexmap::IndexSet;
-use meaning::refusal::{Broken, Rule};
+use meaning::refusal::{Broken, Rule, lesser};
 use meaning::syntax::{Expr, Exprs, Member, Shape, Unit};
 use std::alloc::{AllocError, Global};
 
-// Whether a name is REAL: it doesn't begin with I to N.
+/// Whether a name is REAL: it doesn't begin with I to N.
 fn is_real(name: &[u8]) -> bool
     ensures { result ≡ is_real_name name.now }
 {
@@ -24,6 +24,7 @@ fn is_real(name: &[u8]) -> bool
     }
 }
 
+/// Whether a name of an expression is REAL.
 #[tactic(auto, using(crate::proofs::Parts::any_append))]
 fn has_real_in(expression: &Expr) -> bool
     ensures { result ≡ list_any is_real_name (names_in (expr_tree expression.now)) }
@@ -36,6 +37,7 @@ fn has_real_in(expression: &Expr) -> bool
     }
 }
 
+/// Whether a name of a list is REAL.
 #[tactic(auto, using(crate::proofs::Parts::any_append))]
 fn any_real(expressions: &Exprs) -> bool
     ensures { result ≡ list_any is_real_name (flat_map names_in (exprs_trees expressions.now)) }
@@ -46,6 +48,7 @@ fn any_real(expressions: &Exprs) -> bool
     }
 }
 
+/// Whether a name of a statement is REAL.
 #[tactic(auto, using(crate::proofs::Parts::any_append))]
 fn is_real_at(shape: &Shape) -> bool
     ensures { result ≡ has_real (shape_tree shape.now) }
@@ -67,7 +70,7 @@ fn is_real_at(shape: &Shape) -> bool
     }
 }
 
-// K3: the least pair of the statements.
+/// K3: the least line at which a name is REAL.
 pub fn real_name(members: &[Member]) -> Option<Broken>
     ensures { result ≡ least (flat_map real_names (map member_tree members.now)) }
 {
@@ -79,7 +82,7 @@ pub fn real_name(members: &[Member]) -> Option<Broken>
     best
 }
 
-// Puts a name behind those that are there, unless it is one of them.
+/// Puts a name behind those that are there, unless it is one of them.
 fn add_name(names: &mut IndexSet<Vec<u8>>, alloc: Global, name: &[u8]) -> Result<(), AllocError>
     ensures kept { (n : List ℕ) → Holds names.old.keys n → Holds names.new.keys n }
     ensures added { OnOk result (Holds names.new.keys name.now) }
@@ -91,6 +94,7 @@ fn add_name(names: &mut IndexSet<Vec<u8>>, alloc: Global, name: &[u8]) -> Result
     Ok(())
 }
 
+/// Puts the names of an expression behind those that are there, from the left.
 fn add_names(
     names: &mut IndexSet<Vec<u8>>,
     alloc: Global,
@@ -110,6 +114,7 @@ fn add_names(
     }
 }
 
+/// Puts the names of a list behind those that are there.
 fn add_all_names(
     names: &mut IndexSet<Vec<u8>>,
     alloc: Global,
@@ -127,6 +132,7 @@ fn add_all_names(
     }
 }
 
+/// Puts the names of a unit behind those that are there.
 fn add_unit_names(
     names: &mut IndexSet<Vec<u8>>,
     alloc: Global,
@@ -141,6 +147,7 @@ fn add_unit_names(
     }
 }
 
+/// Puts the names of a statement behind those that are there.
 fn add_names_of(
     names: &mut IndexSet<Vec<u8>>,
     alloc: Global,
@@ -167,7 +174,7 @@ fn add_names_of(
     }
 }
 
-// The variables of the statements, in the order of their first appearance.
+/// The variables of the statements, in the order of their first appearance.
 pub fn names_in_order(alloc: Global, members: &[Member]) -> Result<IndexSet<Vec<u8>>, AllocError>
     ensures { IfOk result (λ names. Numbers names.keys (map member_tree members.now)) }
 {

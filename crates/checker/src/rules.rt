@@ -1,4 +1,4 @@
-// The rules on a whole program.
+//! The rules on a whole program.
 
 ghost use Rattle.std.specs.Prelude.{◌≡◌, map, IfOk};
 ghost use Rattle.meaning.specs.Reports.{Gives};
@@ -10,14 +10,13 @@ ghost use Rattle.checker.specs.Checked.{tree_of, IsNumbered};
 use crate::constants::great_constant;
 use crate::formats::{formats_by_label, misformed_statement};
 use crate::labels::repeated_label;
-use crate::least::lesser;
 use crate::names::{names_in_order, real_name};
 use crate::program::Program;
-use meaning::refusal::{Broken, Refusal};
+use meaning::refusal::{Broken, Refusal, lesser};
 use meaning::syntax::{Member, Tree};
 use std::alloc::{AllocError, Global};
 
-// The least pair that the statements break.
+/// The least pair that the statements break.
 fn least_broken(alloc: Global, members: &[Member]) -> Result<Option<Broken>, AllocError>
     ensures { IfOk result (λ b. b ≡ least (broken_rules (map member_tree members.now))) }
 {

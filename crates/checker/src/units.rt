@@ -1,4 +1,4 @@
-// Units of WRITE statements (ANSI X3.9-1978, 12.3).
+//! Units of WRITE statements (ANSI X3.9-1978, 12.3).
 
 ghost use Rattle.std.specs.Prelude.{◌≡◌, true};
 ghost use Rattle.std.specs.List.{list_any};
@@ -9,6 +9,7 @@ use meaning::ending::{FaultKind, Value};
 use meaning::syntax::{Expr, Unit};
 use values::{Start, value};
 
+/// Whether a name stands in an expression.
 #[tactic(auto, using(crate::proofs::Parts::any_append))]
 fn has_name(expression: &Expr) -> bool
     ensures { result ≡ list_any (λ n. true) (names_in (expr_tree expression.now)) }
@@ -21,6 +22,7 @@ fn has_name(expression: &Expr) -> bool
     }
 }
 
+/// Whether a value is the integer 6.
 fn is_six(value: Result<Value, FaultKind>) -> bool
     ensures { result ≡ is_value_six value }
 {
@@ -31,7 +33,7 @@ fn is_six(value: Result<Value, FaultKind>) -> bool
     }
 }
 
-// Whether a unit is an asterisk or a constant expression of value 6.
+/// Whether a unit is an asterisk or a constant expression of value 6.
 pub fn is_unit(unit: &Unit) -> bool
     ensures { result ≡ is_allowed (unit_tree unit.now) }
 {

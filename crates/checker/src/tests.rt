@@ -1,0 +1,6 @@
+//! Programs that are built by hand, refused and accepted.
+
+mod accepted;
+mod building;
+mod refused;
+mod units;

@@ -1,0 +1,164 @@
+// Program units built by hand.
+
+ghost use Rattle.std.specs.Prelude.{◌≤◌, length};
+ghost use Rattle.meaning.specs.Spelling.{spell, spell_expr, spell_list, spell_more, spell_unit};
+ghost use Rattle.meaning.specs.Syntax.{expr_tree, exprs_trees, shape_tree, unit_tree};
+
+use meaning::syntax::{Expr, Exprs, Form, Member, Operator, Shape, Sign, Tree, Unit};
+use std::alloc::{AllocError, Global};
+use std::process::Abort;
+
+/// What a statement of a table says. Each operand is the digits of a constant or a name.
+#[derive(Clone, Copy)]
+pub enum Says {
+    /// `name=operand`
+    Sets(&'static [u8], &'static [u8]),
+    /// `WRITE(operand,label)operand`, or an asterisk as the unit.
+    Writes(&'static [u8], &'static [u8], &'static [u8]),
+    /// `FORMAT(text)`
+    Formats(&'static [u8]),
+    /// `END`
+    Ends,
+}
+
+/// A statement of a table: its line, its label and what it says.
+pub type Row = (u32, Option<u32>, Says);
+
+// At least the length of a spelling that has room in a statement.
+fn expression_length(expression: &Expr) -> usize
+    ensures { result ≤ 1320 → length (spell_expr (expr_tree expression.now)) ≤ result }
+{
+    match expression {
+        Expr::Number(digits) => digits.len(),
+        Expr::Name(letters) => letters.len(),
+        Expr::Signed(_, operand) => expression_length(operand).saturating_add(1),
+        Expr::Binary(_, left, right) => expression_length(left)
+            .saturating_add(1)
+            .saturating_add(expression_length(right)),
+    }
+}
+
+// Each expression with a comma.
+fn list_length(list: &Exprs) -> usize
+    ensures { result ≤ 1320 → length (spell_more (exprs_trees list.now)) ≤ result }
+{
+    match list {
+        Exprs::Empty => 0,
+        Exprs::More(first, rest) => expression_length(first)
+            .saturating_add(1)
+            .saturating_add(list_length(rest)),
+    }
+}
+
+fn unit_length(unit: &Unit) -> usize
+    ensures { result ≤ 1320 → length (spell_unit (unit_tree unit.now)) ≤ result }
+{
+    match unit {
+        Unit::Star => 1,
+        Unit::Number(number) => expression_length(number),
+    }
+}
+
+fn shape_length(shape: &Shape) -> usize
+    ensures { result ≤ 1320 → length (spell (shape_tree shape.now)) ≤ result }
+{
+    match shape {
+        Shape::Assignment { name, value } => name
+            .len()
+            .saturating_add(1)
+            .saturating_add(expression_length(value)),
+        Shape::Write { unit, label, list } => unit_length(unit)
+            .saturating_add(8)
+            .saturating_add(label.len())
+            .saturating_add(list_length(list)),
+        Shape::Format(text) => text.len().saturating_add(8),
+        Shape::End => 3,
+    }
+}
+
+/// A statement in its place.
+pub fn member(rt: &impl Abort, line: u32, label: Option<u32>, shape: Shape) -> Member {
+    let length = shape_length(&shape);
+    assert!(rt; length <= 1320, "a statement is too long");
+    Member {
+        line,
+        label,
+        form: Form { shape },
+    }
+}
+
+/// A constant where a digit comes first, else a variable.
+pub fn operand(alloc: Global, text: &[u8]) -> Result<Expr, AllocError> {
+    let own = Vec::from_slice(alloc, text)?;
+    match text.first() {
+        Some(first) if first.is_ascii_digit() => Ok(Expr::Number(own)),
+        _ => Ok(Expr::Name(own)),
+    }
+}
+
+pub fn signed(alloc: Global, sign: Sign, operand: Expr) -> Result<Expr, AllocError> {
+    Ok(Expr::Signed(sign, Box::new(alloc, operand)?))
+}
+
+pub fn binary(
+    alloc: Global,
+    left: Expr,
+    operator: Operator,
+    right: Expr,
+) -> Result<Expr, AllocError> {
+    let left = Box::new(alloc, left)?;
+    Ok(Expr::Binary(operator, left, Box::new(alloc, right)?))
+}
+
+/// Two operands and an operator between.
+pub fn of_two(
+    alloc: Global,
+    left: &[u8],
+    operator: Operator,
+    right: &[u8],
+) -> Result<Expr, AllocError> {
+    binary(
+        alloc,
+        operand(alloc, left)?,
+        operator,
+        operand(alloc, right)?,
+    )
+}
+
+/// A list of one expression.
+pub fn one(alloc: Global, item: Expr) -> Result<Exprs, AllocError> {
+    Ok(Exprs::More(item, Box::new(alloc, Exprs::Empty)?))
+}
+
+fn unit(alloc: Global, text: &[u8]) -> Result<Unit, AllocError> {
+    if text == b"*".as_slice() {
+        Ok(Unit::Star)
+    } else {
+        Ok(Unit::Number(operand(alloc, text)?))
+    }
+}
+
+fn shape(alloc: Global, says: Says) -> Result<Shape, AllocError> {
+    match says {
+        Says::Sets(name, value) => Ok(Shape::Assignment {
+            name: Vec::from_slice(alloc, name)?,
+            value: operand(alloc, value)?,
+        }),
+        Says::Writes(to, label, item) => Ok(Shape::Write {
+            unit: unit(alloc, to)?,
+            label: Vec::from_slice(alloc, label)?,
+            list: one(alloc, operand(alloc, item)?)?,
+        }),
+        Says::Formats(text) => Ok(Shape::Format(Vec::from_slice(alloc, text)?)),
+        Says::Ends => Ok(Shape::End),
+    }
+}
+
+/// The program unit of a table.
+pub fn tree(rt: &impl Abort, alloc: Global, rows: &[Row]) -> Result<Tree, AllocError> {
+    let mut body = Vec::new(alloc);
+    for (line, label, says) in rows {
+        body.push(member(rt, *line, *label, shape(alloc, *says)?))?;
+    }
+    Ok(Tree { body })
+}
