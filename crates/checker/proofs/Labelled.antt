@@ -1,5 +1,5 @@
 -- Labels of statements, one statement more.
-use Rattle.std.proofs.Common.{◌≡◌, ℕ, ◌+◌, ◌<◌, ◌≤◌, ◌^◌, Bool, true, false, ◌||◌, ◌&&◌, List, [], ◌∷◌, ◌++◌, length, get_or, take, map, Option, Some, None, refl, sym, ap, ◌∙◌, arith, append_assoc}
+use Rattle.std.proofs.Common.{◌≡◌, ℕ, ◌+◌, ◌<◌, Bool, true, false, ◌||◌, List, [], ◌∷◌, ◌++◌, length, get_or, take, map, Option, Some, None, refl, sym, ap, ◌∙◌, append_assoc}
 use Rattle.std.specs.List.{list_any}
 use Rattle.std.proofs.lemmas.List.{append-nil}
 use Rattle.meaning.specs.declared.refusal.Broken.{Broken}
@@ -9,7 +9,7 @@ use Rattle.meaning.specs.Syntax.{MemberTree}
 use Rattle.meaning.specs.Nesting.{member_tree}
 use Rattle.meaning.specs.Statements.{broken_if}
 use Rattle.meaning.specs.Refusals.{merge, least}
-use Rattle.meaning.specs.Rules.{has_label, is_label_at, is_repeated, repeated_labels}
+use Rattle.meaning.specs.Rules.{has_label, is_repeated, repeated_labels}
 use Rattle.meaning.proofs.Least.{least-append}
 use Rattle.checker.specs.Numbered.{is_known}
 use Rattle.checker.proofs.Passes.{trees_more}

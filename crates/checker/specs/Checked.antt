@@ -1,6 +1,5 @@
 -- What a checked program is: its statements with their variables numbered and their formats read.
 use Rattle.std.specs.Prelude.{◌≡◌, ◌≤◌, ◌^◌, ℕ, List, map, None}
-use Rattle.std.specs.Global.{Vec}
 use Rattle.meaning.specs.Nesting.{Nested, nested, flatten}
 use Rattle.meaning.specs.Execution.{format_found}
 use Rattle.checker.specs.declared.program.Program.{Program}

@@ -1,5 +1,5 @@
 -- What a checked program keeps beside its statements: the numbers of its variables.
-use Rattle.std.specs.Prelude.{◌≡◌, ◌≤◌, ◌^◌, ◌==◌, if◌then◌else◌, option_map, ℕ, Bool, false, Option, Some, None, List, map, IsTrue}
+use Rattle.std.specs.Prelude.{◌≡◌, ◌≤◌, ◌^◌, ◌==◌, if◌then◌else◌, option_map, ℕ, Bool, false, Option, Some, None, List, IsTrue}
 use Rattle.std.specs.Global.{Vec}
 use Rattle.std.specs.Str.{bytes_eq}
 use Rattle.std.specs.List.{list_any, AllByRecursion}

@@ -2,7 +2,6 @@
 use Rattle.std.specs.Prelude.{◌≡◌, List, Result, Ok, Err}
 use Rattle.std.specs.Global.{Vec}
 use Rattle.meaning.specs.declared.ending.FaultKind.{FaultKind}
-use Rattle.meaning.specs.declared.ending.Value.{Value}
 
 -- a vector or a fault is what the definition gives
 abbrev pub Listed : {A : Type 0} → Result (Vec A) FaultKind → Result (List A) FaultKind → Type 0

@@ -1,9 +1,12 @@
 // Programs that break a rule.
 
 use super::building::Says::{Ends, Formats, Sets, Writes};
-use super::building::{Row, tree};
+use super::building::{Row, binary, member, operand, signed, tree};
 use crate::check;
 use meaning::refusal::{Refusal, Rule};
+use meaning::syntax::{Expr, Operator, Shape, Sign, Tree};
+use std::alloc::{AllocError, Global};
+use std::process::Abort;
 use std::test::Fail;
 
 const END: Row = (9, None, Ends);
@@ -160,7 +163,36 @@ fn refused(rt: HostRuntime) -> Result<(), Fail> {
     for (rows, rule, line) in REFUSED {
         let unit = tree(&rt, rt.alloc(), rows)?;
         let refusal = check(rt.alloc(), unit).err();
-        assert_eq!(rt; refusal, Some(Refusal::Rule { rule, line }));
+        assert_eq!(rt;
+            refusal,
+            Some(Refusal::Rule { rule, line }),
+            "{rule} {line}"
+        );
     }
+    Ok(())
+}
+
+/// What is told of `I=value` at line 1, with END behind it.
+fn told(rt: &impl Abort, alloc: Global, value: Expr) -> Result<Option<Refusal>, AllocError> {
+    let name = Vec::from_slice(alloc, b"I")?;
+    let mut body = Vec::new(alloc);
+    body.push(member(rt, 1, None, Shape::Assignment { name, value }))?;
+    body.push(member(rt, 2, None, Shape::End))?;
+    Ok(check(alloc, Tree { body }).err())
+}
+
+/// `-2147483648` has a constant that is too great, and `-2147483647-1` has none.
+#[test]
+fn least_integer(rt: HostRuntime) -> Result<(), Fail> {
+    let alloc = rt.alloc();
+    let spelled = signed(alloc, Sign::Minus, operand(alloc, b"2147483648")?)?;
+    let refusal = Refusal::Rule {
+        rule: Rule::K6,
+        line: 1,
+    };
+    assert_eq!(rt; told(&rt, alloc, spelled)?, Some(refusal));
+    let above = signed(alloc, Sign::Minus, operand(alloc, b"2147483647")?)?;
+    let computed = binary(alloc, above, Operator::Subtract, operand(alloc, b"1")?)?;
+    assert_eq!(rt; told(&rt, alloc, computed)?, None);
     Ok(())
 }

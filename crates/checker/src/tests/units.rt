@@ -52,6 +52,12 @@ fn of_value_six(rt: HostRuntime) -> Result<(), Fail> {
     accepts(&rt, alloc, of_two(alloc, b"3", Operator::Add, b"3")?)?;
     accepts(&rt, alloc, of_two(alloc, b"3", Operator::Multiply, b"2")?)?;
     accepts(&rt, alloc, of_two(alloc, b"12", Operator::Subtract, b"6")?)?;
+    let below = of_two(alloc, b"0", Operator::Subtract, b"6")?;
+    accepts(
+        &rt,
+        alloc,
+        binary(alloc, operand(alloc, b"0")?, Operator::Subtract, below)?,
+    )?;
     let minus_six = signed(alloc, Sign::Minus, operand(alloc, b"6")?)?;
     accepts(
         &rt,

@@ -1,8 +1,7 @@
-use Rattle.std.proofs.Common.{◌≡◌, Some, None, sym, ap, ◌∙◌, rules, subst}
-use Rattle.std.specs.Prelude.{SomeIff, FitsSigned}
+use Rattle.std.proofs.Common.{sym, ap, ◌∙◌, rules}
+use Rattle.std.specs.Prelude.{FitsSigned}
 use Rattle.std.specs.Int.{w32}
 use Rattle.std.proofs.lemmas.Int.{to_z-of_z}
-use Rattle.meaning.specs.Values.{integer}
 use Rattle.values.proofs.Exact.{outcome, outcome-exact}
 use Rattle.values.proofs.integer_of.Goals as goal
 

@@ -4,7 +4,6 @@ use Rattle.meaning.specs.Refusals.{least}
 use Rattle.meaning.specs.Nesting.{member_tree}
 use Rattle.meaning.specs.Statements.{broken_if}
 use Rattle.meaning.specs.Rules.{misformed}
-use Rattle.checker.specs.Numbered.{KnowsFormats}
 use Rattle.checker.proofs.Passes.{least_more}
 use Rattle.checker.proofs.formats.misformed_statement.Goals as goal
 

@@ -1,4 +1,4 @@
-use Rattle.std.proofs.Common.{ap, sym, ◌∙◌, arith, rules, refl}
+use Rattle.std.proofs.Common.{ap, sym, arith, rules, refl}
 use Rattle.std.specs.Ordering.{nat_cmp}
 use Rattle.std.specs.BTreeSet.{contains}
 use Rattle.meaning.specs.Refusals.{least}
