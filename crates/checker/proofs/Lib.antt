@@ -1,5 +1,8 @@
 pub mod Parts
 pub mod Passes
-pub mod Held
+pub mod Flattened
+pub mod Reset
+pub mod Tested
+pub mod Appearance
 pub mod Labelled
 pub mod Found

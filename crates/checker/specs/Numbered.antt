@@ -1,9 +1,9 @@
 -- What a checked program keeps beside its statements: the numbers of its variables.
-use Rattle.std.specs.Prelude.{◌≡◌, ◌≤◌, ◌^◌, ◌==◌, if◌then◌else◌, option_map, ℕ, Bool, false, Option, Some, None, List, IsTrue}
+use Rattle.std.specs.Prelude.{◌≡◌, ◌≤◌, ◌^◌, ◌==◌, if◌then◌else◌, option_map, ℕ, Bool, false, Option, Some, None, List, [], ◌∷◌, ◌++◌, map, flat_map, fold, IsTrue}
 use Rattle.std.specs.Global.{Vec}
 use Rattle.std.specs.Str.{bytes_eq}
 use Rattle.std.specs.List.{list_any, AllByRecursion}
-use Rattle.meaning.specs.Syntax.{MemberTree}
+use Rattle.meaning.specs.Syntax.{ItemTree}
 use Rattle.std.specs.Ordering.{nat_cmp}
 use Rattle.std.specs.BTreeMap.{BTreeMap, get}
 use Rattle.meaning.specs.Formats.{Descriptor}
@@ -11,6 +11,22 @@ use Rattle.meaning.specs.Execution.{descriptors_if}
 use Rattle.meaning.specs.Rules.{names_of, has_format, has_label}
 use Rattle.format_edit.specs.declared.format.Format.{Format}
 use Rattle.format_edit.specs.Formatted.{descriptors}
+
+-- the texts of the keys of a set
+abbrev pub texts : List (Vec ℕ) → List (List ℕ)
+texts keys = map (λ k. k.items) keys
+
+-- a name behind those that are there, unless it is one of them
+abbrev pub with_name : List (List ℕ) → List ℕ → List (List ℕ)
+with_name names n = if list_any (bytes_eq n) names then names else names ++ n ∷ []
+
+-- names behind those that are there, in the order of their first appearance
+abbrev pub with_names : List (List ℕ) → List (List ℕ) → List (List ℕ)
+with_names names more = fold with_name names more
+
+-- the variables of statements as they appear
+abbrev pub variables : List ItemTree → List (List ℕ)
+variables members = flat_map (λ m. names_of m.shape) members
 
 -- the name is among the keys of a set
 abbrev pub Holds : List (Vec ℕ) → List ℕ → Type 0
@@ -20,7 +36,7 @@ abbrev pub HoldsAll : List (Vec ℕ) → List (List ℕ) → Type 0
 HoldsAll keys names = AllByRecursion (Holds keys) names
 
 -- each variable of the statements is among the keys
-abbrev pub Numbers : List (Vec ℕ) → List MemberTree → Type 0
+abbrev pub Numbers : List (Vec ℕ) → List ItemTree → Type 0
 Numbers keys members = AllByRecursion (λ m. HoldsAll keys (names_of m.shape)) members
 
 -- a test of a label, where there is one
@@ -29,7 +45,7 @@ is_known known None = false
 is_known known (Some s) = known s
 
 -- a set of labels has exactly those of FORMAT statements, and none is 2^32 or more
-pub record KnowsFormats (labels : ℕ → Bool) (all : List MemberTree) : Type 0 where
+pub record KnowsFormats (labels : ℕ → Bool) (all : List ItemTree) : Type 0 where
   pub exact : (s : ℕ) → labels s ≡ has_format all s
   pub small : (s : ℕ) → 2 ^ 32 ≤ s → has_format all s ≡ false
 
@@ -38,7 +54,7 @@ abbrev pub found_in : BTreeMap ℕ Format → ℕ → Option (List Descriptor)
 found_in formats s = option_map descriptors (get nat_cmp formats s)
 
 -- what a statement says of a label's format
-abbrev pub format_here : ℕ → MemberTree → Option (List Descriptor)
+abbrev pub format_here : ℕ → ItemTree → Option (List Descriptor)
 format_here s m = descriptors_if (has_label s m) m.shape
 
 -- descriptors, if they stand under the label

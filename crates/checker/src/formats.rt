@@ -5,12 +5,13 @@ ghost use Rattle.std.specs.Ordering.{nat_cmp};
 ghost use Rattle.std.specs.BTreeSet.{contains};
 ghost use Rattle.meaning.specs.Characters.{number_of};
 ghost use Rattle.meaning.specs.Formats.{descriptors_of};
-ghost use Rattle.meaning.specs.Syntax.{MemberTree, shape_tree};
+ghost use Rattle.meaning.specs.Syntax.{ItemTree, shape_tree};
 ghost use Rattle.meaning.specs.Rules.{has_format, is_misformed as is_broken, misformed};
 ghost use Rattle.meaning.specs.Refusals.{least};
 ghost use Rattle.meaning.specs.Execution.{format_found, or_else};
-ghost use Rattle.meaning.specs.Nesting.{member_tree};
+ghost use Rattle.meaning.specs.Trees.{item_tree};
 ghost use Rattle.format_edit.specs.Formatted.{descriptors};
+ghost use Rattle.checker.specs.Listed.{tree_at};
 ghost use Rattle.checker.specs.Numbered.{found_in, KnowsFormats, format_here, format_under};
 
 use crate::broken::broken_if;
@@ -19,7 +20,7 @@ use crate::units::is_unit;
 use format_edit::{Format, FormatFault};
 use meaning::number::number;
 use meaning::refusal::{Broken, Rule, lesser};
-use meaning::syntax::{Member, Shape};
+use meaning::syntax::{Item, Shape};
 use std::alloc::{AllocError, Global};
 use std::collections::{BTreeMap, BTreeSet};
 
@@ -48,7 +49,7 @@ pub fn label_of(digits: &[u8]) -> Option<u32>
 
 /// Whether a FORMAT statement has the label that digits spell.
 fn is_format_label(labels: &BTreeSet<u32>, digits: &[u8]) -> bool
-    ensures { (all : List MemberTree) → KnowsFormats (contains nat_cmp labels.now) all → result ≡ has_format all (number_of digits.now) }
+    ensures { (all : List ItemTree) → KnowsFormats (contains nat_cmp labels.now) all → result ≡ has_format all (number_of digits.now) }
 {
     match label_of(digits) {
         Some(label) => labels.contains(&label),
@@ -57,8 +58,8 @@ fn is_format_label(labels: &BTreeSet<u32>, digits: &[u8]) -> bool
 }
 
 /// Whether a statement has a unit, a format label or a format that isn't allowed.
-fn is_misformed(alloc: Global, labels: &BTreeSet<u32>, member: &Member) -> Result<bool, AllocError>
-    ensures { (all : List MemberTree) → KnowsFormats (contains nat_cmp labels.now) all → IfOk result (λ b. b ≡ is_broken all member.now.label (shape_tree member.now.form.shape)) }
+fn is_misformed(alloc: Global, labels: &BTreeSet<u32>, member: &Item) -> Result<bool, AllocError>
+    ensures { (all : List ItemTree) → KnowsFormats (contains nat_cmp labels.now) all → IfOk result (λ b. b ≡ is_broken all member.now.label (shape_tree member.now.form.shape)) }
 {
     match &member.form.shape {
         Shape::Assignment { .. } => Ok(false),
@@ -71,13 +72,15 @@ fn is_misformed(alloc: Global, labels: &BTreeSet<u32>, member: &Member) -> Resul
             let format = format_of(alloc, text)?;
             Ok(member.label.is_none() || format.is_none())
         }
+        Shape::Do { .. } => Ok(false),
+        Shape::Continue => Ok(false),
         Shape::End => Ok(false),
     }
 }
 
 /// K11: the least line at which a unit, a format label or a format isn't allowed.
-pub fn misformed_statement(alloc: Global, members: &[Member]) -> Result<Option<Broken>, AllocError>
-    ensures { IfOk result (λ b. b ≡ least (flat_map (misformed (map member_tree members.now)) (map member_tree members.now))) }
+pub fn misformed_statement(alloc: Global, members: &[&Item]) -> Result<Option<Broken>, AllocError>
+    ensures { IfOk result (λ b. b ≡ least (flat_map (misformed (map tree_at members.now)) (map tree_at members.now))) }
 {
     let labels = format_labels(alloc, members)?;
     let mut best = None;
@@ -93,10 +96,10 @@ pub fn misformed_statement(alloc: Global, members: &[Member]) -> Result<Option<B
 fn add_format(
     formats: &mut BTreeMap<u32, Format>,
     alloc: Global,
-    member: &Member,
+    member: &Item,
 ) -> Result<(), AllocError>
-    ensures found { OnOk result ((s : ℕ) → found_in formats.new s ≡ or_else (found_in formats.old s) (format_here s (member_tree member.now))) }
-    ensures small { (s : ℕ) → 2 ^ 32 ≤ s → format_here s (member_tree member.now) ≡ None }
+    ensures found { OnOk result ((s : ℕ) → found_in formats.new s ≡ or_else (found_in formats.old s) (format_here s (item_tree member.now))) }
+    ensures small { (s : ℕ) → 2 ^ 32 ≤ s → format_here s (item_tree member.now) ≡ None }
 {
     match &member.form.shape {
         Shape::Format(text) => match member.label {
@@ -105,6 +108,8 @@ fn add_format(
         },
         Shape::Assignment { .. } => Ok(()),
         Shape::Write { .. } => Ok(()),
+        Shape::Do { .. } => Ok(()),
+        Shape::Continue => Ok(()),
         Shape::End => Ok(()),
     }
 }
@@ -129,10 +134,10 @@ fn add_at(
 /// The formats of the FORMAT statements by their labels.
 pub fn formats_by_label(
     alloc: Global,
-    members: &[Member],
+    members: &[&Item],
 ) -> Result<BTreeMap<u32, Format>, AllocError>
-    ensures found { IfOk result (λ formats. (s : ℕ) → found_in formats s ≡ format_found (map member_tree members.now) s) }
-    ensures small { OnOk result ((s : ℕ) → 2 ^ 32 ≤ s → format_found (map member_tree members.now) s ≡ None) }
+    ensures found { IfOk result (λ formats. (s : ℕ) → found_in formats s ≡ format_found (map tree_at members.now) s) }
+    ensures small { OnOk result ((s : ℕ) → 2 ^ 32 ≤ s → format_found (map tree_at members.now) s ≡ None) }
 {
     let mut formats = BTreeMap::new(alloc);
     for member in members {

@@ -5,12 +5,13 @@ ghost use Rattle.std.specs.Ordering.{nat_cmp};
 ghost use Rattle.std.specs.BTreeSet.{contains};
 ghost use Rattle.meaning.specs.Rules.{repeated_labels, is_label_at, is_format_at, has_format};
 ghost use Rattle.meaning.specs.Refusals.{least};
-ghost use Rattle.meaning.specs.Nesting.{member_tree};
+ghost use Rattle.meaning.specs.Trees.{item_tree};
+ghost use Rattle.checker.specs.Listed.{tree_at};
 ghost use Rattle.checker.specs.Numbered.{is_known};
 
 use crate::broken::broken_if;
 use meaning::refusal::{Broken, Rule, lesser};
-use meaning::syntax::{Member, Shape};
+use meaning::syntax::{Item, Shape};
 use std::alloc::{AllocError, Global};
 use std::collections::BTreeSet;
 
@@ -29,8 +30,8 @@ fn note_label(known: &mut BTreeSet<u32>, label: Option<u32>) -> Result<bool, All
 }
 
 /// K1: the least line at which an earlier statement's label stands again.
-pub fn repeated_label(alloc: Global, members: &[Member]) -> Result<Option<Broken>, AllocError>
-    ensures { IfOk result (λ b. b ≡ least (repeated_labels [] (map member_tree members.now))) }
+pub fn repeated_label(alloc: Global, members: &[&Item]) -> Result<Option<Broken>, AllocError>
+    ensures { IfOk result (λ b. b ≡ least (repeated_labels [] (map tree_at members.now))) }
 {
     let mut known = BTreeSet::new(alloc);
     let mut best = None;
@@ -43,8 +44,8 @@ pub fn repeated_label(alloc: Global, members: &[Member]) -> Result<Option<Broken
 }
 
 /// The label of a FORMAT statement.
-fn format_label(member: &Member) -> Option<u32>
-    ensures label { (s : ℕ) → is_label_at result s ≡ is_format_at s (member_tree member.now) }
+fn format_label(member: &Item) -> Option<u32>
+    ensures label { (s : ℕ) → is_label_at result s ≡ is_format_at s (item_tree member.now) }
     ensures small { (s : ℕ) → 2 ^ 32 ≤ s → is_label_at result s ≡ false }
 {
     match &member.form.shape {
@@ -54,14 +55,16 @@ fn format_label(member: &Member) -> Option<u32>
         }
         Shape::Assignment { .. } => None,
         Shape::Write { .. } => None,
+        Shape::Do { .. } => None,
+        Shape::Continue => None,
         Shape::End => None,
     }
 }
 
 /// The labels of the FORMAT statements.
-pub fn format_labels(alloc: Global, members: &[Member]) -> Result<BTreeSet<u32>, AllocError>
-    ensures labels { IfOk result (λ labels. (s : ℕ) → contains nat_cmp labels s ≡ has_format (map member_tree members.now) s) }
-    ensures small { OnOk result ((s : ℕ) → 2 ^ 32 ≤ s → has_format (map member_tree members.now) s ≡ false) }
+pub fn format_labels(alloc: Global, members: &[&Item]) -> Result<BTreeSet<u32>, AllocError>
+    ensures labels { IfOk result (λ labels. (s : ℕ) → contains nat_cmp labels s ≡ has_format (map tree_at members.now) s) }
+    ensures small { OnOk result ((s : ℕ) → 2 ^ 32 ≤ s → has_format (map tree_at members.now) s ≡ false) }
 {
     let mut labels = BTreeSet::new(alloc);
     for member in members {

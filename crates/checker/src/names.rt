@@ -1,82 +1,59 @@
 //! The variables of a program (ANSI X3.9-1978, 2.5 and 4.1.2).
 
-ghost use Rattle.std.specs.Prelude.{◌≡◌, List, ℕ, flat_map, map, OnOk, IfOk};
-ghost use Rattle.std.specs.List.{list_any};
-ghost use Rattle.meaning.specs.Syntax.{expr_tree, exprs_trees, shape_tree, unit_tree};
-ghost use Rattle.meaning.specs.Rules.{is_real as is_real_name, names_in, names_of, unit_exprs, has_real, real_names};
+ghost use Rattle.std.specs.Prelude.{◌≡◌, [], false, flat_map, map, OnOk, IfOk};
+ghost use Rattle.meaning.specs.Syntax.{expr_tree, exprs_trees, limits_tree, shape_tree, unit_tree};
+ghost use Rattle.meaning.specs.Rules.{is_real, names_in, names_of, exprs_of, unit_exprs, limit_exprs, has_real as has_real_name, real_names};
 ghost use Rattle.meaning.specs.Refusals.{least};
-ghost use Rattle.meaning.specs.Nesting.{member_tree};
-ghost use Rattle.checker.specs.Numbered.{Holds, HoldsAll, Numbers};
+ghost use Rattle.checker.specs.Listed.{tree_at};
+ghost use Rattle.checker.specs.Numbered.{texts, with_name, with_names, variables};
 
 use crate::broken::broken_if;
+use crate::leaves::{Sought, in_statement};
+use crate::targets::target_of;
 use indexmap::IndexSet;
 use meaning::refusal::{Broken, Rule, lesser};
-use meaning::syntax::{Expr, Exprs, Member, Shape, Unit};
+use meaning::syntax::{Expr, Exprs, Item, Limits, Shape, Unit};
 use std::alloc::{AllocError, Global};
 
-/// Whether a name is REAL: it doesn't begin with I to N.
-fn is_real(name: &[u8]) -> bool
-    ensures { result ≡ is_real_name name.now }
-{
-    match name.first() {
-        Some(letter) => !(73 <= *letter && *letter <= 78),
-        None => true,
-    }
-}
+/// A name that is REAL: it doesn't begin with I to N.
+struct RealName;
 
-/// Whether a name of an expression is REAL.
-#[tactic(auto, using(crate::proofs::Parts::any_append))]
-fn has_real_in(expression: &Expr) -> bool
-    ensures { result ≡ list_any is_real_name (names_in (expr_tree expression.now)) }
-{
-    match expression {
-        Expr::Number(_) => false,
-        Expr::Name(name) => is_real(name),
-        Expr::Signed(_, operand) => has_real_in(operand),
-        Expr::Binary(_, left, right) => has_real_in(left) || has_real_in(right),
-    }
-}
+impl Sought for RealName {
+    ghost is_name = { is_real };
 
-/// Whether a name of a list is REAL.
-#[tactic(auto, using(crate::proofs::Parts::any_append))]
-fn any_real(expressions: &Exprs) -> bool
-    ensures { result ≡ list_any is_real_name (flat_map names_in (exprs_trees expressions.now)) }
-{
-    match expressions {
-        Exprs::Empty => false,
-        Exprs::More(first, rest) => has_real_in(first) || any_real(rest),
+    ghost is_number = { λ _. false };
+
+    fn name(name: &[u8]) -> bool {
+        match name.first() {
+            Some(letter) => !(73 <= *letter && *letter <= 78),
+            None => true,
+        }
+    }
+
+    fn number(_digits: &[u8]) -> bool {
+        false
     }
 }
 
 /// Whether a name of a statement is REAL.
-#[tactic(auto, using(crate::proofs::Parts::any_append))]
-fn is_real_at(shape: &Shape) -> bool
-    ensures { result ≡ has_real (shape_tree shape.now) }
+#[tactic(auto, using(crate::proofs::Tested::any_names, crate::proofs::Parts::any_append))]
+fn has_real(shape: &Shape) -> bool
+    ensures { result ≡ has_real_name (shape_tree shape.now) }
 {
-    match shape {
-        Shape::Assignment { name, value } => is_real(name) || has_real_in(value),
-        Shape::Write {
-            unit: Unit::Star,
-            label: _,
-            list,
-        } => any_real(list),
-        Shape::Write {
-            unit: Unit::Number(number),
-            label: _,
-            list,
-        } => has_real_in(number) || any_real(list),
-        Shape::Format(_) => false,
-        Shape::End => false,
-    }
+    let sets_real = match target_of(shape) {
+        Some(name) => RealName::name(name),
+        None => false,
+    };
+    sets_real || in_statement::<RealName>(shape)
 }
 
 /// K3: the least line at which a name is REAL.
-pub fn real_name(members: &[Member]) -> Option<Broken>
-    ensures { result ≡ least (flat_map real_names (map member_tree members.now)) }
+pub fn real_name(members: &[&Item]) -> Option<Broken>
+    ensures { result ≡ least (flat_map real_names (map tree_at members.now)) }
 {
     let mut best = None;
     for member in members {
-        let broken = broken_if(is_real_at(&member.form.shape), member.line, Rule::K3);
+        let broken = broken_if(has_real(&member.form.shape), member.line, Rule::K3);
         best = lesser(best, broken);
     }
     best
@@ -84,8 +61,7 @@ pub fn real_name(members: &[Member]) -> Option<Broken>
 
 /// Puts a name behind those that are there, unless it is one of them.
 fn add_name(names: &mut IndexSet<Vec<u8>>, alloc: Global, name: &[u8]) -> Result<(), AllocError>
-    ensures kept { (n : List ℕ) → Holds names.old.keys n → Holds names.new.keys n }
-    ensures added { OnOk result (Holds names.new.keys name.now) }
+    ensures { OnOk result (texts names.new.keys ≡ with_name (texts names.old.keys) name.now) }
 {
     if !names.contains(name) {
         let own = Vec::from_slice(alloc, name)?;
@@ -95,13 +71,13 @@ fn add_name(names: &mut IndexSet<Vec<u8>>, alloc: Global, name: &[u8]) -> Result
 }
 
 /// Puts the names of an expression behind those that are there, from the left.
+#[tactic(auto, using(crate::proofs::Appearance::with_names_append))]
 fn add_names(
     names: &mut IndexSet<Vec<u8>>,
     alloc: Global,
     expression: &Expr,
 ) -> Result<(), AllocError>
-    ensures kept { (n : List ℕ) → Holds names.old.keys n → Holds names.new.keys n }
-    ensures added { OnOk result (HoldsAll names.new.keys (names_in (expr_tree expression.now))) }
+    ensures { OnOk result (texts names.new.keys ≡ with_names (texts names.old.keys) (names_in (expr_tree expression.now))) }
 {
     match expression {
         Expr::Number(_) => Ok(()),
@@ -111,17 +87,18 @@ fn add_names(
             add_names(names, alloc, left)?;
             add_names(names, alloc, right)
         }
+        Expr::Paren(operand) => add_names(names, alloc, operand),
     }
 }
 
 /// Puts the names of a list behind those that are there.
+#[tactic(auto, using(crate::proofs::Appearance::with_names_append))]
 fn add_all_names(
     names: &mut IndexSet<Vec<u8>>,
     alloc: Global,
     expressions: &Exprs,
 ) -> Result<(), AllocError>
-    ensures kept { (n : List ℕ) → Holds names.old.keys n → Holds names.new.keys n }
-    ensures added { OnOk result (HoldsAll names.new.keys (flat_map names_in (exprs_trees expressions.now))) }
+    ensures { OnOk result (texts names.new.keys ≡ with_names (texts names.old.keys) (flat_map names_in (exprs_trees expressions.now))) }
 {
     match expressions {
         Exprs::Empty => Ok(()),
@@ -138,8 +115,7 @@ fn add_unit_names(
     alloc: Global,
     unit: &Unit,
 ) -> Result<(), AllocError>
-    ensures kept { (n : List ℕ) → Holds names.old.keys n → Holds names.new.keys n }
-    ensures added { OnOk result (HoldsAll names.new.keys (flat_map names_in (unit_exprs (unit_tree unit.now)))) }
+    ensures { OnOk result (texts names.new.keys ≡ with_names (texts names.old.keys) (flat_map names_in (unit_exprs (unit_tree unit.now)))) }
 {
     match unit {
         Unit::Star => Ok(()),
@@ -147,20 +123,34 @@ fn add_unit_names(
     }
 }
 
-/// Puts the names of a statement behind those that are there.
-fn add_names_of(
+/// Puts the names of limits behind those that are there.
+#[tactic(auto, using(crate::proofs::Appearance::with_names_append))]
+fn add_limit_names(
+    names: &mut IndexSet<Vec<u8>>,
+    alloc: Global,
+    limits: &Limits,
+) -> Result<(), AllocError>
+    ensures { OnOk result (texts names.new.keys ≡ with_names (texts names.old.keys) (flat_map names_in (limit_exprs (limits_tree limits.now)))) }
+{
+    add_names(names, alloc, &limits.first)?;
+    add_names(names, alloc, &limits.last)?;
+    match &limits.step {
+        Some(step) => add_names(names, alloc, step),
+        None => Ok(()),
+    }
+}
+
+/// Puts the names in the expressions of a statement behind those that are there.
+#[tactic(auto, using(crate::proofs::Appearance::with_names_append))]
+fn add_expression_names(
     names: &mut IndexSet<Vec<u8>>,
     alloc: Global,
     shape: &Shape,
 ) -> Result<(), AllocError>
-    ensures kept { (n : List ℕ) → Holds names.old.keys n → Holds names.new.keys n }
-    ensures added { OnOk result (HoldsAll names.new.keys (names_of (shape_tree shape.now))) }
+    ensures { OnOk result (texts names.new.keys ≡ with_names (texts names.old.keys) (flat_map names_in (exprs_of (shape_tree shape.now)))) }
 {
     match shape {
-        Shape::Assignment { name, value } => {
-            add_name(names, alloc, name)?;
-            add_names(names, alloc, value)
-        }
+        Shape::Assignment { name: _, value } => add_names(names, alloc, value),
         Shape::Write {
             unit,
             label: _,
@@ -170,13 +160,35 @@ fn add_names_of(
             add_all_names(names, alloc, list)
         }
         Shape::Format(_) => Ok(()),
+        Shape::Do {
+            label: _,
+            comma: _,
+            variable: _,
+            limits,
+        } => add_limit_names(names, alloc, limits),
+        Shape::Continue => Ok(()),
         Shape::End => Ok(()),
     }
 }
 
+/// Puts the names of a statement behind those that are there, first the one that it sets.
+#[tactic(auto, using(crate::proofs::Appearance::with_names_append))]
+fn add_names_of(
+    names: &mut IndexSet<Vec<u8>>,
+    alloc: Global,
+    shape: &Shape,
+) -> Result<(), AllocError>
+    ensures { OnOk result (texts names.new.keys ≡ with_names (texts names.old.keys) (names_of (shape_tree shape.now))) }
+{
+    if let Some(name) = target_of(shape) {
+        add_name(names, alloc, name)?;
+    }
+    add_expression_names(names, alloc, shape)
+}
+
 /// The variables of the statements, in the order of their first appearance.
-pub fn names_in_order(alloc: Global, members: &[Member]) -> Result<IndexSet<Vec<u8>>, AllocError>
-    ensures { IfOk result (λ names. Numbers names.keys (map member_tree members.now)) }
+pub fn names_in_order(alloc: Global, members: &[&Item]) -> Result<IndexSet<Vec<u8>>, AllocError>
+    ensures { IfOk result (λ names. texts names.keys ≡ with_names [] (variables (map tree_at members.now))) }
 {
     let mut names = IndexSet::new(alloc);
     for member in members {

@@ -20,7 +20,7 @@ pub struct Program {
 impl Program {
     ghost use Rattle.std.specs.Prelude.{◌≡◌, option_map};
     ghost use Rattle.meaning.specs.Characters.{number_of};
-    ghost use Rattle.meaning.specs.Nesting.{flatten};
+    ghost use Rattle.meaning.specs.Trees.{flatten};
     ghost use Rattle.meaning.specs.Execution.{format_found};
     ghost use Rattle.format_edit.specs.Formatted.{descriptors};
     ghost use Rattle.checker.specs.Checked.{tree_of, IsNumbered};

@@ -2,5 +2,6 @@
 
 mod accepted;
 mod building;
+mod loops;
 mod refused;
 mod units;

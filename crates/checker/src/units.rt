@@ -1,25 +1,38 @@
 //! Units of WRITE statements (ANSI X3.9-1978, 12.3).
 
-ghost use Rattle.std.specs.Prelude.{◌≡◌, true};
+ghost use Rattle.std.specs.Prelude.{◌≡◌, true, false};
 ghost use Rattle.std.specs.List.{list_any};
 ghost use Rattle.meaning.specs.Syntax.{expr_tree, unit_tree};
 ghost use Rattle.meaning.specs.Rules.{names_in, is_six as is_value_six, is_unit as is_allowed};
 
+use crate::leaves::{Sought, in_expression};
 use meaning::ending::{FaultKind, Value};
 use meaning::syntax::{Expr, Unit};
 use values::{Start, value};
 
+/// A name, whichever it is.
+struct AnyName;
+
+impl Sought for AnyName {
+    ghost is_name = { λ _. true };
+
+    ghost is_number = { λ _. false };
+
+    fn name(_name: &[u8]) -> bool {
+        true
+    }
+
+    fn number(_digits: &[u8]) -> bool {
+        false
+    }
+}
+
 /// Whether a name stands in an expression.
-#[tactic(auto, using(crate::proofs::Parts::any_append))]
+#[tactic(auto, using(crate::proofs::Tested::any_name))]
 fn has_name(expression: &Expr) -> bool
     ensures { result ≡ list_any (λ n. true) (names_in (expr_tree expression.now)) }
 {
-    match expression {
-        Expr::Number(_) => false,
-        Expr::Name(_) => true,
-        Expr::Signed(_, operand) => has_name(operand),
-        Expr::Binary(_, left, right) => has_name(left) || has_name(right),
-    }
+    in_expression::<AnyName>(expression)
 }
 
 /// Whether a value is the integer 6.

@@ -1,21 +1,22 @@
 -- One statement that takes a turn.
-use Rattle.std.proofs.Common.{◌≡◌, ℕ, ℤ, zero, suc, ◌+◌, Bool, true, false, List, [], ◌∷◌, ◌++◌, Option, Some, None, Result, Ok, Err, refl, sym, ap, ◌∙◌, subst, arith}
+use Rattle.std.proofs.Common.{◌≡◌, ℕ, ℤ, suc, ◌+◌, Bool, true, false, List, [], ◌∷◌, ◌++◌, Option, Some, None, Result, Ok, Err, refl, sym, ap, ◌∙◌, subst, arith, append_assoc}
+use Rattle.std.specs.List.{concat}
 use Rattle.meaning.specs.declared.ending.FaultKind.{FaultKind}
 use Rattle.meaning.specs.declared.ending.FaultKind.TheVariants.{F4}
 use Rattle.meaning.specs.declared.ending.Fault.{Fault}
-use Rattle.meaning.specs.declared.ending.Value.{Value}
 use Rattle.meaning.specs.Characters.{number_of}
-use Rattle.meaning.specs.Syntax.{ExprTree, UnitTree, ShapeTree, MemberTree, assignment, writing}
+use Rattle.meaning.specs.Syntax.{ExprTree, UnitTree, ShapeTree, ItemTree, assignment, writing}
 use Rattle.meaning.specs.Maps.{Map, put, map_of}
 use Rattle.meaning.specs.Values.{value, values_of, as_integer, and_then}
 use Rattle.meaning.specs.Records.{edited}
-use Rattle.meaning.specs.Execution.{Ran, more, turn, with_ok, failed, step, format_at}
+use Rattle.meaning.specs.Execution.{Ran, more, Follow, turn, with_ok, failed, step, format_at}
 use Rattle.meaning.specs.Promise.{Told, Took, IsBroken}
+use Rattle.meaning.proofs.Running.{more-more, more-none}
 use Rattle.driver.specs.declared.halt.Halt.{Halt}
-use Rattle.driver.specs.Walk.{Follow, FaultsAs, Faults, GoesOn, Breaks, Steps}
-use Rattle.driver.specs.Statements.{Puts, TakesTurn, Does, recorded}
-use Rattle.driver.proofs.Composed.{more-more, more-none}
+use Rattle.driver.specs.Walk.{Faults, GoesOn, Steps}
+use Rattle.driver.specs.Statements.{Puts, TakesTurn, FaultsAs, Does, recorded}
 use Rattle.driver.proofs.Taken.{Took-none}
+use Rattle.driver.proofs.Composed.{pieces-more}
 use Rattle.std.proofs.lemmas.List.{append-nil}
 
 pub no_turn : (old new : ℕ) (b : Bool) → TakesTurn old new b → b ≡ false → old ≡ 0
@@ -26,12 +27,19 @@ pub one_turn : (old new : ℕ) (b : Bool) → TakesTurn old new b → b ≡ true
 one_turn old new true t e = t
 one_turn old new false t e = absurd cc
 
+pub one_less : (t u : ℕ) → t ≡ suc u → 1 + u ≡ t
+one_less t u e = omega arith
+
+-- a fault of a statement that writes nothing, over a sink that stays
+pub quiet_fault : (r : Ran) (f : Fault) (a : Told) → FaultsAs r f → Faults r f a a
+quiet_fault r f a x = record { outcome = x.outcome; bytes = subst (λ ps. Took a a (concat ps)) (sym x.nothing) (Took-none a) }
+
 module _ (line : ℕ) (m : Map) where
   -- no turn is left
-  pub turn_none : (t : ℕ) (does : Follow → ℕ → Ran) → t ≡ 0 → FaultsAs (λ go. turn line m t (does go)) (record { kind = F4; line = line })
+  pub turn_none : (t : ℕ) (does : ℕ → Ran) → t ≡ 0 → FaultsAs (turn line m t does) (record { kind = F4; line = line })
   unfolding turn
   turn_none t does e =
-      record { ran = failed F4 line m; is = λ go. ap (λ n. turn line m n (does go)) e; outcome = refl; nothing = refl }
+      subst (λ n. FaultsAs (turn line m n does) (record { kind = F4; line = line })) (sym e) (record { outcome = refl; nothing = refl })
 
   -- a turn is taken
   pub turn_some : (t u : ℕ) (does : ℕ → Ran) → t ≡ suc u → turn line m t does ≡ more [] 1 (does u)
@@ -43,30 +51,28 @@ module _ (line : ℕ) (m : Map) where
   turn_goes t u r x does e h =
       turn_some t u (λ n. with_ok r line m (λ y. does y n)) e ∙ ap (λ s. more [] 1 (with_ok s line m (λ y. does y u))) h
 
-  pub turn_fails : {A : Type 0} (t u : ℕ) (r : Result A FaultKind) (k : FaultKind) (does : Follow → A → ℕ → Ran) → t ≡ suc u → r ≡ Err k → FaultsAs (λ go. turn line m t (λ n. with_ok r line m (λ y. does go y n))) (record { kind = k; line = line })
-  unfolding with_ok more
+  failed-behind : (k : FaultKind) → FaultsAs (more [] 1 (failed k line m)) (record { kind = k; line = line })
+  unfolding more
+  failed-behind k = record { outcome = refl; nothing = refl }
+
+  pub turn_fails : {A : Type 0} (t u : ℕ) (r : Result A FaultKind) (k : FaultKind) (does : A → ℕ → Ran) → t ≡ suc u → r ≡ Err k → FaultsAs (turn line m t (λ n. with_ok r line m (λ y. does y n))) (record { kind = k; line = line })
+  unfolding with_ok
   turn_fails t u r k does e h =
-      record {
-        ran = more [] 1 (failed k line m);
-        is =
-            λ go. turn_some t u (λ n. with_ok r line m (λ y. does go y n)) e ∙ ap (λ s. more [] 1 (with_ok s line m (λ y. does go y u))) h;
-        outcome = refl;
-        nothing = refl;
-      }
+      subst (λ s. FaultsAs s (record { kind = k; line = line })) (sym (turn_some t u (λ n. with_ok r line m (λ y. does y n)) e ∙ ap (λ s. more [] 1 (with_ok s line m (λ y. does y u))) h)) (failed-behind k)
 
 -- ---- an assignment
 
-pub assigned : (all : List MemberTree) (names : List (List ℕ)) (old new : List ℤ) (n : List ℕ) (e : ExprTree) (line t u : ℕ) → t ≡ suc u → Puts names n e old new → (go : Follow) → step all (assignment n e) line (map_of names old) t go ≡ more [] 1 (go (map_of names new) u)
-assigned all names old new n e line t u taken puts go =
-    turn_goes line (map_of names old) t u (value e (map_of names old)) puts.result (λ v k. go (put (map_of names old) n [] (as_integer v)) k) taken puts.is ∙ ap (λ m. more [] 1 (go m u)) (sym puts.after)
+module _ (all : List ItemTree) (n : List ℕ) (e : ExprTree) (line t : ℕ) where
+  pub assigned : (names : List (List ℕ)) (old new : List ℤ) (u : ℕ) → t ≡ suc u → Puts names n e old new → (go : Follow) → step all (assignment n e) line (map_of names old) t go ≡ more [] 1 (go (map_of names new) u)
+  assigned names old new u taken puts go =
+      turn_goes line (map_of names old) t u (value e (map_of names old)) puts.result (λ v k. go (put (map_of names old) n [] (as_integer v)) k) taken puts.is ∙ ap (λ m. more [] 1 (go m u)) (sym puts.after)
 
-pub unassigned : (all : List MemberTree) (m : Map) (n : List ℕ) (e : ExprTree) (k : FaultKind) (line t u : ℕ) → t ≡ suc u → value e m ≡ Err k → FaultsAs (λ go. step all (assignment n e) line m t go) (record { kind = k; line = line })
-unassigned all m n e k line t u taken h =
-    turn_fails line m t u (value e m) k (λ go v i. go (put m n [] (as_integer v)) i) taken h
+  pub unassigned : (m : Map) (k : FaultKind) (u : ℕ) → t ≡ suc u → value e m ≡ Err k → (go : Follow) → FaultsAs (step all (assignment n e) line m t go) (record { kind = k; line = line })
+  unassigned m k u taken h go = turn_fails line m t u (value e m) k (λ v i. go (put m n [] (as_integer v)) i) taken h
 
-pub unexecuted : (all : List MemberTree) (m : Map) (n : List ℕ) (e : ExprTree) (line t : ℕ) → t ≡ 0 → FaultsAs (λ go. step all (assignment n e) line m t go) (record { kind = F4; line = line })
-unexecuted all m n e line t none =
-    turn_none line m t (λ go u. with_ok (value e m) line m (λ v. go (put m n [] (as_integer v)) u)) none
+  pub unexecuted : (m : Map) → t ≡ 0 → (go : Follow) → FaultsAs (step all (assignment n e) line m t go) (record { kind = F4; line = line })
+  unexecuted m none go =
+      turn_none line m t (λ u. with_ok (value e m) line m (λ v. go (put m n [] (as_integer v)) u)) none
 
 -- ---- a WRITE statement
 
@@ -75,51 +81,58 @@ unfolding with_ok and_then
 with_ok-with_ok (Ok x) f line m go = refl
 with_ok-with_ok (Err k) f line m go = refl
 
-module _ (all : List MemberTree) (unit : UnitTree) (label : List ℕ) (es : List ExprTree) (line : ℕ) (m : Map) where
-  writes : (t : ℕ) (go : Follow) → step all (writing unit label es) line m t go ≡ turn line m t (λ u. with_ok (recorded all (number_of label) es m) line m (λ records. more (records ∷ []) 0 (go m u)))
-  writes t go = λ i. turn line m t (λ u. with_ok-with_ok (values_of es m) (λ vs. edited (format_at all (number_of label)) vs) line m (λ records. more (records ∷ []) 0 (go m u)) i)
+module _ (all : List ItemTree) (unit : UnitTree) (label : List ℕ) (es : List ExprTree) (line : ℕ) (m : Map) (t : ℕ) where
+  writes : (go : Follow) → step all (writing unit label es) line m t go ≡ turn line m t (λ u. with_ok (recorded all (number_of label) es m) line m (λ records. more (records ∷ []) 0 (go m u)))
+  writes go = λ i. turn line m t (λ u. with_ok-with_ok (values_of es m) (λ vs. edited (format_at all (number_of label)) vs) line m (λ records. more (records ∷ []) 0 (go m u)) i)
 
-  fault_along : (t : ℕ) (f : Fault) → FaultsAs (λ go. turn line m t (λ u. with_ok (recorded all (number_of label) es m) line m (λ records. more (records ∷ []) 0 (go m u)))) f → FaultsAs (λ go. step all (writing unit label es) line m t go) f
-  fault_along t f x = record { ran = x.ran; is = λ go. writes t go ∙ x.is go; outcome = x.outcome; nothing = x.nothing }
+  along : (f : Fault) (a : Told) (go : Follow) → FaultsAs (turn line m t (λ u. with_ok (recorded all (number_of label) es m) line m (λ records. more (records ∷ []) 0 (go m u)))) f → Faults (step all (writing unit label es) line m t go) f a a
+  along f a go x = subst (λ r. Faults r f a a) (sym (writes go)) (quiet_fault _ f a x)
 
-  pub unwritten : (t : ℕ) → t ≡ 0 → FaultsAs (λ go. step all (writing unit label es) line m t go) (record { kind = F4; line = line })
-  unwritten t none =
-      fault_along t (record { kind = F4; line = line }) (turn_none line m t (λ go u. with_ok (recorded all (number_of label) es m) line m (λ records. more (records ∷ []) 0 (go m u))) none)
+  pub unwritten : (a : Told) → t ≡ 0 → (go : Follow) → Faults (step all (writing unit label es) line m t go) (record { kind = F4; line = line }) a a
+  unwritten a none go =
+      along (record { kind = F4; line = line }) a go (turn_none line m t (λ u. with_ok (recorded all (number_of label) es m) line m (λ records. more (records ∷ []) 0 (go m u))) none)
 
-  pub write_fails : (t u : ℕ) (k : FaultKind) → t ≡ suc u → recorded all (number_of label) es m ≡ Err k → FaultsAs (λ go. step all (writing unit label es) line m t go) (record { kind = k; line = line })
-  write_fails t u k taken h =
-      fault_along t (record { kind = k; line = line }) (turn_fails line m t u (recorded all (number_of label) es m) k (λ go records n. more (records ∷ []) 0 (go m n)) taken h)
+  module _ (u : ℕ) (taken : t ≡ suc u) where
+    pub write_fails : (k : FaultKind) (a : Told) → recorded all (number_of label) es m ≡ Err k → (go : Follow) → Faults (step all (writing unit label es) line m t go) (record { kind = k; line = line }) a a
+    write_fails k a h go =
+        along (record { kind = k; line = line }) a go (turn_fails line m t u (recorded all (number_of label) es m) k (λ records n. more (records ∷ []) 0 (go m n)) taken h)
 
-  one_piece : (t u : ℕ) (records : List ℕ) → t ≡ suc u → recorded all (number_of label) es m ≡ Ok records → (go : Follow) → step all (writing unit label es) line m t go ≡ more (records ∷ []) 1 (go m u)
-  one_piece t u records taken h go =
-      writes t go ∙ turn_goes line m t u (recorded all (number_of label) es m) records (λ rs n. more (rs ∷ []) 0 (go m n)) taken h ∙ more-more [] (records ∷ []) 1 0 (go m u)
+    one_piece : (records : List ℕ) → recorded all (number_of label) es m ≡ Ok records → (go : Follow) → step all (writing unit label es) line m t go ≡ more (records ∷ []) 1 (go m u)
+    one_piece records h go =
+        writes go ∙ turn_goes line m t u (recorded all (number_of label) es m) records (λ rs n. more (rs ∷ []) 0 (go m n)) taken h ∙ more-more [] (records ∷ []) 1 0 (go m u)
 
-  pub written_whole : (t u : ℕ) (records : List ℕ) (old new : Told) → t ≡ suc u → recorded all (number_of label) es m ≡ Ok records → Took old new records → GoesOn (λ go. step all (writing unit label es) line m t go) m u old new
-  written_whole t u records old new taken h took =
-      record { pieces = records ∷ []; used = 1; is = one_piece t u records taken h; bytes = subst (λ bs. Took old new bs) (sym (append-nil records)) took }
+    pub written_whole : (records : List ℕ) (old new : Told) → recorded all (number_of label) es m ≡ Ok records → Took old new records → GoesOn (λ go. step all (writing unit label es) line m t go) t m u old new
+    written_whole records old new h took =
+        record {
+          pieces = records ∷ [];
+          used = 1;
+          is = one_piece records h;
+          turns = one_less t u taken;
+          bytes = subst (λ bs. Took old new bs) (sym (append-nil records)) took;
+        }
 
-  pub written_in_part : (t u : ℕ) (records : List ℕ) (old new : Told) → t ≡ suc u → recorded all (number_of label) es m ≡ Ok records → IsBroken records old new → Breaks (λ go. step all (writing unit label es) line m t go) old new
-  unfolding more
-  written_in_part t u records old new taken h broken =
-      record {
-        piece = records;
-        rest = λ go. go m u;
-        is = λ go. ap (λ (r : Ran). r.pieces) (one_piece t u records taken h go);
-        bytes = broken;
-      }
+    pub written_in_part : (records : List ℕ) (old new : Told) → recorded all (number_of label) es m ≡ Ok records → IsBroken records old new → (go : Follow) → IsBroken (concat (step all (writing unit label es) line m t go).pieces) old new
+    written_in_part records old new h broken go =
+        subst (λ (r : Ran). IsBroken (concat r.pieces) old new) (sym (one_piece records h go)) (subst (λ ps. IsBroken (concat ps) old new) (sym (pieces-more (records ∷ []) 1 (go m u))) (record {
+          taken = broken.taken;
+          lost = broken.lost ++ concat (go m u).pieces;
+          parts = ap (λ bs. bs ++ concat (go m u).pieces) broken.parts ∙ append_assoc broken.taken broken.lost (concat (go m u).pieces);
+          after = broken.after;
+        }))
 
 -- ---- any statement
 
 -- a statement that writes nothing, over a sink that stays
-pub steps_quietly : (does : Follow → Ran) (m : Map) (t : ℕ) (o : Option Fault) (a : Told) → Does does m t o → Steps does m t (Ok o) a a
-steps_quietly does m t None a h = record { pieces = []; used = 1; is = h; bytes = Took-none a }
-steps_quietly does m t (Some f) a h = record { faults = h; bytes = Took-none a }
+pub steps_quietly : (does : Follow → Ran) (given : ℕ) (m : Map) (left : ℕ) (o : Option Fault) (a : Told) → Does does given m left o → Steps does given m left (Ok o) a a
+steps_quietly does given m left None a h =
+    record { pieces = []; used = 1; is = h.1; turns = one_less given left h.0; bytes = Took-none a }
+steps_quietly does given m left (Some f) a h = λ go. quiet_fault (does go) f a (h go)
 
 -- a statement that isn't executable
-pub passed_over : (m : Map) (t : ℕ) (a : Told) → GoesOn (λ go. go m t) m t a a
-passed_over m t a = record { pieces = []; used = 0; is = λ go. more-none (go m t); bytes = Took-none a }
+pub passed_over : (m : Map) (t : ℕ) (a : Told) → GoesOn (λ go. go m t) t m t a a
+passed_over m t a = record { pieces = []; used = 0; is = λ go. more-none (go m t); turns = omega arith; bytes = Took-none a }
 
-module _ (all : List MemberTree) (line : ℕ) (old new : Map) (t u : ℕ) (r : Result (Option Fault) Halt) (before after : Told) where
+module _ (all : List ItemTree) (line : ℕ) (old new : Map) (t u : ℕ) (r : Result (Option Fault) Halt) (before after : Told) where
   -- the steps of a statement that is written as its shape
-  pub steps_as : (s shape : ShapeTree) → shape ≡ s → Steps (λ go. step all s line old t go) new u r before after → Steps (λ go. step all shape line old t go) new u r before after
-  steps_as s shape e h = subst (λ x. Steps (λ go. step all x line old t go) new u r before after) (sym e) h
+  pub steps_as : (s shape : ShapeTree) → shape ≡ s → Steps (λ go. step all s line old t go) t new u r before after → Steps (λ go. step all shape line old t go) t new u r before after
+  steps_as s shape e h = subst (λ x. Steps (λ go. step all x line old t go) t new u r before after) (sym e) h

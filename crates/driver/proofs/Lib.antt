@@ -3,6 +3,7 @@ pub mod Numbering
 pub mod Composed
 pub mod Assigned
 pub mod Executed
+pub mod Quotients
 pub mod Looped
 pub mod Listed
 pub mod Promised

@@ -3,9 +3,9 @@ use Rattle.std.proofs.Common.{◌≡◌, ℕ, ◌+◌, ◌<◌, List, [], ◌∷
 use Rattle.std.proofs.lemmas.List.{take_more, map-append}
 use Rattle.meaning.specs.declared.refusal.Broken.{Broken}
 use Rattle.meaning.specs.declared.statement.Statement.{Statement}
-use Rattle.meaning.specs.Syntax.{MemberTree}
-use Rattle.meaning.specs.Statements.{Entry, entry_of}
-use Rattle.meaning.specs.Refusals.{lesser, lesser_of, merge, with_first, all_of}
+use Rattle.meaning.specs.Syntax.{ItemTree}
+use Rattle.meaning.specs.Statements.{entry_of}
+use Rattle.meaning.specs.Refusals.{lesser, merge, with_first, all_of}
 use Rattle.meaning.specs.Answers.{member_of, members_of}
 use Rattle.meaning.proofs.Least.{lesser-lesser}
 
@@ -35,15 +35,15 @@ all_of-push [] q = last_alone q
 all_of-push (r ∷ rs) q = ap (with_first r) (all_of-push rs q) ∙ first-last r (all_of rs) q
 
 -- what was read, unless a rule was broken
-abbrev pub so_far : Option Broken → List MemberTree → Result (List MemberTree) Broken
+abbrev pub so_far : Option Broken → List ItemTree → Result (List ItemTree) Broken
 so_far None ms = Ok ms
 so_far (Some b) ms = Err b
 
-with_ok : (broken : Option Broken) (ms : List MemberTree) (m : MemberTree) → with_last (so_far broken ms) (Ok m) ≡ so_far broken (ms ++ m ∷ [])
+with_ok : (broken : Option Broken) (ms : List ItemTree) (m : ItemTree) → with_last (so_far broken ms) (Ok m) ≡ so_far broken (ms ++ m ∷ [])
 with_ok None ms m = refl
 with_ok (Some b) ms m = refl
 
-with_err : (broken : Option Broken) (ms : List MemberTree) (b : Broken) → with_last (so_far broken ms) (Err b) ≡ so_far (merge broken (Some b)) ms
+with_err : (broken : Option Broken) (ms : List ItemTree) (b : Broken) → with_last (so_far broken ms) (Err b) ≡ so_far (merge broken (Some b)) ms
 with_err None ms b = refl
 with_err (Some a) ms b = refl
 
@@ -56,11 +56,11 @@ module _ (found : List Statement) (i : ℕ) (s : Statement) (lt : i < length fou
       ∙ ap all_of (map-append member_of (map entry_of (take i found)) (entry_of s ∷ []))
       ∙ all_of-push (map member_of (map entry_of (take i found))) (member_of (entry_of s))
 
-  pub listed_more : (broken : Option Broken) (ms : List MemberTree) (m : MemberTree) → so_far broken ms ≡ members_of (map entry_of (take i found)) → member_of (entry_of s) ≡ Ok m → so_far broken (ms ++ m ∷ []) ≡ members_of (map entry_of (take (i + 1) found))
+  pub listed_more : (broken : Option Broken) (ms : List ItemTree) (m : ItemTree) → so_far broken ms ≡ members_of (map entry_of (take i found)) → member_of (entry_of s) ≡ Ok m → so_far broken (ms ++ m ∷ []) ≡ members_of (map entry_of (take (i + 1) found))
   listed_more broken ms m h e =
       sym (with_ok broken ms m) ∙ ap (λ r. with_last r (Ok m)) h ∙ ap (with_last (members_of (map entry_of (take i found)))) (sym e) ∙ sym one_more
 
-  pub broken_more : (broken : Option Broken) (ms : List MemberTree) (b : Broken) → so_far broken ms ≡ members_of (map entry_of (take i found)) → member_of (entry_of s) ≡ Err b → so_far (merge broken (Some b)) ms ≡ members_of (map entry_of (take (i + 1) found))
+  pub broken_more : (broken : Option Broken) (ms : List ItemTree) (b : Broken) → so_far broken ms ≡ members_of (map entry_of (take i found)) → member_of (entry_of s) ≡ Err b → so_far (merge broken (Some b)) ms ≡ members_of (map entry_of (take (i + 1) found))
   broken_more broken ms b h e =
       sym (with_err broken ms b) ∙ ap (λ r. with_last r (Err b)) h ∙ ap (with_last (members_of (map entry_of (take i found)))) (sym e) ∙ sym one_more
 

@@ -1,49 +1,112 @@
--- The loop over the statements of a program.
-use Rattle.std.proofs.Common.{◌≡◌, ℕ, ℤ, pos, zero, suc, ◌+◌, ◌<◌, ◌≤◌, List, [], ◌∷◌, ◌++◌, length, get_or, take, drop, map, replicate, Option, Some, None, Err, refl, sym, ap, ◌∙◌, arith, subst, inl, inr}
+-- Lists of statements, and the trips of a DO statement.
+use Rattle.std.proofs.Common.{◌≡◌, Bool, Result, Ok, ℕ, ℤ, pos, zero, suc, ◌+◌, ◌<◌, ◌≤◌, List, [], ◌∷◌, ◌++◌, length, get_or, drop, replicate, Option, Some, None, Err, refl, sym, ap, ◌∙◌, arith, subst, inl, inr}
 use Rattle.std.specs.Global.{Vec}
+use Rattle.std.specs.List.{AllByRecursion}
 use mathlib.Core.Path.{fun_ext}
 use Rattle.std.proofs.lemmas.Bool.{cases_lt}
-use Rattle.std.proofs.lemmas.List.{drop_more, drop_all, get_or-replicate, get_or_past, length-replicate}
-use Rattle.meaning.specs.declared.syntax.Member.{Member}
-use Rattle.meaning.specs.Syntax.{MemberTree, shape_tree}
-use Rattle.meaning.specs.Nesting.{member_tree}
-use Rattle.meaning.specs.Rules.{names_of}
-use Rattle.meaning.specs.Maps.{Map, start, place_of, cell_at, map_of}
-use Rattle.meaning.specs.Execution.{Ran, Meaning, ended, step, pass_over, fuelled, exec}
-use Rattle.checker.specs.Numbered.{HoldsAll, Numbers}
+use Rattle.std.proofs.lemmas.List.{append-nil, drop_more, drop_all, get_or-replicate, get_or_past, length-map, length-replicate}
+use Rattle.std.proofs.lemmas.List.FromFn.{length-range_with_len}
+use Rattle.meaning.specs.declared.syntax.Member.{Member, Plain, Loop, Loop'}
+use Rattle.meaning.specs.declared.syntax.Loop.{Loop as LoopOf, out-Loop}
+use Rattle.meaning.specs.declared.ending.FaultKind.{FaultKind}
+use Rattle.meaning.specs.declared.ending.FaultKind.TheVariants.{F4}
 use Rattle.meaning.specs.declared.ending.Fault.{Fault}
 use Rattle.meaning.specs.Promise.{Told}
 use Rattle.driver.specs.declared.halt.Halt.{Halt}
-use Rattle.driver.specs.Walk.{Follow, GoesOn, Faults, Steps, Halts, IsOver, SoFar, all_from}
-use Rattle.driver.proofs.Composed.{so_far_more, over_at_fault, halts_at}
+use Rattle.meaning.specs.Syntax.{ExprTree, UnitTree, ItemTree, ShapeTree, LimitsTree, assignment, writing, format, doing, continuing, ending, shape_tree}
+use Rattle.meaning.specs.Trees.{Members, none, flat, item_tree, member_before, row_members, members_tree}
+use Rattle.meaning.specs.Trips.{Span, span_of, trips, trip_count}
+use Rattle.meaning.specs.Rules.{names_of}
+use Rattle.meaning.specs.Maps.{Map, put, start, place_of, cell_at, map_of}
+use Rattle.meaning.specs.Execution.{Ran, Meaning, Follow, ended, failed, more, with_ok, goes_on, added, fold_trips, trips_from, looped, pass_over, exec}
+use Rattle.meaning.proofs.Running.{exec_is}
+use Rattle.meaning.proofs.Ranges.{range_is}
+use Rattle.checker.specs.Numbered.{HoldsAll, Numbers}
+use Rattle.driver.specs.Walk.{Faults, Halts, Runs, Ends, GoesOn, Steps, member_does}
+use Rattle.driver.proofs.Composed.{steps_on, steps_behind_turn}
+use Rattle.driver.proofs.Executed.{passed_over, quiet_fault, turn_none, turn_fails, turn_goes}
 
-pub named_at : (keys : List (Vec ℕ)) (ms : List Member) (i : ℕ) (m : Member) → i < length ms → m ≡ get_or ms i m → Numbers keys (map member_tree ms) → HoldsAll keys (names_of (shape_tree m.form.shape))
-named_at keys [] i m lt is h = absurd (omega arith)
-named_at keys (x ∷ xs) zero m lt is h = subst (λ (y : Member). HoldsAll keys (names_of (shape_tree y.form.shape))) (sym is) h.0
-named_at keys (x ∷ xs) (suc i) m lt is h = named_at keys xs i m (omega arith) is h.1
+-- ---- names
 
-module _ (program : List MemberTree) (limit : ℕ) (ms : List Member) where
-  -- what the statements from a place on do
-  abbrev pub from_place : ℕ → Map → ℕ → Ran
-  from_place i m t = all_from program limit (map member_tree (drop i ms)) m t
+split-all : {A : Type 0} (P : A → Type 0) (xs ys : List A) → AllByRecursion P (xs ++ ys) → AllByRecursion P xs × AllByRecursion P ys
+split-all P [] ys h = (tt, h)
+split-all P (x ∷ xs) ys h = let r = split-all P xs ys h.1 in ((h.0, r.0), r.1)
 
-  -- what follows the statement at a place
-  abbrev pub behind_place : ℕ → Follow
-  behind_place i n u = from_place (i + 1) n u
+flat-before : (x : Member) (ms : Members) → flat (member_before x ms) ≡ flat (member_before x none) ++ flat ms
+flat-before (Plain x) ms = refl
+flat-before (Loop' head shape range) ms =
+    ap (λ xs. item_tree head ∷ (xs ++ flat ms)) (sym (append-nil (flat (row_members range))))
 
-  pub at_place : (i : ℕ) (x : Member) (m : Map) (t : ℕ) → i < length ms → x ≡ get_or ms i x → from_place i m t ≡ step program (shape_tree x.form.shape) x.line m t (behind_place i)
+pub named_at : (keys : List (Vec ℕ)) (ms : List Member) (i : ℕ) (x : Member) → i < length ms → x ≡ get_or ms i x → Numbers keys (flat (members_tree ms)) → Numbers keys (flat (member_before x none))
+named_at keys [] i x lt is h = absurd (omega arith)
+named_at keys (y ∷ ys) zero x lt is h =
+    subst (λ z. Numbers keys (flat (member_before z none))) (sym is) (split-all (λ m. HoldsAll keys (names_of m.shape)) (flat (member_before y none)) (flat (members_tree ys)) (subst (λ xs. Numbers keys xs) (flat-before y (members_tree ys)) h)).0
+named_at keys (y ∷ ys) (suc i) x lt is h =
+    named_at keys ys i x (omega arith) is (split-all (λ m. HoldsAll keys (names_of m.shape)) (flat (member_before y none)) (flat (members_tree ys)) (subst (λ xs. Numbers keys xs) (flat-before y (members_tree ys)) h)).1
+
+-- the names of a DO statement, and those of its range
+pub head_named : (keys : List (Vec ℕ)) (x : Member) (l : LoopOf) → x ≡ Loop l → Numbers keys (flat (member_before x none)) → HoldsAll keys (names_of (shape_tree (out-Loop l).head.form.shape))
+head_named keys x l is h = (subst (λ y. Numbers keys (flat (member_before y none))) is h).0
+
+pub range_named : (keys : List (Vec ℕ)) (x : Member) (l : LoopOf) → x ≡ Loop l → Numbers keys (flat (member_before x none)) → Numbers keys (flat (members_tree (out-Loop l).range.items))
+range_named keys x l is h =
+    subst (λ ms. Numbers keys (flat ms)) (range_is l) (split-all (λ m. HoldsAll keys (names_of m.shape)) _ [] (subst (λ y. Numbers keys (flat (member_before y none))) is h).1).0
+
+-- ---- lists
+
+module _ (program : List ItemTree) where
+  pub loop_does : (rec : Meaning) (l : LoopOf) (m : Map) (t : ℕ) (go : Follow) → member_does program rec (Loop l) m t go ≡ looped rec (shape_tree (out-Loop l).head.form.shape) (out-Loop l).head.line (members_tree (out-Loop l).range.items) m t go
+  loop_does rec l m t go =
+      ap (λ range. looped rec (shape_tree (out-Loop l).head.form.shape) (out-Loop l).head.line range m t go) (range_is l)
+
+  head-does : (rec : Meaning) (all : Members) (x : Member) (ms : Members) (m : Map) (t : ℕ) → pass_over program rec all (member_before x ms) m t ≡ member_does program rec x m t (λ n u. pass_over program rec all ms n u)
   unfolding pass_over
-  at_place i x m t lt is =
-      ap (λ xs. all_from program limit (map member_tree xs) m t) (drop_more ms i x lt ∙ ap (λ y. y ∷ drop (i + 1) ms) (sym is))
+  head-does rec all (Plain x) ms m t = refl
+  head-does rec all (Loop' head shape range) ms m t = refl
 
-  pub at_end_of : (i : ℕ) (m : Map) (t : ℕ) → length ms ≤ i → from_place i m t ≡ ended m
-  unfolding pass_over
-  at_end_of i m t le = ap (λ xs. all_from program limit (map member_tree xs) m t) (drop_all i ms le)
+  module _ (all : Members) (ms : List Member) where
+    -- what the members from a place on do
+    abbrev pub from_place : ℕ → Map → ℕ → Ran
+    from_place i m t = exec program all (members_tree (drop i ms)) m t
 
--- a run is the pass over all statements from the start
-pub exec_is : (program all rest : List MemberTree) (m : Map) (t : ℕ) → exec program all rest m t ≡ pass_over program (fuelled program t) all rest m t
-unfolding exec fuelled
-exec_is program all rest m t = refl
+    -- what follows the member at a place
+    abbrev pub behind_place : ℕ → Follow
+    behind_place i n u = from_place (i + 1) n u
+
+    pub at_place : (i : ℕ) (x : Member) (m : Map) (t : ℕ) → i < length ms → x ≡ get_or ms i x → from_place i m t ≡ member_does program (exec program) x m t (behind_place i)
+    at_place i x m t lt is =
+        let rest = members_tree (drop (i + 1) ms) in
+        ap (λ xs. exec program all (members_tree xs) m t) (drop_more ms i x lt ∙ ap (λ y. y ∷ drop (i + 1) ms) (sym is)) ∙ exec_is program all (member_before x rest) m t ∙ head-does (exec program) all x rest m t ∙ ap (λ go. member_does program (exec program) x m t go) (fun_ext (λ n. fun_ext (λ u. sym (exec_is program all rest n u))))
+
+    pub at_end_of : (i : ℕ) (m : Map) (t : ℕ) → length ms ≤ i → from_place i m t ≡ ended m
+    unfolding pass_over
+    at_end_of i m t le = ap (λ xs. exec program all (members_tree xs) m t) (drop_all i ms le) ∙ exec_is program all none m t
+
+-- ---- trips
+
+module _ (rec : Meaning) (line : ℕ) (variable : List ℕ) (first last by : ℤ) (range : Members) where
+  -- the trips from a place on
+  abbrev pub trips_left : ℕ → Map → ℕ → Ran
+  trips_left i m t = fold_trips rec line variable by range (drop i (trips first last by)) m t
+
+  -- what follows the range at a place
+  abbrev pub behind_range : ℕ → Follow
+  behind_range i n u = added line variable by n (λ k. trips_left (i + 1) k u)
+
+  length-trips : length (trips first last by) ≡ trip_count first last by
+  length-trips = length-map _ _ ∙ length-range_with_len 0 (trip_count first last by)
+
+  pub at_trip : (i : ℕ) (m : Map) (t : ℕ) → i < trip_count first last by → trips_left i m t ≡ goes_on (rec range range m t) t (behind_range i)
+  unfolding fold_trips
+  at_trip i m t lt =
+      ap (λ xs. fold_trips rec line variable by range xs m t) (drop_more (trips first last by) i (pos 0) (let e = length-trips in omega arith))
+
+  pub at_last_trip : (i : ℕ) (m : Map) (t : ℕ) → trip_count first last by ≤ i → trips_left i m t ≡ ended m
+  unfolding fold_trips
+  at_last_trip i m t le =
+      ap (λ xs. fold_trips rec line variable by range xs m t) (drop_all i (trips first last by) (let e = length-trips in omega arith))
+
+-- ---- the start
 
 zero_at : (n i : ℕ) → get_or (replicate n (pos 0)) i (pos 0) ≡ pos 0
 zero_at n i =
@@ -62,21 +125,76 @@ pub start_is : (names : List (List ℕ)) (n : ℕ) → map_of names (replicate n
 unfolding map_of start
 start_is names n = fun_ext (λ x. fun_ext (λ xs. zero_cell n (place_of names x) xs))
 
--- ---- a turn of the loop, from what was run so far
+-- ---- DO statements
 
-module _ (program : List MemberTree) (limit : ℕ) (ms : List Member) (whole : Ran) (i : ℕ) (x : Member) (m : Map) (t : ℕ) (old mid new : Told) (lt : i < length ms) (is : x ≡ get_or ms i x) (so_far : SoFar whole (from_place program limit ms i m t) old mid) where
-  -- what the statement at the place does
-  abbrev pub does_here : Follow → Ran
-  does_here go = step program (shape_tree x.form.shape) x.line m t go
+module _ (rec : Meaning) (label : List ℕ) (comma : Bool) (variable : List ℕ) (limits : LimitsTree) (line : ℕ) (range : Members) (m : Map) (t : ℕ) where
+  abbrev do_statement : ShapeTree
+  do_statement = doing label comma variable limits
 
-  pub turn_goes_on : (n : Map) (u : ℕ) → GoesOn does_here n u mid new → SoFar whole (from_place program limit ms (i + 1) n u) old new
-  turn_goes_on n u goes =
-      so_far_more whole (from_place program limit ms i m t) does_here (behind_place program limit ms i) n u old mid new so_far (at_place program limit ms i x m t lt is) goes
+  pub do_unexecuted : (a : Told) → t ≡ 0 → (go : Follow) → Faults (looped rec do_statement line range m t go) (record { kind = F4; line = line }) a a
+  unfolding looped
+  do_unexecuted a zero-left go =
+      quiet_fault _ (record { kind = F4; line = line }) a (turn_none line m t (λ u. with_ok (span_of limits m) line m (λ s. goes_on (trips_from rec line variable range m u s) u go)) zero-left)
 
-  pub turn_faults : (f : Fault) → Faults does_here f mid new → IsOver whole (Some f) old new
-  turn_faults f faults =
-      over_at_fault whole (from_place program limit ms i m t) does_here (behind_place program limit ms i) f old mid new so_far (at_place program limit ms i x m t lt is) faults
+  module _ (u : ℕ) (taken : t ≡ suc u) where
+    pub do_fails : (k : FaultKind) (a : Told) → span_of limits m ≡ Err k → (go : Follow) → Faults (looped rec do_statement line range m t go) (record { kind = k; line = line }) a a
+    unfolding looped
+    do_fails k a h go =
+        quiet_fault _ (record { kind = k; line = line }) a (turn_fails line m t u (span_of limits m) k (λ s n. goes_on (trips_from rec line variable range m n s) n go) taken h)
 
-  pub turn_halts : (n : Map) (u : ℕ) (h : Halt) → Steps does_here n u (Err h) mid new → Halts whole.pieces h old new
-  turn_halts n u h steps =
-      halts_at whole (from_place program limit ms i m t) does_here (behind_place program limit ms i) n u h old mid new so_far (at_place program limit ms i x m t lt is) steps
+    do_is : (s : Span) → span_of limits m ≡ Ok s → (go : Follow) → looped rec do_statement line range m t go ≡ more [] 1 (goes_on (trips_from rec line variable range m u s) u go)
+    unfolding looped
+    do_is s h go = turn_goes line m t u (span_of limits m) s (λ y n. goes_on (trips_from rec line variable range m n y) n go) taken h
+
+    -- the trips of a DO statement, and then what follows it
+    pub do_runs : (s : Span) (first new : Map) (left : ℕ) (o : Result (Option Fault) Halt) (old after : Told) → span_of limits m ≡ Ok s → first ≡ put m variable [] s.first → Runs (fold_trips rec line variable s.step range (trips s.first s.last s.step) first u) u new left o old after → Steps (λ go. looped rec do_statement line range m t go) t new left o old after
+    do_runs s first new left o old after h e x =
+        let runs = subst (λ n. Runs (fold_trips rec line variable s.step range (trips s.first s.last s.step) n u) u new left o old after) e x in
+        steps_behind_turn (λ go. goes_on (trips_from rec line variable range m u s) u go) (λ go. looped rec do_statement line range m t go) t u new left o old after taken (do_is s h) (steps_on (trips_from rec line variable range m u s) u new left o old after runs)
+
+-- ---- what is no DO statement
+
+-- the steps of what does the same
+pub steps_same : (does whole : Follow → Ran) (given : ℕ) (m : Map) (left : ℕ) (o : Result (Option Fault) Halt) (old new : Told) → ((go : Follow) → whole go ≡ does go) → Steps does given m left o old new → Steps whole given m left o old new
+steps_same does whole given m left (Ok None) old new is x =
+    record { pieces = x.pieces; used = x.used; is = λ go. is go ∙ x.is go; turns = x.turns; bytes = x.bytes }
+steps_same does whole given m left (Ok (Some f)) old new is x = λ go. subst (λ r. Faults r f old new) (sym (is go)) (x go)
+steps_same does whole given m left (Err h) old new is x =
+    λ go. subst (λ (r : Ran). Halts r.pieces h old new) (sym (is go)) (x go)
+
+pub steps_unless_do : (rec : Meaning) (s shape : ShapeTree) (line : ℕ) (range : Members) (m : Map) (t : ℕ) (a : Told) → shape ≡ s → ((go : Follow) → looped rec s line range m t go ≡ go m t) → GoesOn (λ go. looped rec shape line range m t go) t m t a a
+steps_unless_do rec s shape line range m t a e is =
+    steps_same (λ go. go m t) (λ go. looped rec shape line range m t go) t m t (Ok None) a a (λ go. ap (λ x. looped rec x line range m t go) e ∙ is go) (passed_over m t a)
+
+pub assignment_goes : (target : List ℕ) (e : ExprTree) (rec : Meaning) (line : ℕ) (range : Members) (m : Map) (t : ℕ) (go : Follow) → looped rec (assignment target e) line range m t go ≡ go m t
+unfolding looped
+assignment_goes target e rec line range m t go = refl
+
+pub write_goes : (unit : UnitTree) (label : List ℕ) (es : List ExprTree) (rec : Meaning) (line : ℕ) (range : Members) (m : Map) (t : ℕ) (go : Follow) → looped rec (writing unit label es) line range m t go ≡ go m t
+unfolding looped
+write_goes unit label es rec line range m t go = refl
+
+pub format_goes : (text : List ℕ) (rec : Meaning) (line : ℕ) (range : Members) (m : Map) (t : ℕ) (go : Follow) → looped rec (format text) line range m t go ≡ go m t
+unfolding looped
+format_goes text rec line range m t go = refl
+
+pub continue_goes : (rec : Meaning) (line : ℕ) (range : Members) (m : Map) (t : ℕ) (go : Follow) → looped rec continuing line range m t go ≡ go m t
+unfolding looped
+continue_goes rec line range m t go = refl
+
+pub end_goes : (rec : Meaning) (line : ℕ) (range : Members) (m : Map) (t : ℕ) (go : Follow) → looped rec ending line range m t go ≡ go m t
+unfolding looped
+end_goes rec line range m t go = refl
+
+-- ---- the addition behind a range
+
+pub add_fails : (line : ℕ) (variable : List ℕ) (by : ℤ) (m : Map) (k : FaultKind) (go : Map → Ran) (a : Told) → ((on : Map → Ran) → added line variable by m on ≡ failed k line m) → Faults (added line variable by m go) (record { kind = k; line = line }) a a
+add_fails line variable by m k go a is =
+    subst (λ r. Faults r (record { kind = k; line = line }) a a) (sym (is go)) (quiet_fault (failed k line m) (record { kind = k; line = line }) a (record { outcome = refl; nothing = refl }))
+
+-- ---- the whole run
+
+pub ends_as : (r : Ran) (given : ℕ) (m : Map) (left : ℕ) (o : Result (Option Fault) Halt) (old new : Told) → Runs r given m left o old new → Ends r o old new
+ends_as r given m left (Ok None) old new x = record { outcome = x.outcome; bytes = x.bytes }
+ends_as r given m left (Ok (Some f)) old new x = record { outcome = x.outcome; bytes = x.bytes }
+ends_as r given m left (Err h) old new x = x

@@ -1,18 +1,17 @@
 -- The map that cells stand for, when one of them is written.
-use Rattle.std.proofs.Common.{◌+◌, ltb, not, ◌≡◌, ℕ, ℤ, pos, ◌<◌, Bool, true, false, cond, ◌&&◌, List, [], ◌∷◌, length, get_or, set, map, Option, Some, None, refl, sym, ap, ◌∙◌, arith}
+use Rattle.std.proofs.Common.{◌+◌, ltb, not, ◌≡◌, ℕ, ℤ, pos, ◌<◌, Bool, true, false, cond, ◌&&◌, List, [], ◌∷◌, length, get_or, set, map, Option, Some, None, refl, sym, ap, ◌∙◌}
 use mathlib.Core.Path.{fun_ext}
-use Rattle.std.specs.Prelude.{slice_set}
 use Rattle.std.specs.Str.{bytes_eq}
 use Rattle.std.specs.Ordering.{int_eq}
 use Rattle.std.specs.Cmp.Lexicographic.{pointwise}
 use Rattle.std.specs.List.{position, position_or_len, prefix_len}
 use Rattle.std.specs.Global.{Vec}
 use Rattle.std.proofs.lemmas.List.{length-map}
-use Rattle.std.proofs.lemmas.Bool.{cases_Bool, cases_eq, false≢true}
+use Rattle.std.proofs.lemmas.Bool.{false≢true}
 use Rattle.std.proofs.lemmas.List.{get_or-set_same, get_or-set_other}
 use Rattle.std.proofs.lemmas.List.Quantifiers.{position-Some}
 use Rattle.std.proofs.lemmas.Slice.Eq.{bytes_eq-Decides}
-use Rattle.meaning.specs.Maps.{Map, put, place_of, cell_at, map_of}
+use Rattle.meaning.specs.Maps.{put, place_of, cell_at, map_of}
 
 -- what stands at a name's place is that name
 place-name : (names : List (List ℕ)) (n : List ℕ) (i : ℕ) → place_of names n ≡ Some i → n ≡ get_or names i []

@@ -1,19 +1,17 @@
 -- The three cases of the main theorem.
-use Rattle.std.proofs.Common.{◌≡◌, ℕ, Bool, true, false, List, [], ◌∷◌, ◌++◌, Option, Some, None, Result, Ok, Err, refl, sym, ap, ◌∙◌, subst}
+use Rattle.std.proofs.Common.{◌≡◌, ℕ, Bool, true, false, List, [], Option, Result, Ok, Err, refl, sym, ap, ◌∙◌, subst}
 use Rattle.std.specs.Prelude.{◌↔◌}
 use Rattle.std.proofs.lemmas.Bool.{false≢true}
 use Rattle.std.specs.List.{concat}
-use Rattle.std.proofs.lemmas.List.{append-nil}
 use Rattle.meaning.specs.declared.refusal.Broken.{Broken}
 use Rattle.meaning.specs.declared.refusal.Rule.{Rule}
 use Rattle.meaning.specs.declared.ending.Fault.{Fault}
 use Rattle.meaning.specs.declared.ending.Ending.{Ending}
 use Rattle.meaning.specs.declared.ending.Ending.TheVariants as endings
-use Rattle.meaning.specs.Nesting.{Nested}
-use Rattle.meaning.specs.Execution.{Ran}
+use Rattle.meaning.specs.Trees.{Nested}
 use Rattle.meaning.specs.Answers.{answer, answer_of, program_of, run_of, ending_of}
-use Rattle.meaning.specs.Promise.{Told, Took, IsFront, IsBroken, Keeps, whole, cut_short, broken_off}
-use Rattle.driver.specs.Walk.{outcome_of, IsOver}
+use Rattle.meaning.specs.Promise.{Told, IsFront, IsBroken, Keeps, whole, cut_short, broken_off}
+use Rattle.driver.specs.Walk.{outcome_of, HasEnded}
 use Rattle.driver.proofs.Taken.{Took-none}
 
 -- the answer of a source, once its program is known
@@ -35,7 +33,7 @@ keeps_nothing source limit a =
     })
 
 module _ (source : List ℕ) (limit : ℕ) (t : Nested) (old new : Told) (e : program_of source ≡ Ok t) where
-  pub keeps_whole : (o : Option Fault) (ending : Ending) → IsOver (run_of t limit) o old new → ending ≡ ending_of (outcome_of o) → Keeps (answer source limit) old new ending
+  pub keeps_whole : (o : Option Fault) (ending : Ending) → HasEnded (run_of t limit) o old new → ending ≡ ending_of (outcome_of o) → Keeps (answer source limit) old new ending
   keeps_whole o ending over is =
       subst (λ x. Keeps x old new ending) (sym (answer_is source limit (Ok t) e)) (whole (record { bytes = over.bytes; same_ending = is ∙ ap ending_of (sym over.outcome) }))
 

@@ -1,15 +1,17 @@
 //! The command line: `f77run [FILE]`.
 
-ghost use Rattle.std.specs.Prelude.{◌<◌, ◌≤◌, length, IfOk, IsOk, IsErrOf};
-ghost use Rattle.driver.specs.CommandLine.{Names};
+ghost use Rattle.std.specs.Prelude.{◌≡◌, MatchResult, Ok, Err};
+ghost use Rattle.driver.specs.CommandLine.{asked_for};
 
 use crate::asked::{Options, OptionsFault};
 
-/// Reads a command line, the first word of which is the program's name.
+/// Reads a command line, the first word of which is the program's name: one file at most may stand behind it.
+///
+/// # Errors
+///
+/// `NoSuchOption` where the second word of two begins with a minus sign, `TooManyFiles` where there are more than two.
 pub fn options<'a>(words: &[&'a str]) -> Result<Options<'a>, OptionsFault>
-    ensures file { IfOk result (λ o. Names words.now o.file) }
-    ensures few { length words.now ≤ 1 → IsOk result }
-    ensures many { 2 < length words.now → IsErrOf result OptionsFault.TooManyFiles }
+    ensures { MatchResult result (λ o. asked_for words.now ≡ Ok o.file) (λ e. asked_for words.now ≡ Err e) }
 {
     match words {
         [] | [_] => Ok(Options { file: None }),

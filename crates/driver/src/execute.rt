@@ -1,192 +1,138 @@
 //! The statements of a program, executed one after another (ANSI X3.9-1978, chapters 10 to 12).
 
-ghost use Rattle.std.specs.Prelude.{◌≡◌, ◌∷◌, [], ℕ, List, false, map, vec_len, length, replicate, pos, IfOk};
-ghost use Rattle.meaning.specs.Characters.{number_of};
-ghost use Rattle.meaning.specs.Syntax.{MemberTree, UnitTree, assignment, writing, expr_tree, exprs_trees, shape_tree};
+ghost use Rattle.std.specs.Prelude.{◌≡◌, ◌≢◌, [], ℕ, List, Bool, false, vec_len, length, replicate, pos, IfOk};
+ghost use Rattle.meaning.specs.declared.syntax.Loop.{out-Loop};
+ghost use Rattle.meaning.specs.Syntax.{ItemTree, shape_tree, limits_tree, doing};
 ghost use Rattle.meaning.specs.Maps.{map_of};
-ghost use Rattle.meaning.specs.Nesting.{flatten, member_tree};
+ghost use Rattle.meaning.specs.Trees.{Members, none, flat, flatten, item_tree, member_before, members_tree};
+ghost use Rattle.meaning.specs.Trips.{trips};
 ghost use Rattle.meaning.specs.Answers.{run_of};
 ghost use Rattle.meaning.specs.Rules.{names_of};
-ghost use Rattle.meaning.specs.Values.{value as value_of, values_of};
-ghost use Rattle.meaning.specs.Execution.{step, format_at, format_found};
-ghost use Rattle.meaning.specs.Records.{edited};
+ghost use Rattle.meaning.specs.Execution.{exec, fold_trips, looped, pass_over};
 ghost use Rattle.meaning.specs.Promise.{Told};
 ghost use Rattle.checker.specs.Checked.{tree_of, names_of_program, IsNumbered};
-ghost use Rattle.checker.specs.Numbered.{Holds, HoldsAll};
-ghost use Rattle.values.specs.Listed.{Listed};
-ghost use Rattle.driver.specs.Walk.{Steps, Runs, all_from};
-ghost use Rattle.driver.specs.Statements.{Assigns, recorded, TakesTurn, Does};
+ghost use Rattle.checker.specs.Numbered.{Holds, HoldsAll, Numbers};
+ghost use Rattle.driver.specs.Walk.{Steps, Runs, Ends, member_does};
 
 use crate::halt::Halt;
-use crate::sink::{Sink, put_all};
+use crate::limits::{Span, count_of, values_of_limits};
+use crate::sink::Sink;
+use crate::statement::{add_to, execute_item, set_variable, take_turn};
 use checker::Program;
-use format_edit::{EditFault, Format, edit};
-use indexmap::IndexSet;
-use meaning::ending::{Fault, FaultKind, Value};
-use meaning::number::number;
-use meaning::syntax::{Expr, Exprs, Member, Shape};
+use meaning::ending::{Fault, FaultKind};
+use meaning::syntax::{Limits, Loop, Member, Shape};
 use std::alloc::{AllocError, Global};
-use values::{Variables, as_integer, value, values};
 
-/// The variables of a program by name, and their cells.
-#[derive(Clone, Copy)]
-pub struct Cells<'a> {
-    names: &'a IndexSet<Vec<u8>>,
-    cells: &'a [i32],
-}
-
-impl Variables for Cells<'_> {
-    ghost map = { λ s. map_of (map (λ k. k.items) s.names.now.keys) s.cells.now };
-
-    fn read(&self, name: &[u8]) -> i32 {
-        match self.names.get_index_of(name) {
-            Some(cell) => {
-                if cell < self.cells.len() {
-                    self.cells[cell]
-                } else {
-                    0
-                }
-            }
-            None => 0,
-        }
-    }
-}
-
-// Gives a variable the value of an expression.
-fn assign(
+// Executes a range once for each trip of its DO statement, whose variable has its first value.
+#[cycle(members)]
+fn execute_trips<S: Sink>(
+    alloc: Global,
     program: &Program,
-    name: &[u8],
-    expression: &Expr,
+    repeated: &Loop,
+    variable: &[u8],
+    span: Span,
     cells: &mut Vec<i32>,
-) -> Result<(), FaultKind>
-    requires numbered { Holds program.now.names.keys name.now }
-    requires sized { vec_len cells.old ≡ length program.now.names.keys }
-    ensures assigned { Assigns (names_of_program program.now) name.now (expr_tree expression.now) cells.old.items cells.new.items result }
-    ensures len { vec_len cells.new ≡ vec_len cells.old }
-{
-    let variables = Cells {
-        names: &program.names,
-        cells,
-    };
-    let x = as_integer(value(expression, &variables)?);
-    if let Some(cell) = program.names.get_index_of(name) {
-        cells[cell] = x;
-    }
-    Ok(())
-}
-
-// The records of a WRITE statement, or its fault.
-#[tactic(auto, unfolding(meaning::specs::Values::and_then))]
-fn recorded_list(
-    alloc: Global,
-    program: &Program,
-    label: &[u8],
-    list: &Exprs,
-    cells: &[i32],
-) -> Result<Result<Vec<u8>, FaultKind>, AllocError>
-    requires { IsNumbered program.now }
-    ensures { IfOk result (λ r. Listed r (recorded (flatten (tree_of program.now)) (number_of label.now) (exprs_trees list.now) (map_of (names_of_program program.now) cells.now))) }
-{
-    let variables = Cells {
-        names: &program.names,
-        cells,
-    };
-    match values(alloc, list, &variables)? {
-        Ok(found) => edited_list(alloc, program, label, &found),
-        Err(kind) => Ok(Err(kind)),
-    }
-}
-
-// The records of values under the FORMAT statement of a label, or the fault.
-fn edited_list(
-    alloc: Global,
-    program: &Program,
-    label: &[u8],
-    found: &[Value],
-) -> Result<Result<Vec<u8>, FaultKind>, AllocError>
-    requires { IsNumbered program.now }
-    ensures { IfOk result (λ r. Listed r (edited (format_at (flatten (tree_of program.now)) (number_of label.now)) found.now)) }
-{
-    let blank = Format {
-        descriptors: Vec::new(alloc),
-    };
-    let format = program.format(label).unwrap_or(&blank);
-    match edit(alloc, format, found) {
-        Ok(records) => Ok(Ok(records)),
-        Err(EditFault::F7) => Ok(Err(FaultKind::F7)),
-        Err(EditFault::F8) => Ok(Err(FaultKind::F8)),
-        Err(EditFault::Memory) => Err(AllocError),
-    }
-}
-
-// Takes one of the turns that are left, if there is one.
-fn take_turn(turns: &mut u64) -> bool
-    ensures { TakesTurn turns.old turns.new result }
-{
-    if *turns == 0 {
-        return false;
-    }
-    *turns -= 1;
-    true
-}
-
-// Executes an assignment.
-fn execute_assignment(
-    program: &Program,
-    line: u32,
-    name: &[u8],
-    expression: &Expr,
-    cells: &mut Vec<i32>,
-    turns: &mut u64,
-) -> Option<Fault>
-    requires numbered { Holds program.now.names.keys name.now }
-    requires sized { vec_len cells.old ≡ length program.now.names.keys }
-    ensures does { (all : List MemberTree) → Does (λ go. step all (assignment name.now (expr_tree expression.now)) line (map_of (names_of_program program.now) cells.old.items) turns.old go) (map_of (names_of_program program.now) cells.new.items) turns.new result }
-    ensures len { vec_len cells.new ≡ vec_len cells.old }
-{
-    if !take_turn(turns) {
-        return Some(Fault {
-            kind: FaultKind::F4,
-            line,
-        });
-    }
-    match assign(program, name, expression, cells) {
-        Ok(()) => None,
-        Err(kind) => Some(Fault { kind, line }),
-    }
-}
-
-// Executes a WRITE statement: all its records are made before the first byte goes out.
-fn execute_write<S: Sink>(
-    alloc: Global,
-    program: &Program,
-    line: u32,
-    label: &[u8],
-    list: &Exprs,
-    cells: &[i32],
     turns: &mut u64,
     sink: &mut S,
 ) -> Result<Option<Fault>, Halt>
     requires numbered { IsNumbered program.now }
+    requires named { Numbers program.now.names.keys (flat (members_tree (out-Loop repeated.now).range.items)) }
+    requires held { Holds program.now.names.keys variable.now }
+    requires sized { vec_len cells.old ≡ length program.now.names.keys }
     requires unrefused { (S.told sink.old).refused ≡ false }
-    ensures steps { (unit : UnitTree) → Steps (λ go. step (flatten (tree_of program.now)) (writing unit label.now (exprs_trees list.now)) line (map_of (names_of_program program.now) cells.now) turns.old go) (map_of (names_of_program program.now) cells.now) turns.new result (S.told sink.old) (S.told sink.new) }
+    requires some { span.step ≢ pos 0 }
+    ensures runs { Runs (fold_trips (exec (flatten (tree_of program.now))) (out-Loop repeated.now).head.line variable.now span.step (members_tree (out-Loop repeated.now).range.items) (trips span.first span.last span.step) (map_of (names_of_program program.now) cells.old.items) turns.old) turns.old (map_of (names_of_program program.now) cells.new.items) turns.new result (S.told sink.old) (S.told sink.new) }
+    ensures len { vec_len cells.new ≡ vec_len cells.old }
 {
+    for _ in 0..count_of(span) {
+        match execute_list(alloc, program, &repeated.range, cells, turns, sink)? {
+            None => {}
+            Some(inner) => return Ok(Some(inner)),
+        }
+        match add_to(program, variable, span.step, cells) {
+            Ok(()) => {}
+            Err(kind) => {
+                let line = repeated.head.line;
+                return Ok(Some(Fault { kind, line }));
+            }
+        }
+    }
+    Ok(None)
+}
+
+// Executes a DO statement with its range.
+#[cycle(members)]
+fn execute_do<S: Sink>(
+    alloc: Global,
+    program: &Program,
+    repeated: &Loop,
+    variable: &[u8],
+    limits: &Limits,
+    cells: &mut Vec<i32>,
+    turns: &mut u64,
+    sink: &mut S,
+) -> Result<Option<Fault>, Halt>
+    requires numbered { IsNumbered program.now }
+    requires named { Numbers program.now.names.keys (flat (members_tree (out-Loop repeated.now).range.items)) }
+    requires held { Holds program.now.names.keys variable.now }
+    requires sized { vec_len cells.old ≡ length program.now.names.keys }
+    requires unrefused { (S.told sink.old).refused ≡ false }
+    ensures steps { (label : List ℕ) (comma : Bool) → Steps (λ go. looped (exec (flatten (tree_of program.now))) (doing label comma variable.now (limits_tree limits.now)) (out-Loop repeated.now).head.line (members_tree (out-Loop repeated.now).range.items) (map_of (names_of_program program.now) cells.old.items) turns.old go) turns.old (map_of (names_of_program program.now) cells.new.items) turns.new result (S.told sink.old) (S.told sink.new) }
+    ensures len { vec_len cells.new ≡ vec_len cells.old }
+{
+    let line = repeated.head.line;
     if !take_turn(turns) {
         return Ok(Some(Fault {
             kind: FaultKind::F4,
             line,
         }));
     }
-    match recorded_list(alloc, program, label, list, cells)? {
-        Ok(records) => {
-            put_all(sink, &records)?;
-            Ok(None)
+    match values_of_limits(program, limits, cells) {
+        Ok(span) => {
+            set_variable(program, variable, span.first, cells);
+            execute_trips(alloc, program, repeated, variable, span, cells, turns, sink)
         }
         Err(kind) => Ok(Some(Fault { kind, line })),
     }
 }
 
-// Executes one statement, or passes over one that isn't executable.
+// Executes a DO statement with its range; what is none is passed over.
+#[cycle(members)]
+fn execute_loop<S: Sink>(
+    alloc: Global,
+    program: &Program,
+    repeated: &Loop,
+    cells: &mut Vec<i32>,
+    turns: &mut u64,
+    sink: &mut S,
+) -> Result<Option<Fault>, Halt>
+    requires numbered { IsNumbered program.now }
+    requires named { Numbers program.now.names.keys (flat (members_tree (out-Loop repeated.now).range.items)) }
+    requires head { HoldsAll program.now.names.keys (names_of (shape_tree (out-Loop repeated.now).head.form.shape)) }
+    requires sized { vec_len cells.old ≡ length program.now.names.keys }
+    requires unrefused { (S.told sink.old).refused ≡ false }
+    ensures steps { Steps (λ go. looped (exec (flatten (tree_of program.now))) (shape_tree (out-Loop repeated.now).head.form.shape) (out-Loop repeated.now).head.line (members_tree (out-Loop repeated.now).range.items) (map_of (names_of_program program.now) cells.old.items) turns.old go) turns.old (map_of (names_of_program program.now) cells.new.items) turns.new result (S.told sink.old) (S.told sink.new) }
+    ensures len { vec_len cells.new ≡ vec_len cells.old }
+{
+    match &repeated.head.form.shape {
+        Shape::Do {
+            label: _,
+            comma: _,
+            variable,
+            limits,
+        } => execute_do(
+            alloc, program, repeated, variable, limits, cells, turns, sink,
+        ),
+        Shape::Assignment { .. } => Ok(None),
+        Shape::Write { .. } => Ok(None),
+        Shape::Format(_) => Ok(None),
+        Shape::Continue => Ok(None),
+        Shape::End => Ok(None),
+    }
+}
+
+// Executes a member of a list.
+#[cycle(members)]
 fn execute_member<S: Sink>(
     alloc: Global,
     program: &Program,
@@ -196,45 +142,37 @@ fn execute_member<S: Sink>(
     sink: &mut S,
 ) -> Result<Option<Fault>, Halt>
     requires numbered { IsNumbered program.now }
-    requires named { HoldsAll program.now.names.keys (names_of (shape_tree member.now.form.shape)) }
+    requires named { Numbers program.now.names.keys (flat (member_before member.now none)) }
     requires sized { vec_len cells.old ≡ length program.now.names.keys }
     requires unrefused { (S.told sink.old).refused ≡ false }
-    ensures steps { Steps (λ go. step (flatten (tree_of program.now)) (shape_tree member.now.form.shape) member.now.line (map_of (names_of_program program.now) cells.old.items) turns.old go) (map_of (names_of_program program.now) cells.new.items) turns.new result (S.told sink.old) (S.told sink.new) }
+    ensures steps { Steps (λ go. member_does (flatten (tree_of program.now)) (exec (flatten (tree_of program.now))) member.now (map_of (names_of_program program.now) cells.old.items) turns.old go) turns.old (map_of (names_of_program program.now) cells.new.items) turns.new result (S.told sink.old) (S.told sink.new) }
     ensures len { vec_len cells.new ≡ vec_len cells.old }
 {
-    let line = member.line;
-    match &member.form.shape {
-        Shape::Assignment { name, value } => Ok(execute_assignment(
-            program, line, name, value, cells, turns,
-        )),
-        Shape::Write {
-            unit: _,
-            label,
-            list,
-        } => execute_write(alloc, program, line, label, list, cells, turns, sink),
-        Shape::Format(_) => Ok(None),
-        Shape::End => Ok(None),
+    match member {
+        Member::Plain(item) => execute_item(alloc, program, item, cells, turns, sink),
+        Member::Loop(repeated) => execute_loop(alloc, program, repeated, cells, turns, sink),
     }
 }
 
-// Executes the statements of a program one after another.
-fn execute_all<S: Sink>(
+// Executes the members of a list one after another.
+#[cycle(members)]
+fn execute_list<S: Sink>(
     alloc: Global,
     program: &Program,
     members: &[Member],
     cells: &mut Vec<i32>,
-    turns: u64,
+    turns: &mut u64,
     sink: &mut S,
 ) -> Result<Option<Fault>, Halt>
     requires numbered { IsNumbered program.now }
-    requires whole { map member_tree members.now ≡ flatten (tree_of program.now) }
+    requires named { Numbers program.now.names.keys (flat (members_tree members.now)) }
     requires sized { vec_len cells.old ≡ length program.now.names.keys }
     requires unrefused { (S.told sink.old).refused ≡ false }
-    ensures { Runs (all_from (flatten (tree_of program.now)) turns (map member_tree members.now) (map_of (names_of_program program.now) cells.old.items) turns) result (S.told sink.old) (S.told sink.new) }
+    ensures runs { (all : Members) → Runs (exec (flatten (tree_of program.now)) all (members_tree members.now) (map_of (names_of_program program.now) cells.old.items) turns.old) turns.old (map_of (names_of_program program.now) cells.new.items) turns.new result (S.told sink.old) (S.told sink.new) }
+    ensures len { vec_len cells.new ≡ vec_len cells.old }
 {
-    let mut left = turns;
     for member in members {
-        match execute_member(alloc, program, member, cells, &mut left, sink)? {
+        match execute_member(alloc, program, member, cells, turns, sink)? {
             None => {}
             Some(fault) => return Ok(Some(fault)),
         }
@@ -260,8 +198,16 @@ pub fn execute<S: Sink>(
 ) -> Result<Option<Fault>, Halt>
     requires numbered { IsNumbered program.now }
     requires unrefused { (S.told sink.old).refused ≡ false }
-    ensures { Runs (run_of (tree_of program.now) turns) result (S.told sink.old) (S.told sink.new) }
+    ensures { Ends (run_of (tree_of program.now) turns) result (S.told sink.old) (S.told sink.new) }
 {
     let mut cells = zero_cells(alloc, program.names.len())?;
-    execute_all(alloc, program, &program.tree.body, &mut cells, turns, sink)
+    let mut left = turns;
+    execute_list(
+        alloc,
+        program,
+        &program.tree.body,
+        &mut cells,
+        &mut left,
+        sink,
+    )
 }

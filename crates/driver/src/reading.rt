@@ -3,26 +3,26 @@
 ghost use Rattle.std.specs.Prelude.{◌≡◌, map, IfOk};
 ghost use Rattle.meaning.specs.Reports.{Gives};
 ghost use Rattle.meaning.specs.Statements.{entry_of};
-ghost use Rattle.meaning.specs.Nesting.{member_tree};
+ghost use Rattle.meaning.specs.Trees.{item_tree};
 ghost use Rattle.meaning.specs.Answers.{member_of, members_of, program_of};
 ghost use Rattle.checker.specs.Checked.{tree_of, IsNumbered};
 
 use checker::{Program, check};
 use meaning::refusal::{Broken, Refusal, lesser};
 use meaning::statement::Statement;
-use meaning::syntax::Member;
+use meaning::syntax::Item;
 use nesting::tree;
 use parser::{bare, form};
 use source_columns::statements;
 use std::alloc::Global;
 
 // What one statement says, in its place.
-fn member_in(alloc: Global, statement: &Statement) -> Result<Member, Refusal>
-    ensures { Gives member_tree result (member_of (entry_of statement.now)) }
+fn member_in(alloc: Global, statement: &Statement) -> Result<Item, Refusal>
+    ensures { Gives item_tree result (member_of (entry_of statement.now)) }
 {
     let text = bare(alloc, statement)?;
     let form = form(alloc, &text)?;
-    Ok(Member {
+    Ok(Item {
         line: statement.line,
         label: statement.label,
         form,
@@ -30,8 +30,8 @@ fn member_in(alloc: Global, statement: &Statement) -> Result<Member, Refusal>
 }
 
 // What the statements say, or the least rule that one of them breaks.
-fn members_in(alloc: Global, found: &[Statement]) -> Result<Vec<Member>, Refusal>
-    ensures { Gives (λ v. map member_tree v.items) result (members_of (map entry_of found.now)) }
+fn members_in(alloc: Global, found: &[Statement]) -> Result<Vec<Item>, Refusal>
+    ensures { Gives (λ v. map item_tree v.items) result (members_of (map entry_of found.now)) }
 {
     let mut members = Vec::new(alloc);
     let mut broken = None;
@@ -59,6 +59,6 @@ pub fn program_in(alloc: Global, source: &[u8]) -> Result<Program, Refusal>
 {
     let found = statements(alloc, source)?;
     let members = members_in(alloc, &found)?;
-    let unit = tree(members)?;
+    let unit = tree(alloc, members)?;
     check(alloc, unit)
 }

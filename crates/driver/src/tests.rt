@@ -10,6 +10,8 @@ use std::io;
 use std::io::{ErrorKind, Write};
 use std::test::*;
 
+mod loops;
+
 /// A writer in memory that takes at most `step` bytes a call and `room` bytes in all; past that it answers 0, or an
 /// error.
 #[derive(Drop)]

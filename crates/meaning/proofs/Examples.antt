@@ -1,5 +1,5 @@
 -- Worked examples: the definitions compute what the rules say.
-use Rattle.std.proofs.Common.{◌≡◌, ℕ, List, [], ◌∷◌, Some, Ok, Err, pos, negsuc, refl, true}
+use Rattle.std.proofs.Common.{◌≡◌, ℕ, List, [], ◌∷◌, Some, None, Ok, Err, pos, negsuc, refl, true, false}
 use Rattle.std.specs.Prelude.{codes}
 use Rattle.std.specs.Fmt.{digits}
 use Rattle.meaning.specs.declared.syntax.Sign.TheVariants as signs
@@ -9,25 +9,27 @@ use Rattle.meaning.specs.declared.refusal.Rule.TheVariants.{G1, G2}
 use Rattle.meaning.specs.declared.ending.Ending.TheVariants as endings
 use Rattle.meaning.specs.declared.ending.Value.TheVariants as values
 use Rattle.meaning.specs.declared.ending.FaultKind.TheVariants.{F7}
-use Rattle.meaning.specs.Syntax.{name, signed, binary, assignment}
+use Rattle.meaning.specs.Syntax.{number, name, signed, binary, paren, assignment, doing}
 use Rattle.meaning.specs.Answers.{answer, program_of, members_of, run_of}
 use Rattle.meaning.specs.Statements.{statements_of, broken_lines, entries}
 use Rattle.meaning.specs.Lines.{lines_of, pieces, without_return, card}
 use Rattle.meaning.specs.BareText.{bare, bare_behind}
-use Rattle.meaning.specs.Reading.{read_shape, shape_of, assignment_of, writing_of, format_of, ending_of, before_last_parenthesis, label_at, unit_at, list_of, expressions_at, whole_expression_at, expression_at, operations_at, front_at, primary_at, name_at, operator_at, sign_at, run, after, most_open, is_left_out}
-use Rattle.meaning.specs.Kinds.{kind_of, marks_at}
+use Rattle.meaning.specs.Reading.{read_shape, shape_of, assignment_of, writing_of, format_of, ending_of, before_last_parenthesis, doing_of, continuing_of, limits_at, comma_at, label_at, unit_at, list_of, expressions_at, whole_expression_at, expression_at, operations_at, front_at, primary_at, paren_at, name_at, operator_at, sign_at, run, after, most_open, is_left_out}
+use Rattle.meaning.specs.Kinds.{kind_of, marks_at, has_limits}
 use Rattle.meaning.specs.Spelling.{balanced}
-use Rattle.meaning.specs.Nesting.{nest, nest_after}
-use Rattle.meaning.specs.Rules.{checked, repeated_labels}
+use Rattle.meaning.specs.Nesting.{nest, past, breaks, missing_end}
+use Rattle.meaning.specs.Rules.{checked, repeated_labels, reset_variables}
 use Rattle.meaning.specs.Formats.{descriptors_of, descriptors_at, descriptor_at, behind_count, field, skip}
-use Rattle.meaning.specs.Execution.{exec, fuelled, pass_over, format_found, with_ok, turn, more}
+use Rattle.meaning.specs.Execution.{exec, fuelled, pass_over, looped, fold_trips, goes_on, format_found, with_ok, turn, more}
+use Rattle.meaning.specs.Trips.{span_of, trips}
+use Rattle.meaning.specs.Arrays.{Dimension, place, cell_of}
 use Rattle.meaning.specs.Values.{value, values_of, integer}
 use Rattle.meaning.specs.Maps.{put, start, map_of}
 use Rattle.meaning.specs.Records.{edited, outcome_of, written, text_of, laid, course}
 
 -- every definition that stays folded elsewhere
 all_definitions : Unit {0}
-unfolding answer program_of members_of statements_of lines_of pieces without_return card broken_lines entries bare bare_behind read_shape shape_of kind_of marks_at assignment_of writing_of format_of ending_of balanced before_last_parenthesis label_at unit_at list_of expressions_at whole_expression_at expression_at operations_at front_at primary_at name_at operator_at sign_at run after most_open is_left_out nest nest_after checked repeated_labels descriptors_of descriptors_at descriptor_at behind_count run_of exec fuelled pass_over format_found with_ok turn more value values_of integer put start map_of edited outcome_of written text_of laid course digits
+unfolding answer program_of members_of statements_of lines_of pieces without_return card broken_lines entries bare bare_behind read_shape shape_of kind_of marks_at has_limits assignment_of writing_of format_of ending_of doing_of continuing_of limits_at comma_at paren_at balanced before_last_parenthesis label_at unit_at list_of expressions_at whole_expression_at expression_at operations_at front_at primary_at name_at operator_at sign_at run after most_open is_left_out nest past breaks missing_end checked repeated_labels reset_variables descriptors_of descriptors_at descriptor_at behind_count run_of exec fuelled pass_over looped fold_trips goes_on span_of format_found with_ok turn more value values_of integer put start map_of edited outcome_of written text_of laid course digits
 all_definitions = tt
 
 -- blanks have no meaning outside apostrophes, and letters are raised there
@@ -50,6 +52,15 @@ left_grouping : shape_of (codes "I=I-J-K") ≡ Some (assignment (codes "I") (bin
 unfolding all_definitions
 left_grouping = refl
 
+-- DO10I=1 is an assignment, and with a comma behind the equals sign it is a DO statement
+assignment_to_do10i : shape_of (codes "DO10I=1") ≡ Some (assignment (codes "DO10I") (number (codes "1")))
+unfolding all_definitions
+assignment_to_do10i = refl
+
+do_statement : shape_of (codes "DO10I=1,(N)") ≡ Some (doing (codes "10") false (codes "I") (record { first = number (codes "1"); last = paren (name (codes "N")); step = None }))
+unfolding all_definitions
+do_statement = refl
+
 no_reading : read_shape (codes "I=A*-B") ≡ Err G1
 unfolding all_definitions
 no_reading = refl
@@ -71,6 +82,39 @@ clash : edited (field 1 3 ∷ []) (values.Int (pos 7) ∷ (values.Bool true ∷ 
 unfolding all_definitions
 clash = refl
 
+-- trips 1, 4, 7 and 10; none where the first value is beyond the last; and downwards
+four_trips : trips (pos 1) (pos 10) (pos 3) ≡ pos 1 ∷ (pos 4 ∷ (pos 7 ∷ (pos 10 ∷ [])))
+four_trips = refl
+
+no_trips : trips (pos 5) (pos 1) (pos 1) ≡ []
+no_trips = refl
+
+downwards : trips (pos 1) (negsuc 0) (negsuc 0) ≡ pos 1 ∷ (pos 0 ∷ (negsuc 0 ∷ []))
+downwards = refl
+
+-- A(2,3) and B(-1:1): the first subscript varies fastest, a subscript outside its bounds has no place, and a variable
+-- has the cell behind those of an array
+abbrev two_by_three : List Dimension
+two_by_three = record { lower = pos 1; upper = pos 2 } ∷ (record { lower = pos 1; upper = pos 3 } ∷ [])
+
+abbrev minus_one_to_one : List Dimension
+minus_one_to_one = record { lower = negsuc 0; upper = pos 1 } ∷ []
+
+second_element : place two_by_three (pos 2 ∷ (pos 1 ∷ [])) ≡ Some 1
+second_element = refl
+
+last_element : place two_by_three (pos 2 ∷ (pos 3 ∷ [])) ≡ Some 5
+last_element = refl
+
+no_element : place minus_one_to_one (pos 2 ∷ []) ≡ None
+no_element = refl
+
+first_of_three : place minus_one_to_one (negsuc 0 ∷ []) ≡ Some 0
+first_of_three = refl
+
+cell_behind_an_array : cell_of (record { name = codes "A"; dimensions = two_by_three } ∷ (record { name = codes "I"; dimensions = [] } ∷ [])) (codes "I") [] ≡ Some 6
+cell_behind_an_array = refl
+
 -- the first program that anybody runs
 abbrev first_program : List ℕ
 first_program = codes "      WRITE (6,10) 42\n   10 FORMAT (1X,I5)\n      END\n"
@@ -78,3 +122,12 @@ first_program = codes "      WRITE (6,10) 42\n   10 FORMAT (1X,I5)\n      END\n"
 first_answer : answer first_program 1000000000 ≡ record { pieces = codes "    42\n" ∷ []; ending = endings.Ended }
 unfolding all_definitions
 first_answer = refl
+
+-- a DO statement whose terminal statement is shared: after the last trip each variable is one step on
+abbrev shared_terminal : List ℕ
+shared_terminal =
+    codes "      DO 10 I=1,2\n      DO 10 J=1,3\n   10 K=K+I*J\n      WRITE (6,20) I,J,K\n   20 FORMAT (3I4)\n      END\n"
+
+shared_answer : answer shared_terminal 1000 ≡ record { pieces = codes "   3   4  18\n" ∷ []; ending = endings.Ended }
+unfolding all_definitions
+shared_answer = refl

@@ -29,6 +29,10 @@ lesser_of-merge a None p = refl
 lesser_of-merge a (Some b) None = refl
 lesser_of-merge a (Some b) (Some c) = lesser-lesser a b c
 
+pub merge-merge : (o p q : Option Broken) → merge o (merge p q) ≡ merge (merge o p) q
+merge-merge None p q = refl
+merge-merge (Some a) p q = ap Some (lesser_of-merge a p q)
+
 pub least-append : (xs ys : List Broken) → least (xs ++ ys) ≡ merge (least xs) (least ys)
 least-append [] ys = refl
 least-append (x ∷ xs) ys = ap (λ o. Some (lesser_of x o)) (least-append xs ys) ∙ ap Some (lesser_of-merge x (least xs) (least ys))

@@ -1,2 +1,7 @@
 pub mod Least
+pub mod Ranges
+pub mod Running
+pub mod Limits
 pub mod Examples
+pub mod Stores
+pub mod Elements

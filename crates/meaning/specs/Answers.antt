@@ -5,11 +5,12 @@ use Rattle.meaning.specs.declared.refusal.Rule.{Rule}
 use Rattle.meaning.specs.declared.ending.Ending.{Ending}
 use Rattle.meaning.specs.declared.ending.Ending.TheVariants as endings
 use Rattle.meaning.specs.Refusals.{◌>>=◌, all_of}
-use Rattle.meaning.specs.Syntax.{MemberTree}
+use Rattle.meaning.specs.Syntax.{ItemTree}
 use Rattle.meaning.specs.Statements.{Entry, statements_of}
 use Rattle.meaning.specs.BareText.{bare}
 use Rattle.meaning.specs.Reading.{read_shape}
-use Rattle.meaning.specs.Nesting.{Nested, flatten, nest}
+use Rattle.meaning.specs.Nesting.{nest}
+use Rattle.meaning.specs.Trees.{Nested, flatten}
 use Rattle.meaning.specs.Rules.{checked}
 use Rattle.meaning.specs.Maps.{start}
 use Rattle.meaning.specs.Execution.{Outcome, normal, fault, Ran, exec}
@@ -19,10 +20,10 @@ abbrev pub at_line : {A : Type 0} → ℕ → Result A Rule → Result A Broken
 at_line line (Ok x) = Ok x
 at_line line (Err rule) = Err (record { line = line; rule = rule })
 
-abbrev pub member_of : Entry → Result MemberTree Broken
+abbrev pub member_of : Entry → Result ItemTree Broken
 member_of e = at_line e.line (read_shape (bare e.text)) >>= λ s. Ok (record { line = e.line; label = e.label; shape = s })
 
-unfoldable pub members_of : List Entry → Result (List MemberTree) Broken
+unfoldable pub members_of : List Entry → Result (List ItemTree) Broken
 members_of entries = all_of (map member_of entries)
 
 -- the program unit that a source spells, or the refusal

@@ -1,14 +1,16 @@
 -- What the statements of a program do, one executed after another (ANSI X3.9-1978, chapters 10 to 12).
-use Rattle.std.specs.Prelude.{unwrap_or, ℕ, zero, suc, ◌+◌, Bool, true, false, List, [], ◌∷◌, ◌++◌, Option, Some, None, Result, Ok, Err}
+use Rattle.std.specs.Prelude.{unwrap_or, ℕ, zero, suc, ◌+◌, ◌-◌, ℤ, ◌+ℤ◌, Bool, true, false, List, [], ◌∷◌, ◌++◌, Option, Some, None, Result, Ok, Err}
 use Rattle.meaning.specs.declared.ending.FaultKind.{FaultKind}
 use Rattle.meaning.specs.declared.ending.FaultKind.TheVariants.{F4}
 use Rattle.meaning.specs.Characters.{number_of}
-use Rattle.meaning.specs.Syntax.{ShapeTree, assignment, writing, format, ending, MemberTree}
+use Rattle.meaning.specs.Syntax.{ShapeTree, assignment, writing, format, doing, continuing, ending, ItemTree}
+use Rattle.meaning.specs.Trees.{Members, none, plain, loop}
+use Rattle.meaning.specs.Trips.{Span, span_of, trips}
 use Rattle.meaning.specs.Formats.{Descriptor, descriptors_of}
 use Rattle.meaning.specs.Records.{edited}
 use Rattle.meaning.specs.Rules.{has_label}
 use Rattle.meaning.specs.Maps.{Map, put}
-use Rattle.meaning.specs.Values.{value, values_of, as_integer}
+use Rattle.meaning.specs.Values.{value, values_of, as_integer, integer}
 
 -- how a run ends
 pub data Outcome : Type 0 where
@@ -47,6 +49,8 @@ abbrev pub descriptors_if : Bool → ShapeTree → Option (List Descriptor)
 descriptors_if true (format text) = descriptors_of text
 descriptors_if true (assignment target e) = None
 descriptors_if true (writing unit label es) = None
+descriptors_if true (doing label comma variable limits) = None
+descriptors_if true continuing = None
 descriptors_if true ending = None
 descriptors_if false s = None
 
@@ -54,40 +58,84 @@ abbrev pub or_else : Option (List Descriptor) → Option (List Descriptor) → O
 or_else None o = o
 or_else (Some ds) o = Some ds
 
-unfoldable pub format_found : List MemberTree → ℕ → Option (List Descriptor)
+unfoldable pub format_found : List ItemTree → ℕ → Option (List Descriptor)
 format_found [] label = None
 format_found (m ∷ ms) label = or_else (descriptors_if (has_label label m) m.shape) (format_found ms label)
 
-abbrev pub format_at : List MemberTree → ℕ → List Descriptor
+abbrev pub format_at : List ItemTree → ℕ → List Descriptor
 format_at members label = unwrap_or (format_found members label) []
 
--- what statements do: all of a list, what is left of it, the map and the turns that are left
+-- what the members of a list do: all of the list, what is left of it, the map and the turns that are left
 abbrev pub Meaning : Type 0
-Meaning = List MemberTree → List MemberTree → Map → ℕ → Ran
+Meaning = Members → Members → Map → ℕ → Ran
 
--- one statement, and then what follows it
-abbrev pub step : List MemberTree → ShapeTree → ℕ → Map → ℕ → (Map → ℕ → Ran) → Ran
+-- what follows, from a map and the turns that are left
+abbrev pub Follow : Type 0
+Follow = Map → ℕ → Ran
+
+-- goes on behind a normal end, with the map that it left and the turns that it left of t
+abbrev pub goes_on_by : Outcome → Ran → ℕ → Follow → Ran
+goes_on_by normal r t go = more r.pieces r.used (go r.map (t - r.used))
+goes_on_by (fault k line) r t go = r
+
+unfoldable pub goes_on : Ran → ℕ → Follow → Ran
+goes_on r t go = goes_on_by r.outcome r t go
+
+-- ---- one statement, and then what follows it
+
+abbrev pub step : List ItemTree → ShapeTree → ℕ → Map → ℕ → Follow → Ran
 step program (assignment target e) line m t go =
     turn line m t (λ u. with_ok (value e m) line m (λ v. go (put m target [] (as_integer v)) u))
 step program (writing unit label es) line m t go =
     turn line m t (λ u. with_ok (values_of es m) line m (λ vs. with_ok (edited (format_at program (number_of label)) vs) line m (λ records. more (records ∷ []) 0 (go m u))))
 step program (format text) line m t go = go m t
+step program (doing label comma variable limits) line m t go = go m t
+step program continuing line m t go = turn line m t (λ u. go m u)
 step program ending line m t go = go m t
 
--- one pass over what is left of a list; a jump and a nested list would go on by rec
-unfoldable pub pass_over : List MemberTree → Meaning → Meaning
-pass_over program rec all [] m t = ended m
-pass_over program rec all (x ∷ xs) m t =
-    step program x.shape x.line m t (λ n u. pass_over program rec all xs n u)
+-- ---- a DO and its range (11.10.4 to 11.10.7)
+
+-- the addition to the DO variable; the variable stays where the sum is outside INTEGER (own)
+abbrev pub added : ℕ → List ℕ → ℤ → Map → (Map → Ran) → Ran
+added line variable by m go = with_ok (integer (m variable [] +ℤ by)) line m (λ v. go (put m variable [] (as_integer v)))
+
+-- the range, executed once for each trip that is left
+unfoldable pub fold_trips : Meaning → ℕ → List ℕ → ℤ → Members → List ℤ → Map → ℕ → Ran
+fold_trips rec line variable by range [] m t = ended m
+fold_trips rec line variable by range (i ∷ is) m t =
+    goes_on (rec range range m t) t (λ n u. added line variable by n (λ k. fold_trips rec line variable by range is k u))
+
+-- the variable gets its first value, and the range is executed for each trip
+abbrev pub trips_from : Meaning → ℕ → List ℕ → Members → Map → ℕ → Span → Ran
+trips_from rec line variable range m t s =
+    fold_trips rec line variable s.step range (trips s.first s.last s.step) (put m variable [] s.first) t
+
+unfoldable pub looped : Meaning → ShapeTree → ℕ → Members → Map → ℕ → Follow → Ran
+looped rec (doing label comma variable limits) line range m t go =
+    turn line m t (λ u. with_ok (span_of limits m) line m (λ s. goes_on (trips_from rec line variable range m u s) u go))
+looped rec (assignment target e) line range m t go = go m t
+looped rec (writing unit label es) line range m t go = go m t
+looped rec (format text) line range m t go = go m t
+looped rec continuing line range m t go = go m t
+looped rec ending line range m t go = go m t
+
+-- ---- lists
+
+-- one pass over what is left of a list; a range, and later a jump, goes on by rec
+unfoldable pub pass_over : List ItemTree → Meaning → Meaning
+pass_over program rec all none m t = ended m
+pass_over program rec all (plain x ms) m t = step program x.shape x.line m t (λ n u. pass_over program rec all ms n u)
+pass_over program rec all (loop x range ms) m t =
+    looped rec x.shape x.line range m t (λ n u. pass_over program rec all ms n u)
 
 abbrev pub never : Meaning
 never all rest m t = ended m
 
 -- at most so many passes
-unfoldable pub fuelled : List MemberTree → ℕ → Meaning
+unfoldable pub fuelled : List ItemTree → ℕ → Meaning
 fuelled program zero = never
 fuelled program (suc n) = pass_over program (fuelled program n)
 
 -- each pass but the last takes a turn, so turns and one are passes enough
-unfoldable pub exec : List MemberTree → Meaning
+unfoldable pub exec : List ItemTree → Meaning
 exec program all rest m t = fuelled program (suc t) all rest m t

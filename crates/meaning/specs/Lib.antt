@@ -2,6 +2,7 @@ pub mod Ranks
 pub mod Characters
 pub mod Syntax
 pub mod Spelling
+pub mod Trees
 pub mod Refusals
 pub mod Lines
 pub mod Statements
@@ -12,9 +13,13 @@ pub mod Nesting
 pub mod Rules
 pub mod Maps
 pub mod Values
+pub mod Trips
 pub mod Records
 pub mod Formats
 pub mod Execution
+pub mod Turns
 pub mod Answers
 pub mod Promise
 pub mod Reports
+pub mod Stores
+pub mod Arrays

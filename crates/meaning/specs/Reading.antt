@@ -9,7 +9,7 @@ use Rattle.meaning.specs.declared.syntax.Kind.TheVariants as kinds
 use Rattle.meaning.specs.declared.refusal.Rule.{Rule}
 use Rattle.meaning.specs.declared.refusal.Rule.TheVariants.{G1, G2, G3}
 use Rattle.meaning.specs.Characters.{is_digit, is_alphanumeric, is_name, is_label, apostrophe}
-use Rattle.meaning.specs.Syntax.{ExprTree, number, name, signed, binary, UnitTree, star, unit_number, ShapeTree, assignment, writing, format, ending}
+use Rattle.meaning.specs.Syntax.{ExprTree, number, name, signed, binary, paren, UnitTree, star, unit_number, LimitsTree, ShapeTree, assignment, writing, format, doing, continuing, ending}
 use Rattle.meaning.specs.Spelling.{level, level_of, balanced}
 use Rattle.meaning.specs.Kinds.{kind_of}
 
@@ -70,19 +70,25 @@ operator_at (c ∷ t) =
 unfoldable pub name_at : Reader (List ℕ)
 name_at t = if is_name (run is_alphanumeric t).0 then Some (run is_alphanumeric t) else None
 
--- digits or a name
-unfoldable pub primary_at : Reader ExprTree
+-- an expression of the weakest level behind an opening parenthesis, and the closing one
+unfoldable pub paren_at : (ℕ → Reader ExprTree) → Reader ExprTree
 unfolding ◌>>=◌
-primary_at [] = None
-primary_at (c ∷ t) =
+paren_at rec t = rec 0 t >>= λ e. after (41 ∷ []) e.1 >>= λ rest. Some (paren e.0, rest)
+
+-- digits, a name, or an expression in parentheses
+unfoldable pub primary_at : (ℕ → Reader ExprTree) → Reader ExprTree
+unfolding ◌>>=◌
+primary_at rec [] = None
+primary_at rec (c ∷ t) =
     if is_digit c then Some (number (run is_digit (c ∷ t)).0, (run is_digit (c ∷ t)).1)
-    else (name_at (c ∷ t) >>= λ n. Some (name n.0, n.1))
+    else (if c == 40 then paren_at rec t
+    else (name_at (c ∷ t) >>= λ n. Some (name n.0, n.1)))
 
 -- what an expression of a level begins with: a sign and one term, where the level lets a sign stand, or a primary
 unfoldable pub front_at : (ℕ → Reader ExprTree) → ℕ → Reader ExprTree
 unfolding ◌>>=◌ either when
 front_at rec least t =
-    either (sign_at t) (primary_at t) (λ s. when (nat_le least 5) (rec 6 s.1 >>= λ e. Some (signed s.0 e.0, e.1)))
+    either (sign_at t) (primary_at rec t) (λ s. when (nat_le least 5) (rec 6 s.1 >>= λ e. Some (signed s.0 e.0, e.1)))
 
 -- an operator of this level or a stronger one that may have this operand on its left
 abbrev pub may_follow : ℕ → ExprTree → Operator → Bool
@@ -171,12 +177,44 @@ ending_of t = do
   rest ← after (codes "END") t
   at_end (ending, rest)
 
+-- limits: two expressions or three, with commas between
+unfoldable pub limits_at : Reader LimitsTree
+unfolding ◌>>=◌ either
+limits_at t = do
+  first ← whole_expression_at t
+  behind ← after (44 ∷ []) first.1
+  last ← whole_expression_at behind
+  either (after (44 ∷ []) last.1) (Some (record { first = first.0; last = last.0; step = None }, last.1)) (λ rest. whole_expression_at rest >>= λ e. Some (record { first = first.0; last = last.0; step = Some e.0 }, e.1))
+
+-- a comma, or none
+unfoldable pub comma_at : Text → Bool × Text
+unfolding either
+comma_at t = either (after (44 ∷ []) t) (false, t) (λ rest. (true, rest))
+
+unfoldable pub doing_of : Text → Option ShapeTree
+unfolding ◌>>=◌
+doing_of t = do
+  rest ← after (codes "DO") t
+  l ← label_at rest
+  v ← name_at (comma_at l.1).1
+  behind ← after (61 ∷ []) v.1
+  limits ← limits_at behind
+  at_end (doing l.0 (comma_at l.1).0 v.0 limits.0, limits.1)
+
+unfoldable pub continuing_of : Text → Option ShapeTree
+unfolding ◌>>=◌
+continuing_of t = do
+  rest ← after (codes "CONTINUE") t
+  at_end (continuing, rest)
+
 -- the form that a bare text reads as
 unfoldable pub shape_of : Text → Option ShapeTree
 shape_of t = elim (kind_of t) [
   | kinds.Assignment ↦ assignment_of t
   | kinds.Write ↦ writing_of t
   | kinds.Format ↦ format_of t
+  | kinds.Do ↦ doing_of t
+  | kinds.Continue ↦ continuing_of t
   | kinds.End ↦ ending_of t
   | kinds.Other ↦ None
 ]

@@ -1,11 +1,11 @@
 -- The bare text of a form, and which forms are well formed (ANSI X3.9-1978, chapters 4 to 16 and appendix F).
 -- A text reads as a form exactly when the form is well formed and this is its spelling.
-use Rattle.std.specs.Prelude.{ℕ, Bool, true, false, ◌&&◌, not, List, [], ◌∷◌, ◌++◌, nat_le, nat_lt, ◌==◌, codes, if◌then◌else◌, IsTrue, ◌≡◌, ◌+◌, ◌-◌}
+use Rattle.std.specs.Prelude.{ℕ, Bool, true, false, ◌&&◌, not, List, [], ◌∷◌, ◌++◌, nat_le, nat_lt, ◌==◌, codes, if◌then◌else◌, IsTrue, ◌≡◌, ◌+◌, ◌-◌, Option, Some, None}
 use Rattle.meaning.specs.declared.syntax.Sign.{Sign}
 use Rattle.meaning.specs.declared.syntax.Sign.TheVariants as signs
 use Rattle.meaning.specs.declared.syntax.Operator.{Operator}
 use Rattle.meaning.specs.declared.syntax.Operator.TheVariants as operators
-use Rattle.meaning.specs.Syntax.{ExprTree, number, name, signed, binary, UnitTree, star, unit_number, ShapeTree, assignment, writing, format, ending}
+use Rattle.meaning.specs.Syntax.{ExprTree, number, name, signed, binary, paren, UnitTree, star, unit_number, LimitsTree, ShapeTree, assignment, writing, format, doing, continuing, ending}
 use Rattle.meaning.specs.Characters.{is_number, is_name, is_label, apostrophe}
 
 -- ---- expressions (6.1)
@@ -24,6 +24,7 @@ spell_expr (number digits) = digits
 spell_expr (name letters) = letters
 spell_expr (signed sign e) = sign_byte sign ∷ spell_expr e
 spell_expr (binary operator a b) = spell_expr a ++ (operator_text operator ++ spell_expr b)
+spell_expr (paren e) = 40 ∷ (spell_expr e ++ 41 ∷ [])
 
 -- how strongly an operator binds: + and - stand at level 5, * at level 6 (6.1.3, 6.5)
 abbrev pub level : Operator → ℕ
@@ -37,6 +38,7 @@ level_of (number digits) = 8
 level_of (name letters) = 8
 level_of (signed sign e) = 5
 level_of (binary operator a b) = level operator
+level_of (paren e) = 8
 
 -- operators of one level group from the left, and a sign takes one term
 abbrev pub IsWellExpr : ExprTree → Type 0
@@ -45,6 +47,7 @@ IsWellExpr (name letters) = IsTrue (is_name letters)
 IsWellExpr (signed sign e) = IsWellExpr e × IsTrue (nat_le 6 (level_of e))
 IsWellExpr (binary operator a b) =
     IsWellExpr a × (IsWellExpr b × (IsTrue (nat_le (level operator) (level_of a)) × IsTrue (nat_le (level operator + 1) (level_of b))))
+IsWellExpr (paren e) = IsWellExpr e
 
 -- expressions with commas between
 abbrev pub spell_more : List ExprTree → List ℕ
@@ -82,16 +85,39 @@ abbrev pub IsWellUnit : UnitTree → Type 0
 IsWellUnit star = Unit {0}
 IsWellUnit (unit_number e) = IsWellExpr e
 
+-- the step of limits, and what may stand behind a label
+abbrev pub spell_step : Option ExprTree → List ℕ
+spell_step None = []
+spell_step (Some e) = 44 ∷ spell_expr e
+
+abbrev pub IsWellStep : Option ExprTree → Type 0
+IsWellStep None = Unit {0}
+IsWellStep (Some e) = IsWellExpr e
+
+abbrev pub spell_limits : LimitsTree → List ℕ
+spell_limits l = spell_expr l.first ++ (44 ∷ (spell_expr l.last ++ spell_step l.step))
+
+abbrev pub IsWellLimits : LimitsTree → Type 0
+IsWellLimits l = IsWellExpr l.first × (IsWellExpr l.last × IsWellStep l.step)
+
+abbrev pub spell_comma : Bool → List ℕ
+spell_comma true = 44 ∷ []
+spell_comma false = []
+
 abbrev pub spell : ShapeTree → List ℕ
 spell (assignment target e) = target ++ (61 ∷ spell_expr e)
 spell (writing unit label es) = codes "WRITE(" ++ (spell_unit unit ++ (44 ∷ (label ++ (41 ∷ spell_list es))))
 spell (format text) = codes "FORMAT(" ++ (text ++ 41 ∷ [])
+spell (doing label comma variable limits) = codes "DO" ++ (label ++ (spell_comma comma ++ (variable ++ (61 ∷ spell_limits limits))))
+spell continuing = codes "CONTINUE"
 spell ending = codes "END"
 
 abbrev pub IsWell : ShapeTree → Type 0
 IsWell (assignment target e) = IsTrue (is_name target) × IsWellExpr e
 IsWell (writing unit label es) = IsWellUnit unit × (IsTrue (is_label label) × AreWellExprs es)
 IsWell (format text) = IsTrue (balanced 0 false text)
+IsWell (doing label comma variable limits) = IsTrue (is_label label) × (IsTrue (is_name variable) × IsWellLimits limits)
+IsWell continuing = Unit {0}
 IsWell ending = Unit {0}
 
 -- the text reads as the form

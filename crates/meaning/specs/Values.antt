@@ -10,7 +10,7 @@ use Rattle.meaning.specs.declared.syntax.Sign.TheVariants as signs
 use Rattle.meaning.specs.declared.syntax.Operator.{Operator}
 use Rattle.meaning.specs.declared.syntax.Operator.TheVariants as operators
 use Rattle.meaning.specs.Characters.{number_of}
-use Rattle.meaning.specs.Syntax.{ExprTree, number, name, signed, binary}
+use Rattle.meaning.specs.Syntax.{ExprTree, number, name, signed, binary, paren}
 use Rattle.meaning.specs.Maps.{Map}
 
 -- the range of INTEGER, -2147483648 to 2147483647 (own)
@@ -55,6 +55,7 @@ value (name letters) m = integer (m letters [])
 value (signed sign e) m = value e m >>= λ x. integer (with_sign sign (as_integer x))
 value (binary operator a b) m =
     value a m >>= λ x. value b m >>= λ y. integer (combined operator (as_integer x) (as_integer y))
+value (paren e) m = value e m
 
 -- the values of a list, first to last
 unfoldable pub values_of : List ExprTree → Map → Result (List Value) FaultKind

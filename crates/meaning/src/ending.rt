@@ -19,6 +19,8 @@ pub enum FaultKind {
     F2,
     /// The turn limit.
     F4,
+    /// A DO increment of zero.
+    F5,
     /// A value that meets a descriptor of the other type, or for which no descriptor comes.
     F7,
     /// A WRITE that is too large.
@@ -30,6 +32,7 @@ impl fmt::Display for FaultKind {
         let name = match self {
             FaultKind::F2 => "F2",
             FaultKind::F4 => "F4",
+            FaultKind::F5 => "F5",
             FaultKind::F7 => "F7",
             FaultKind::F8 => "F8",
         };

@@ -29,12 +29,18 @@ pub enum Rule {
     G3,
     /// The END statement is missing, or a statement follows it.
     N2,
+    /// A DO range that crosses another, a terminal statement that isn't allowed, or END inside a DO range.
+    N4,
+    /// A DO statement that would be the 33rd open one.
+    N5,
     /// A statement label that an earlier statement has.
     K1,
     /// A variable of type REAL.
     K3,
     /// An integer constant outside the range of INTEGER.
     K6,
+    /// A statement that sets the variable of a DO around it.
+    K9,
     /// A unit, a format label or a format that isn't allowed.
     K11,
 }
@@ -48,9 +54,11 @@ impl Rule {
             Rule::C1 | Rule::G1 | Rule::K1 => 1,
             Rule::C2 | Rule::G2 | Rule::N2 => 2,
             Rule::G3 | Rule::K3 => 3,
-            Rule::C4 => 4,
+            Rule::C4 | Rule::N4 => 4,
+            Rule::N5 => 5,
             Rule::C6 | Rule::K6 => 6,
             Rule::C7 => 7,
+            Rule::K9 => 9,
             Rule::K11 => 11,
         }
     }
@@ -68,9 +76,12 @@ impl fmt::Display for Rule {
             Rule::G2 => "G2",
             Rule::G3 => "G3",
             Rule::N2 => "N2",
+            Rule::N4 => "N4",
+            Rule::N5 => "N5",
             Rule::K1 => "K1",
             Rule::K3 => "K3",
             Rule::K6 => "K6",
+            Rule::K9 => "K9",
             Rule::K11 => "K11",
         };
         write!(f, "{name}")

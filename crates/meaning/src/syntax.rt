@@ -30,6 +30,8 @@ pub enum Expr {
     Signed(Sign, Box<Expr>),
     /// An operator and its operands.
     Binary(Operator, Box<Expr>, Box<Expr>),
+    /// An expression in parentheses.
+    Paren(Box<Expr>),
 }
 
 /// Expressions with commas between, first to last.
@@ -45,6 +47,15 @@ pub enum Unit {
     /// An asterisk.
     Star,
     Number(Expr),
+}
+
+/// The limits of a DO statement: the first and the last value of its variable, and the step, which is 1 when not
+/// written (ANSI X3.9-1978, 11.10).
+#[derive(Drop)]
+pub struct Limits {
+    pub first: Expr,
+    pub last: Expr,
+    pub step: Option<Expr>,
 }
 
 /// What a form says.
@@ -63,6 +74,15 @@ pub enum Shape {
     },
     /// `FORMAT(text)`
     Format(Vec<u8>),
+    /// `DO label variable=limits`, the label as its digits stand there; a comma may stand behind it.
+    Do {
+        label: Vec<u8>,
+        comma: bool,
+        variable: Vec<u8>,
+        limits: Limits,
+    },
+    /// `CONTINUE`
+    Continue,
     /// `END`
     End,
 }
@@ -77,10 +97,26 @@ pub struct Form {
 
 /// A form in its place: the initial line and the label of its statement.
 #[derive(Drop)]
-pub struct Member {
+pub struct Item {
     pub line: u32,
     pub label: Option<u32>,
     pub form: Form,
+}
+
+/// A member of a list of statements: a statement, or a DO statement with its range.
+#[derive(Drop)]
+#[cycle(member)]
+pub enum Member {
+    Plain(Item),
+    Loop(Loop),
+}
+
+/// A DO statement and its range, the statements behind it up to its terminal statement (ANSI X3.9-1978, 11.10).
+#[derive(Drop)]
+#[cycle(member)]
+pub struct Loop {
+    pub head: Item,
+    pub range: Vec<Member>,
 }
 
 /// A program unit: its statements, the last of which is END.
@@ -95,6 +131,8 @@ pub enum Kind {
     Assignment,
     Write,
     Format,
+    Do,
+    Continue,
     End,
     /// None that is read.
     Other,

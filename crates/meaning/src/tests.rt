@@ -1,3 +1,7 @@
+use crate::laws::{
+    cells_are_own, elements_have_places, execution_is_its_pass, more_turns_change_nothing,
+    trips_split, turns_used_are_given,
+};
 use crate::number::number;
 use crate::refusal::{Broken, Rule, lesser};
 
@@ -36,4 +40,14 @@ fn lesser_pairs(rt: HostRuntime) {
     assert_eq!(rt; lesser(None, Some(late)), Some(late));
     assert_eq!(rt; lesser(Some(late), None), Some(late));
     assert_eq!(rt; lesser(None, None), None);
+}
+
+#[test]
+fn laws_can_be_called() {
+    execution_is_its_pass();
+    turns_used_are_given();
+    more_turns_change_nothing();
+    trips_split();
+    elements_have_places();
+    cells_are_own();
 }

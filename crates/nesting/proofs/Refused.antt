@@ -1,128 +1,166 @@
--- Statements are refused exactly there where END is missing or something stands behind it.
-use Rattle.std.proofs.Common.{◌≡◌, ℕ, Bool, true, false, List, [], ◌∷◌, ◌++◌, Result, Ok, Err, None, refl, sym, ap, subst, ◌∙◌, inl, inr}
-use Rattle.std.specs.Prelude.{IsTrue, ◌⊎◌}
-use Rattle.std.specs.List.{AllByRecursion, fold}
+-- Statements are refused exactly with the least pair that is broken.
+use Rattle.std.proofs.Common.{◌≡◌, ℕ, Bool, true, false, List, [], ◌∷◌, ◌++◌, Option, Some, None, Err, refl, sym, ap, ◌∙◌, inl, inr, arith}
+use Rattle.std.specs.Prelude.{◌⊎◌, not, if◌then◌else◌, IsFalse}
+use Rattle.std.specs.List.{AllByRecursion, list_any}
 use Rattle.meaning.specs.declared.refusal.Broken.{Broken}
-use Rattle.meaning.specs.declared.refusal.Rule.TheVariants.{N2}
-use Rattle.meaning.specs.Syntax.{MemberTree, ending}
-use Rattle.meaning.specs.Nesting.{Nested, is_end, IsViable, GoesTooFar, IsRefusedAt, closed_by, nest_after, nest}
-use Rattle.nesting.proofs.Units.{IsOpen, Closes, nests_from_closes, closes_from_nests, closes_one, closes_cons, closes_tail, closes_end, goes_on, nest_open, nest_end}
+use Rattle.meaning.specs.declared.refusal.Rule.{Rule}
+use Rattle.meaning.specs.declared.refusal.Rule.TheVariants.{N2, N4, N5}
+use Rattle.meaning.specs.Ranks.{rank_of}
+use Rattle.meaning.specs.Refusals.{merge, unless}
+use Rattle.meaning.specs.Syntax.{ItemTree}
+use Rattle.meaning.specs.Trees.{Nested}
+use Rattle.meaning.specs.Nesting.{Unfinished, start, labels, innermost, is_ended, is_end, is_crossing, is_too_deep, past, behind, breaks, told_first, first_broken, lacks_end, last_line, missing_end, nest, IsViable, LacksEnd, GoesTooFar, IsBroken, IsRefusedAt}
+use Rattle.nesting.proofs.Names.{or_left, or_right}
+use Rattle.nesting.proofs.Goes.{goes_first, broken_append}
+use Rattle.nesting.proofs.Read.{if_missing}
+use Rattle.nesting.proofs.Viable.{unbroken_viable, viable_unbroken}
+use Rattle.nesting.proofs.Least.{IsOneOf, IsLeastOf, IsTold, merge_least, least_merge}
 
-abbrev last_line : ℕ → List MemberTree → ℕ
-last_line line ms = fold (λ above m. m.line) line ms
+some_is : (a b : Broken) → Some a ≡ Some b → a ≡ b
+some_is a b e = cc
 
--- ---- viable statements
+-- ---- END is missing
 
-viable_from : (ms more : List MemberTree) → Closes (ms ++ more) → IsViable ms
-viable_from ms more h = record { more = more; whole = record { body = ms ++ more }; nests = nests_from_closes (ms ++ more) h }
+none_is_end : (items : List ItemTree) → list_any (λ (x : ItemTree). is_end x.shape) items ≡ false → AllByRecursion (λ x. IsFalse (is_end x.shape)) items
+none_is_end [] h = tt
+none_is_end (x ∷ xs) h =
+    (or_left (is_end x.shape) (list_any (λ (y : ItemTree). is_end y.shape) xs) h, none_is_end xs (or_right (is_end x.shape) (list_any (λ (y : ItemTree). is_end y.shape) xs) h))
 
-closes_from_viable : (ms : List MemberTree) → (v : IsViable ms) → Closes (ms ++ v.more)
-closes_from_viable ms v = closes_from_nests (ms ++ v.more) v.whole v.nests
+end_is_none : (items : List ItemTree) → AllByRecursion (λ x. IsFalse (is_end x.shape)) items → list_any (λ (x : ItemTree). is_end x.shape) items ≡ false
+end_is_none [] h = refl
+end_is_none (x ∷ xs) h = rw (h.0, end_is_none xs h.1) refl
 
-viable_cons : (m : MemberTree) (ms : List MemberTree) → IsOpen m → IsViable ms → IsViable (m ∷ ms)
-viable_cons m ms o v = viable_from (m ∷ ms) v.more (closes_cons m (ms ++ v.more) o (closes_from_viable ms v))
+if_missing_some : (b : Bool) (pair c : Broken) → if_missing b pair ≡ Some c → (b ≡ true) × (c ≡ pair)
+if_missing_some true pair c h = (refl, sym (some_is pair c h))
+if_missing_some false pair c h = absurd cc
 
-viable_tail : (m : MemberTree) (ms : List MemberTree) → IsOpen m → IsViable (m ∷ ms) → IsViable ms
-viable_tail m ms o v = viable_from ms v.more (closes_tail m (ms ++ v.more) o (closes_from_viable (m ∷ ms) v))
+true_not : (b : Bool) → not b ≡ true → b ≡ false
+true_not true h = absurd cc
+true_not false h = refl
 
-abbrev an_end : MemberTree
-an_end = record { line = 1; label = None; shape = ending }
+pub lacks_of : (items : List ItemTree) (b : Broken) → missing_end items ≡ Some b → LacksEnd items b
+unfolding missing_end
+lacks_of items b h =
+    let p = if_missing_some (lacks_end items) (record { line = last_line items; rule = N2 }) b h in
+    record { open_all = none_is_end items (true_not (list_any (λ (x : ItemTree). is_end x.shape) items) p.0); pair = p.1 }
 
-viable_one : (m : MemberTree) → IsViable (m ∷ [])
-viable_one m = by_test (is_end m.shape) refl
+pub lacks_is : (items : List ItemTree) (b : Broken) → LacksEnd items b → missing_end items ≡ Some b
+unfolding missing_end
+lacks_is items b h = rw (end_is_none items h.open_all) (ap (λ (x : Broken). Some x) (sym h.pair))
+
+missing_rule : (items : List ItemTree) (b : Broken) → missing_end items ≡ Some b → b.rule ≡ N2
+missing_rule items b h = ap (λ (x : Broken). x.rule) (lacks_of items b h).pair
+
+-- ---- a statement that breaks a rule behind those before it
+
+record IsFirst (z : Unfinished) (xs : List ItemTree) (b : Broken) : Type 0 where
+  front : List ItemTree
+  member : ItemTree
+  back : List ItemTree
+  parts : xs ≡ front ++ member ∷ back
+  unbroken : first_broken z front ≡ None
+  at : b.line ≡ member.line
+  rule_is : breaks (behind z front) member ≡ Some b.rule
+
+pair_of : (x : ItemTree) (rule : Rule) (b : Broken) → record { line = x.line; rule = rule } ≡ b → (b.line ≡ x.line) × (b.rule ≡ rule)
+pair_of x rule b e = (sym (ap (λ (c : Broken). c.line) e), sym (ap (λ (c : Broken). c.rule) e))
+
+first_of : (z : Unfinished) (xs : List ItemTree) (b : Broken) → first_broken z xs ≡ Some b → IsFirst z xs b
+first_of z [] b h = absurd cc
+first_of z (x ∷ xs) b h = by_rule (breaks z x) refl h (first_of (past z x) xs b)
   where
-    by_test : (b : Bool) → is_end m.shape ≡ b → IsViable (m ∷ [])
-    by_test true is = viable_from (m ∷ []) [] (closes_one m is)
-    by_test false o = viable_from (m ∷ []) (an_end ∷ []) (closes_cons m (an_end ∷ []) o (closes_one an_end refl))
-
--- nothing goes on behind END
-over_end : (m x : MemberTree) (ms : List MemberTree) → IsTrue (is_end m.shape) → IsViable (m ∷ x ∷ ms) → ⊥
-over_end m x ms is v = let none : x ∷ (ms ++ v.more) ≡ [] = closes_end m (x ∷ (ms ++ v.more)) is (closes_from_viable (m ∷ x ∷ ms) v) in cc
-
--- ---- what is refused
-
-record RefusedFrom (line : ℕ) (ms : List MemberTree) (b : Broken) : Type 0 where
-  rule_is : b.rule ≡ N2
-  place : (AllByRecursion IsOpen ms × (b.line ≡ last_line line ms)) ⊎ GoesTooFar ms b.line
-
-further : (m : MemberTree) (ms : List MemberTree) (line : ℕ) → IsOpen m → GoesTooFar ms line → GoesTooFar (m ∷ ms) line
-further m ms line o g = record {
-  front = m ∷ g.front;
-  member = g.member;
-  back = g.back;
-  parts = ap (λ (xs : List MemberTree). m ∷ xs) g.parts;
-  at = g.at;
-  viable = viable_cons m g.front o g.viable;
-  over = λ v. g.over (viable_tail m (g.front ++ g.member ∷ []) o v);
-}
-
-goes_on_err : (m : MemberTree) (read : Result Nested Broken) (b : Broken) → goes_on m read ≡ Err b → read ≡ Err b
-goes_on_err m (Ok u) b e = absurd cc
-goes_on_err m (Err c) b e = cc
-
-refused_from : (line : ℕ) (ms : List MemberTree) (b : Broken) → nest_after line ms ≡ Err b → RefusedFrom line ms b
-unfolding nest_after
-refused_from line [] b e = let same : record { line = line; rule = N2 } ≡ b = cc in subst (RefusedFrom line []) same (record { rule_is = refl; place = inl (tt, refl) })
-refused_from line (m ∷ ms) b e = by_test (is_end m.shape) refl (refused_from m.line ms b)
-  where
-    by_rest : (xs : List MemberTree) → IsTrue (is_end m.shape) → closed_by m xs ≡ Err b → RefusedFrom line (m ∷ xs) b
-    by_rest [] is e = absurd cc
-    by_rest (x ∷ xs) is e =
-        let same : record { line = x.line; rule = N2 } ≡ b = cc in
-        subst (RefusedFrom line (m ∷ x ∷ xs)) same (record { rule_is = refl; place = inr (record { front = m ∷ []; member = x; back = xs; parts = refl; at = refl; viable = viable_one m; over = over_end m x [] is }) })
-
-    by_test : (t : Bool) → is_end m.shape ≡ t → (nest_after m.line ms ≡ Err b → RefusedFrom m.line ms b) → RefusedFrom line (m ∷ ms) b
-    by_test true is rest = by_rest ms is (sym (nest_end line m ms is) ∙ e)
-    by_test false o rest =
-        let r = rest (goes_on_err m (nest_after m.line ms) b (sym (nest_open line m ms o) ∙ e)) in
+    by_rule : (o : Option Rule) → breaks z x ≡ o → told_first x (breaks z x) (first_broken (past z x) xs) ≡ Some b → (first_broken (past z x) xs ≡ Some b → IsFirst (past z x) xs b) → IsFirst z (x ∷ xs) b
+    by_rule (Some rule) e f rec =
+        let same : record { line = x.line; rule = rule } ≡ b = some_is (record { line = x.line; rule = rule }) b (ap (λ o. told_first x o (first_broken (past z x) xs)) (sym e) ∙ f) in
+        let p = pair_of x rule b same in
+        record { front = []; member = x; back = xs; parts = refl; unbroken = refl; at = p.0; rule_is = e ∙ ap (λ (r : Rule). Some r) (sym p.1) }
+    by_rule None e f rec =
+        let r = rec (ap (λ o. told_first x o (first_broken (past z x) xs)) (sym e) ∙ f) in
         record {
+          front = x ∷ r.front;
+          member = r.member;
+          back = r.back;
+          parts = ap (λ (ys : List ItemTree). x ∷ ys) r.parts;
+          unbroken = goes_first z x r.front e ∙ r.unbroken;
+          at = r.at;
           rule_is = r.rule_is;
-          place = elim r.place [
-            | inl h ↦ inl ((o, h.0), h.1)
-            | inr g ↦ inr (further m ms b.line o g)
-          ];
         }
 
--- ---- what is refused so
+first_is : (front : List ItemTree) (x : ItemTree) (back : List ItemTree) (b : Broken) → first_broken start front ≡ None → b.line ≡ x.line → breaks (behind start front) x ≡ Some b.rule
+    → first_broken start (front ++ x ∷ back) ≡ Some b
+first_is front x back b h at e =
+    broken_append start front (x ∷ back) h ∙ ap (λ o. told_first x o (first_broken (past (behind start front) x) back)) e ∙ ap (λ (k : ℕ). Some (record { line = k; rule = b.rule })) (sym at)
 
-open_again : (line : ℕ) (ms : List MemberTree) → AllByRecursion IsOpen ms → nest_after line ms ≡ Err (record { line = last_line line ms; rule = N2 })
-unfolding nest_after
-open_again line [] all = refl
-open_again line (m ∷ ms) all = rw (nest_open line m ms all.0) (ap (goes_on m) (open_again m.line ms all.1))
+-- no program unit goes on behind it
+is_over : (front : List ItemTree) (x : ItemTree) (b : Broken) → first_broken start front ≡ None → b.line ≡ x.line → breaks (behind start front) x ≡ Some b.rule → IsViable (front ++ x ∷ []) → ⊥
+is_over front x b h at e v = let f : None ≡ Some b = sym (viable_unbroken (front ++ x ∷ []) v) ∙ first_is front x [] b h at e in cc
 
-too_far_again : (line : ℕ) (front : List MemberTree) (m : MemberTree) (back : List MemberTree) → IsViable front → (IsViable (front ++ m ∷ []) → ⊥) → nest_after line (front ++ m ∷ back) ≡ Err (record { line = m.line; rule = N2 })
-too_far_again line [] m back v over = absurd (over (viable_one m))
-too_far_again line (f ∷ front) m back v over = by_test (is_end f.shape) refl (λ o. too_far_again f.line front m back (viable_tail f front o v) (λ w. over (viable_cons f (front ++ m ∷ []) o w)))
-  where
-    by_front : (xs : List MemberTree) → IsTrue (is_end f.shape) → IsViable (f ∷ xs) → nest_after line (f ∷ (xs ++ m ∷ back)) ≡ Err (record { line = m.line; rule = N2 })
-    by_front [] is w = nest_end line f (m ∷ back) is
-    by_front (x ∷ xs) is w = absurd (over_end f x xs is w)
-
-    by_test : (t : Bool) → is_end f.shape ≡ t → (IsOpen f → nest_after f.line (front ++ m ∷ back) ≡ Err (record { line = m.line; rule = N2 })) → nest_after line (f ∷ (front ++ m ∷ back)) ≡ Err (record { line = m.line; rule = N2 })
-    by_test true is rest = by_front front is v
-    by_test false o rest = rw (nest_open line f (front ++ m ∷ back) o) (ap (goes_on f) (rest o))
-
-pair_is : (b : Broken) (line : ℕ) → b.rule ≡ N2 → b.line ≡ line → record { line = line; rule = N2 } ≡ b
-pair_is b line e f = ap (λ r. record { line = line; rule = r }) (sym e) ∙ ap (λ k. record { line = k; rule = b.rule }) (sym f)
-
--- ---- the law
-
-pub refused_is : (ms : List MemberTree) (b : Broken) → nest ms ≡ Err b → IsRefusedAt ms b
-unfolding nest
-refused_is ms b e =
-    let r = refused_from 1 ms b e in
+pub too_far_of : (items : List ItemTree) (b : Broken) → first_broken start items ≡ Some b → GoesTooFar items b
+too_far_of items b h =
+    let f = first_of start items b h in
     record {
-      rule_is = r.rule_is;
-      place = elim r.place [
-        | inl h ↦ inl (record { open_all = h.0; at = h.1 })
-        | inr g ↦ inr g
-      ];
+      front = f.front;
+      member = f.member;
+      back = f.back;
+      parts = f.parts;
+      viable = unbroken_viable f.front f.unbroken;
+      over = is_over f.front f.member b f.unbroken f.at f.rule_is;
+      at = f.at;
+      rule_is = f.rule_is;
     }
 
-pub refused_again : (ms : List MemberTree) (b : Broken) → IsRefusedAt ms b → nest ms ≡ Err b
+pub too_far_is : (items : List ItemTree) (b : Broken) → GoesTooFar items b → first_broken start items ≡ Some b
+too_far_is items b g = ap (first_broken start) g.parts ∙ first_is g.front g.member g.back b (viable_unbroken g.front g.viable) g.at g.rule_is
+
+-- ---- the least of both
+
+broken_of : (items : List ItemTree) (b : Broken) → IsOneOf (missing_end items) (first_broken start items) b → IsBroken items b
+broken_of items b (inl h) = inl (lacks_of items b h)
+broken_of items b (inr h) = inr (too_far_of items b h)
+
+broken_is : (items : List ItemTree) (b : Broken) → IsBroken items b → IsOneOf (missing_end items) (first_broken start items) b
+broken_is items b (inl h) = inl (lacks_is items b h)
+broken_is items b (inr h) = inr (too_far_is items b h)
+
+abbrev told : Bool → Bool → Bool → Option Rule
+told a b c = if a then Some N2 else (if b then Some N4 else (if c then Some N5 else None))
+
+apart : (n : ℕ) → n ≡ 4 ⊎ n ≡ 5 → n ≡ 2 → ⊥
+apart n (inl e) f = omega arith
+apart n (inr e) f = omega arith
+
+rule_is : (r s : Rule) → Some r ≡ Some s → r ≡ s
+rule_is r s e = cc
+
+told_rank : (a b c : Bool) (rule : Rule) → told a b c ≡ Some rule → rank_of rule ≡ 2 → rule ≡ N2
+told_rank true b c rule h e = sym (rule_is N2 rule h)
+told_rank false true c rule h e = absurd (apart (rank_of rule) (inl (sym (ap rank_of (rule_is N4 rule h)))) e)
+told_rank false false true rule h e = absurd (apart (rank_of rule) (inr (sym (ap rank_of (rule_is N5 rule h)))) e)
+told_rank false false false rule h e = absurd cc
+
+breaks_rank : (z : Unfinished) (x : ItemTree) (rule : Rule) → breaks z x ≡ Some rule → rank_of rule ≡ 2 → rule ≡ N2
+unfolding breaks
+breaks_rank z x rule h e = told_rank (is_ended z) (is_crossing (labels z) x) (is_too_deep (labels z) x) rule h e
+
+first_rank : (items : List ItemTree) → IsTold (first_broken start items)
+first_rank items b h e = let f = first_of start items b h in breaks_rank (behind start f.front) f.member b.rule f.rule_is e
+
+unless_err : (o : Option Broken) (t : Nested) (b : Broken) → unless o t ≡ Err b → o ≡ Some b
+unless_err None t b h = absurd cc
+unless_err (Some a) t b h = cc
+
+err_unless : (o : Option Broken) (t : Nested) (b : Broken) → o ≡ Some b → unless o t ≡ Err b
+err_unless o t b h = rw h refl
+
+pub refused_of : (items : List ItemTree) (b : Broken) → nest items ≡ Err b → IsRefusedAt items b
 unfolding nest
-refused_again ms b h =
-    elim h.place [
-      | inl l ↦ open_again 1 ms l.open_all ∙ ap (λ (c : Broken). Err c) (pair_is b (last_line 1 ms) h.rule_is l.at)
-      | inr g ↦ rw g.parts (too_far_again 1 g.front g.member g.back g.viable g.over) ∙ ap (λ (c : Broken). Err c) (pair_is b g.member.line h.rule_is g.at)
-    ]
+refused_of items b h =
+    let m = merge_least (missing_end items) (first_broken start items) b (unless_err (merge (missing_end items) (first_broken start items)) (record { body = innermost (behind start items) }) b h) in
+    record { broken = broken_of items b m.one; least = λ c k. m.least c (broken_is items c k) }
+
+pub refused_is : (items : List ItemTree) (b : Broken) → IsRefusedAt items b → nest items ≡ Err b
+unfolding nest
+refused_is items b r =
+    let m : IsLeastOf (missing_end items) (first_broken start items) b = record { one = broken_is items b r.broken; least = λ c k. r.least c (broken_of items c k) } in
+    err_unless (merge (missing_end items) (first_broken start items)) (record { body = innermost (behind start items) }) b
+    (least_merge (missing_end items) (first_broken start items) b (missing_rule items) (first_rank items) m)

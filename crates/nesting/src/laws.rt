@@ -2,20 +2,22 @@
 
 ghost use Rattle.std.specs.Prelude.{◌≡◌, ◌↔◌, List, Ok, Err};
 ghost use Rattle.meaning.specs.declared.refusal.Broken.{Broken};
-ghost use Rattle.meaning.specs.Nesting.{Nested, NestsAs, IsRefusedAt, nest};
-ghost use Rattle.meaning.specs.Syntax.{MemberTree};
+ghost use Rattle.meaning.specs.Nesting.{NestsAs, IsRefusedAt, nest};
+ghost use Rattle.meaning.specs.Syntax.{ItemTree};
+ghost use Rattle.meaning.specs.Trees.{Nested};
 
 /// Statements nest in one way at most.
 pub fn one_nesting()
-    ensures { (members : List MemberTree) (t u : Nested) → NestsAs members t → NestsAs members u → t ≡ u }
+    ensures { (items : List ItemTree) (t u : Nested) → NestsAs items t → NestsAs items u → t ≡ u }
 {}
 
 /// Statements are read as a program unit exactly when they nest as it.
 pub fn nests_exactly()
-    ensures { (members : List MemberTree) (t : Nested) → (nest members ≡ Ok t) ↔ NestsAs members t }
+    ensures { (items : List ItemTree) (t : Nested) → (nest items ≡ Ok t) ↔ NestsAs items t }
 {}
 
-/// Statements are refused exactly there where END is missing or something stands behind it.
+/// Statements are refused exactly with the least of two pairs: N2 where END is missing, and at the first statement up to
+/// which no program unit begins so the least rule that it breaks behind those before it.
 pub fn refuses_exactly()
-    ensures { (members : List MemberTree) (b : Broken) → (nest members ≡ Err b) ↔ IsRefusedAt members b }
+    ensures { (items : List ItemTree) (b : Broken) → (nest items ≡ Err b) ↔ IsRefusedAt items b }
 {}

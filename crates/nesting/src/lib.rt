@@ -1,8 +1,9 @@
-//! How the statements of a program unit nest (ANSI X3.9-1978, 3.5 and 11).
+//! How the statements of a program unit nest (ANSI X3.9-1978, 3.5 and 11.10).
 #![tactic(auto)]
 
 mod laws;
 mod nesting;
+mod unfinished;
 
 pub use laws::{nests_exactly, one_nesting, refuses_exactly};
 pub use nesting::tree;

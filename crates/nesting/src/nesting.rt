@@ -1,54 +1,97 @@
 //! The program unit that statements make.
 
-ghost use Rattle.std.specs.Prelude.{◌≡◌, ◌≢◌, map, MatchOption, Ok, Err};
-ghost use Rattle.meaning.specs.declared.refusal.Rule.TheVariants.{N2};
-ghost use Rattle.meaning.specs.Nesting.{is_end, member_tree, nest, nested};
+ghost use Rattle.std.specs.Prelude.{◌≡◌, ◌≢◌, map, Err};
+ghost use Rattle.meaning.specs.Nesting.{innermost, lacks_end, last_line, missing_end as missing, nest};
 ghost use Rattle.meaning.specs.Reports.{Gives};
-ghost use Rattle.meaning.specs.Syntax.{shape_tree};
+ghost use Rattle.meaning.specs.Trees.{item_tree, nested};
+ghost use Rattle.meaning.specs.Refusals.{unless};
+ghost use Rattle.nesting.specs.Open.{unfinished};
 
-use meaning::refusal::{Refusal, Rule};
-use meaning::syntax::{Member, Shape, Tree};
+use crate::unfinished::{Open, broken_rule, into_innermost, is_end_item, past};
+use meaning::refusal::{Broken, Refusal, Rule, lesser};
+use meaning::syntax::{Item, Tree};
+use std::alloc::Global;
 
-/// Whether a statement is END.
-fn closes(member: &Member) -> bool
-    ensures { result ≡ is_end (shape_tree member.now.form.shape) }
+/// The line of the last statement, or 1 where there is none.
+fn line_of_last(items: &[Item]) -> u32
+    ensures { result ≡ last_line (map item_tree items.now) }
 {
-    match member.form.shape {
-        Shape::End => true,
-        Shape::Assignment { .. } | Shape::Write { .. } | Shape::Format(_) => false,
+    let mut line = 1;
+    for item in items {
+        line = item.line;
     }
+    line
 }
 
-/// The line at which N2 is broken, if it is.
-fn broken_line(members: &[Member]) -> Option<u32>
-    ensures { MatchOption result (nest (map member_tree members.now) ≡ Ok (record { body = map member_tree members.now })) (λ line. nest (map member_tree members.now) ≡ Err (record { line = line; rule = N2 })) }
+/// Whether no statement is END.
+fn has_no_end(items: &[Item]) -> bool
+    ensures { result ≡ lacks_end (map item_tree items.now) }
 {
-    let mut last_line = 1;
-    for (index, member) in members.iter().enumerate() {
-        if closes(member) {
-            let behind = members.get(index + 1)?;
-            return Some(behind.line);
+    for item in items {
+        if is_end_item(item) {
+            return false;
         }
-        last_line = member.line;
     }
-    Some(last_line)
+    true
 }
 
-/// The program unit that statements make, in their order (ANSI X3.9-1978, 3.5).
+/// N2 at the last statement where END is missing.
+#[tactic(auto, unfolding(meaning::specs::Nesting::missing_end))]
+fn missing_end(items: &[Item]) -> Option<Broken>
+    ensures { result ≡ missing (map item_tree items.now) }
+{
+    if has_no_end(items) {
+        Some(Broken {
+            line: line_of_last(items),
+            rule: Rule::N2,
+        })
+    } else {
+        None
+    }
+}
+
+/// A rule that is broken at a statement.
+fn broken_at(item: Item, rule: Rule) -> Broken
+    ensures { result ≡ record { line = item.line; rule = rule } }
+{
+    Broken {
+        line: item.line,
+        rule,
+    }
+}
+
+/// What was read, unless a rule is broken. No growth is made, so `Refusal::Memory` is never answered.
+fn told(broken: Option<Broken>, so_far: Open) -> Result<Tree, Refusal>
+    ensures exact { Gives nested result (unless broken (record { body = innermost (unfinished so_far) })) }
+    ensures sure { result ≢ Err Refusal.Memory }
+{
+    match broken {
+        Some(Broken { line, rule }) => Err(Refusal::Rule { rule, line }),
+        None => Ok(Tree {
+            body: into_innermost(so_far),
+        }),
+    }
+}
+
+/// The program unit that statements make, in their order (ANSI X3.9-1978, 3.5 and 11.10).
 ///
 /// # Errors
 ///
-/// `Refusal::Rule` with N2: at the last statement if none is END, or at line 1 if there is no statement; else at the
-/// first statement behind END. No growth is made, so `Refusal::Memory` is never answered.
-pub fn tree(members: Vec<Member>) -> Result<Tree, Refusal>
-    ensures exact { Gives nested result (nest (map member_tree members.items)) }
-    ensures sure { result ≢ Err Refusal.Memory }
+/// `Refusal::Rule` with the least of two pairs: N2 at the last statement if none is END, or at line 1 if there is no
+/// statement; and, at the first statement up to which no program unit begins so, N2 if it stands behind END, N4 if
+/// ranges cross, a terminal statement isn't allowed or END stands in a range, or N5 if it is the 33rd open DO.
+/// `Refusal::Memory` where a growth was refused.
+pub fn tree(alloc: Global, items: Vec<Item>) -> Result<Tree, Refusal>
+    ensures exact { Gives nested result (nest (map item_tree items.items)) }
 {
-    match broken_line(&members) {
-        Some(line) => Err(Refusal::Rule {
-            rule: Rule::N2,
-            line,
-        }),
-        None => Ok(Tree { body: members }),
+    let missing = missing_end(&items);
+    let mut so_far = Open::Body(Vec::new(alloc));
+    for item in items {
+        if let Some(rule) = broken_rule(&so_far, &item) {
+            let here = broken_at(item, rule);
+            return told(lesser(missing, Some(here)), so_far);
+        }
+        so_far = past(alloc, so_far, item)?;
     }
+    told(missing, so_far)
 }

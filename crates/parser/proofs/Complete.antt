@@ -1,5 +1,5 @@
 -- What is spelled is read.
-use Rattle.std.proofs.Common.{◌≡◌, ℕ, zero, suc, ◌+◌, ◌-◌, ◌≤◌, ◌<◌, true, false, leb, eqb, List, [], ◌∷◌, ◌++◌, length, Option, Some, None, refl, sym, ap, subst, ◌∙◌, append_assoc, length-append, arith}
+use Rattle.std.proofs.Common.{◌≡◌, ℕ, zero, suc, ◌+◌, ◌-◌, ◌≤◌, ◌<◌, Bool, true, false, leb, eqb, List, [], ◌∷◌, ◌++◌, length, Option, Some, None, refl, sym, ap, subst, ◌∙◌, append_assoc, length-append, arith}
 use Rattle.std.specs.List.{list_all}
 use Rattle.std.specs.Prelude.{codes}
 use Rattle.std.proofs.Math.Numerals.{one-add}
@@ -12,9 +12,9 @@ use Rattle.meaning.specs.declared.syntax.Sign.TheVariants as signs
 use Rattle.meaning.specs.declared.syntax.Operator.{Operator}
 use Rattle.meaning.specs.declared.syntax.Operator.TheVariants as operators
 use Rattle.meaning.specs.Characters.{is_digit, is_letter, is_alphanumeric, is_name, is_number, is_label}
-use Rattle.meaning.specs.Syntax.{ExprTree, number, name, signed, binary, UnitTree, star, unit_number, ShapeTree, assignment, writing, format, ending}
-use Rattle.meaning.specs.Spelling.{sign_byte, operator_text, spell_expr, level, level_of, IsWellExpr, spell_more, spell_list, AreWellExprs, spell_unit, IsWellUnit, spell, IsWell}
-use Rattle.meaning.specs.Reading.{Text, Reader, ◌>>=◌, when, either, sign_at, operator_at, name_at, label_at, primary_at, front_at, may_follow, operations_at, expression_at, whole_expression_at, expressions_at, list_of, unit_at, at_end, after, assignment_of, writing_of, format_of, ending_of, shape_of}
+use Rattle.meaning.specs.Syntax.{ExprTree, number, name, signed, binary, paren, UnitTree, star, unit_number, LimitsTree, ShapeTree, assignment, writing, format, doing, continuing, ending}
+use Rattle.meaning.specs.Spelling.{sign_byte, operator_text, spell_expr, level, level_of, IsWellExpr, spell_more, spell_list, AreWellExprs, spell_unit, IsWellUnit, spell_step, IsWellStep, spell_limits, spell_comma, spell, IsWell}
+use Rattle.meaning.specs.Reading.{Text, Reader, ◌>>=◌, when, either, sign_at, operator_at, name_at, label_at, paren_at, primary_at, front_at, may_follow, operations_at, expression_at, whole_expression_at, expressions_at, list_of, unit_at, at_end, after, assignment_of, writing_of, format_of, limits_at, comma_at, doing_of, continuing_of, ending_of, shape_of}
 use Rattle.parser.proofs.Words.{before_again, stops_at, run_again}
 use Rattle.parser.proofs.Marks.{shape_kind, letters_and_digits}
 
@@ -31,6 +31,7 @@ outer (number digits) = 9
 outer (name letters) = 9
 outer (signed s e) = 6
 outer (binary o a b) = level o + 1
+outer (paren e) = 9
 
 outer_above : (e : ExprTree) → level_of e < outer e
 unfolding outer
@@ -38,6 +39,7 @@ outer_above (number digits) = omega arith
 outer_above (name letters) = omega arith
 outer_above (signed s e) = omega arith
 outer_above (binary o a b) = omega arith
+outer_above (paren e) = omega arith
 
 Follows_weaker : (m n : ℕ) (rest : Text) → m ≤ n → Follows m rest → Follows n rest
 Follows_weaker m n rest le f = record { ends = f.ends; weak = λ o u e. let lt : level o < m = f.weak o u e in omega arith }
@@ -95,15 +97,18 @@ no_sign c t h = rw (ne_eqb c 43 (λ e. absurd (plus_is_none c h e)), ne_eqb c 45
 letter_is_no_digit : (c : ℕ) → is_letter c ≡ true → is_digit c ≡ false
 letter_is_no_digit c h = grind (arith, nat_tests)
 
--- a primary is read at the front
-record Fronts (t : Text) (x : ExprTree × Text) : Type 0 where
-  unsigned : sign_at t ≡ None
-  front : primary_at t ≡ Some x
+letter_opens_nothing : (c : ℕ) → is_letter c ≡ true → eqb c 40 ≡ false
+letter_opens_nothing c h = grind (arith, nat_tests)
 
-number_again : (digits rest : Text) → is_number digits ≡ true → stops_at is_digit rest → Fronts (digits ++ rest) (number digits, rest)
+-- a primary is read at the front
+record Fronts (rec : ℕ → Reader ExprTree) (t : Text) (x : ExprTree × Text) : Type 0 where
+  unsigned : sign_at t ≡ None
+  front : primary_at rec t ≡ Some x
+
+number_again : (rec : ℕ → Reader ExprTree) (digits rest : Text) → is_number digits ≡ true → stops_at is_digit rest → Fronts rec (digits ++ rest) (number digits, rest)
 unfolding primary_at
-number_again [] rest well stops = absurd cc
-number_again (c ∷ digits) rest well stops =
+number_again rec [] rest well stops = absurd cc
+number_again rec (c ∷ digits) rest well stops =
     let all : list_all is_digit (c ∷ digits) ≡ true = (and_parts _ _ well).1 in
     let digit : is_digit c ≡ true = (and_parts _ _ all).0 in
     record {
@@ -111,15 +116,19 @@ number_again (c ∷ digits) rest well stops =
       front = rw (digit, run_again is_digit (c ∷ digits) rest all stops) refl;
     }
 
-variable_again : (letters rest : Text) → is_name letters ≡ true → stops_at is_alphanumeric rest → Fronts (letters ++ rest) (name letters, rest)
+variable_again : (rec : ℕ → Reader ExprTree) (letters rest : Text) → is_name letters ≡ true → stops_at is_alphanumeric rest → Fronts rec (letters ++ rest) (name letters, rest)
 unfolding primary_at ◌>>=◌
-variable_again [] rest well stops = absurd cc
-variable_again (c ∷ letters) rest well stops =
+variable_again rec [] rest well stops = absurd cc
+variable_again rec (c ∷ letters) rest well stops =
     let letter : is_letter c ≡ true = (and_parts _ _ (and_parts _ _ well).0).0 in
     record {
       unsigned = no_sign c (letters ++ rest) (or_left (is_letter c) (is_digit c) letter);
-      front = rw (letter_is_no_digit c letter, name_again (c ∷ letters) rest well stops) refl;
+      front = rw (letter_is_no_digit c letter, letter_opens_nothing c letter, name_again (c ∷ letters) rest well stops) refl;
     }
+
+paren_again : (rec : ℕ → Reader ExprTree) (e : ExprTree) (rest : Text) → rec 0 (spell_expr e ++ (41 ∷ rest)) ≡ Some (e, 41 ∷ rest) → Fronts rec (40 ∷ ((spell_expr e ++ 41 ∷ []) ++ rest)) (paren e, rest)
+unfolding primary_at paren_at sign_at ◌>>=◌ after when
+paren_again rec e rest read = record { unsigned = refl; front = rw (append_assoc (spell_expr e) (41 ∷ []) rest, read) refl }
 
 -- ---- expressions
 
@@ -188,16 +197,34 @@ signed_front : (rec : ℕ → Reader ExprTree) (least : ℕ) (s : Sign) (e : Exp
 unfolding front_at either when ◌>>=◌
 signed_front rec least s e rest low read = rw (sign_again s (spell_expr e ++ rest), le-leb least 5 low, read) refl
 
-primary_front : (rec : ℕ → Reader ExprTree) (least : ℕ) (t : Text) (x : ExprTree × Text) → Fronts t x → front_at rec least t ≡ Some x
+primary_front : (rec : ℕ → Reader ExprTree) (least : ℕ) (t : Text) (x : ExprTree × Text) → Fronts rec t x → front_at rec least t ≡ Some x
 unfolding front_at either
 primary_front rec least t x f = rw (f.unsigned, f.front) refl
+
+nothing_follows : (c : ℕ) (t : Text) → stops_at is_alphanumeric (c ∷ t) → operator_at (c ∷ t) ≡ None → Follows 0 (c ∷ t)
+nothing_follows c t ends none = record { ends = ends; weak = λ o u e. absurd (none-some (o, u) (sym none ∙ e)) }
+
+end_follows : Follows 0 []
+unfolding operator_at
+end_follows = record { ends = tt; weak = λ o u e. absurd (none-some (o, u) e) }
+
+comma_follows : (t : Text) → Follows 0 (44 ∷ t)
+unfolding operator_at
+comma_follows t = nothing_follows 44 t refl refl
+
+parenthesis_follows : (t : Text) → Follows 0 (41 ∷ t)
+unfolding operator_at
+parenthesis_follows t = nothing_follows 41 t refl refl
+
+enclosed_long : (t rest : Text) → length ((t ++ 41 ∷ []) ++ rest) ≡ length (t ++ (41 ∷ rest))
+enclosed_long t rest = ap length (append_assoc t (41 ∷ []) rest)
 
 again : (e : ExprTree) → Again e
 unfolding Again outer
 again (number digits) k least rest well strong f enough =
-    from_front k least (number digits) rest (primary_front (expression_at k) least (digits ++ rest) (number digits, rest) (number_again digits rest well (stops_weaker rest f.ends)))
+    from_front k least (number digits) rest (primary_front (expression_at k) least (digits ++ rest) (number digits, rest) (number_again (expression_at k) digits rest well (stops_weaker rest f.ends)))
 again (name letters) k least rest well strong f enough =
-    from_front k least (name letters) rest (primary_front (expression_at k) least (letters ++ rest) (name letters, rest) (variable_again letters rest well f.ends))
+    from_front k least (name letters) rest (primary_front (expression_at k) least (letters ++ rest) (name letters, rest) (variable_again (expression_at k) letters rest well f.ends))
 again (signed s e) zero least rest well strong f enough = absurd (omega arith)
 again (signed s e) (suc k) least rest well strong f enough =
     from_front (suc k) least (signed s e) rest
@@ -218,17 +245,11 @@ again (binary o a b) (suc k) least rest well strong f enough =
       enough = omega arith;
       goes = ap (level_at (expression_at (suc k)) least) (regrouped o (spell_expr a) (spell_expr b) rest) ∙ g.goes ∙ one_turn (expression_at (suc k)) g.turns (g.turns - 1) least a o b rest (omega arith) follows read;
     }
-
-nothing_follows : (c : ℕ) (t : Text) → stops_at is_alphanumeric (c ∷ t) → operator_at (c ∷ t) ≡ None → Follows 0 (c ∷ t)
-nothing_follows c t ends none = record { ends = ends; weak = λ o u e. absurd (none-some (o, u) (sym none ∙ e)) }
-
-end_follows : Follows 0 []
-unfolding operator_at
-end_follows = record { ends = tt; weak = λ o u e. absurd (none-some (o, u) e) }
-
-comma_follows : (t : Text) → Follows 0 (44 ∷ t)
-unfolding operator_at
-comma_follows t = nothing_follows 44 t refl refl
+again (paren e) zero least rest well strong f enough = absurd (omega arith)
+again (paren e) (suc k) least rest well strong f enough =
+    let long = enclosed_long (spell_expr e) rest in
+    let read = read_again e (again e) k 0 (41 ∷ rest) well (omega arith) (parenthesis_follows rest) (omega (arith, long)) in
+    from_front (suc k) least (paren e) rest (primary_front (expression_at (suc k)) least (40 ∷ ((spell_expr e ++ 41 ∷ []) ++ rest)) (paren e, rest) (paren_again (expression_at (suc k)) e rest read))
 
 pub whole_again : (e : ExprTree) (rest : Text) → IsWellExpr e → Follows 0 rest → whole_expression_at (spell_expr e ++ rest) ≡ Some (e, rest)
 unfolding whole_expression_at
@@ -256,7 +277,7 @@ list_of_some (c ∷ t) some = refl
 some_long : (c : ℕ) (t : Text) → 0 < length (c ∷ t)
 some_long c t = omega arith
 
--- an expression begins with a letter, a digit or a sign
+-- an expression begins with a letter, a digit, a sign or a parenthesis
 begins_again : (e : ExprTree) (rest : Text) → IsWellExpr e → (after (42 ∷ []) (spell_expr e ++ rest) ≡ None) × (0 < length (spell_expr e ++ rest))
 unfolding after when
 begins_again (number []) rest well = absurd cc
@@ -272,6 +293,7 @@ begins_again (signed signs.Plus e) rest well = (refl, omega arith)
 begins_again (signed signs.Minus e) rest well = (refl, omega arith)
 begins_again (binary o a b) rest well =
     subst (λ t. (after (42 ∷ []) t ≡ None) × (0 < length t)) (sym (regrouped o (spell_expr a) (spell_expr b) rest)) (begins_again a (operator_text o ++ (spell_expr b ++ rest)) well.0)
+begins_again (paren e) rest well = (refl, omega arith)
 
 list_again : (es : List ExprTree) → AreWellExprs es → list_of (spell_list es) ≡ Some es
 unfolding list_of ◌>>=◌
@@ -284,10 +306,38 @@ unfolding unit_at either ◌>>=◌ after when
 unit_again star t well = refl
 unit_again (unit_number e) t well = rw ((begins_again e (44 ∷ t) well).0, whole_again e (44 ∷ t) well (comma_follows t)) refl
 
--- ---- statements
+-- ---- limits, and the comma behind a label
 
 ends_again : (e : ExprTree) → IsWellExpr e → whole_expression_at (spell_expr e) ≡ Some (e, [])
 ends_again e well = subst (λ t. whole_expression_at t ≡ Some (e, [])) (append-nil (spell_expr e)) (whole_again e [] well end_follows)
+
+-- a comma follows, or nothing
+step_follows : (o : Option ExprTree) → Follows 0 (spell_step o)
+step_follows None = end_follows
+step_follows (Some e) = comma_follows (spell_expr e)
+
+limits_again : (a b : ExprTree) (o : Option ExprTree) → IsWellExpr a → IsWellExpr b → IsWellStep o → limits_at (spell_expr a ++ (44 ∷ (spell_expr b ++ spell_step o))) ≡ Some (record { first = a; last = b; step = o }, [])
+unfolding limits_at either ◌>>=◌ after when
+limits_again a b None well_a well_b well_c = rw (whole_again a (44 ∷ (spell_expr b ++ [])) well_a (comma_follows (spell_expr b ++ [])), whole_again b [] well_b end_follows) refl
+limits_again a b (Some c) well_a well_b well_c =
+    rw (whole_again a (44 ∷ (spell_expr b ++ (44 ∷ spell_expr c))) well_a (comma_follows (spell_expr b ++ (44 ∷ spell_expr c))), whole_again b (44 ∷ spell_expr c) well_b (comma_follows (spell_expr c)), ends_again c well_c) refl
+
+-- a name begins with a letter, which is no comma and no digit
+letter_is_no_comma : (c : ℕ) → is_letter c ≡ true → eqb 44 c ≡ false
+letter_is_no_comma c h = grind (arith, nat_tests)
+
+comma_again : (comma : Bool) (v t : Text) → is_name v ≡ true → comma_at (spell_comma comma ++ (v ++ t)) ≡ (comma, v ++ t)
+unfolding comma_at either after when
+comma_again comma [] t well = absurd cc
+comma_again true (c ∷ v) t well = refl
+comma_again false (c ∷ v) t well = rw (letter_is_no_comma c (and_parts _ _ (and_parts _ _ well).0).0) refl
+
+comma_ends : (comma : Bool) (v t : Text) → is_name v ≡ true → stops_at is_digit (spell_comma comma ++ (v ++ t))
+comma_ends comma [] t well = absurd cc
+comma_ends true (c ∷ v) t well = refl
+comma_ends false (c ∷ v) t well = letter_is_no_digit c (and_parts _ _ (and_parts _ _ well).0).0
+
+-- ---- statements
 
 assignment_again : (n : Text) (e : ExprTree) → IsWell (assignment n e) → assignment_of (spell (assignment n e)) ≡ Some (assignment n e)
 unfolding assignment_of ◌>>=◌ after when
@@ -301,6 +351,27 @@ format_again : (t : Text) → IsWell (format t) → format_of (spell (format t))
 unfolding format_of ◌>>=◌ after when
 format_again t well = rw (before_again t, well) refl
 
+-- a DO statement is read where its parts are, if the text ends behind them
+doing_is : (t rest : Text) (l v : Text × Text) (behind : Text) (limits : LimitsTree × Text) → after (codes "DO") t ≡ Some rest → label_at rest ≡ Some l → name_at (comma_at l.1).1 ≡ Some v
+    → after (61 ∷ []) v.1 ≡ Some behind → limits_at behind ≡ Some limits → doing_of t ≡ at_end (doing l.0 (comma_at l.1).0 v.0 limits.0, limits.1)
+unfolding doing_of ◌>>=◌
+doing_is t rest l v behind limits a b c d e = rw (a, b, c, d, e) refl
+
+doing_again : (l : Text) (comma : Bool) (v : Text) (m : LimitsTree) → IsWell (doing l comma v m) → doing_of (spell (doing l comma v m)) ≡ Some (doing l comma v m)
+unfolding after when
+doing_again l comma v m well =
+    let limits = spell_limits m in
+    let behind = v ++ (61 ∷ limits) in
+    let comma_is = comma_again comma v (61 ∷ limits) well.1.0 in
+    let named : name_at (comma_at (spell_comma comma ++ behind)).1 ≡ Some (v, 61 ∷ limits) = ap (λ c. name_at c.1) comma_is ∙ name_again v (61 ∷ limits) well.1.0 refl in
+    doing_is (spell (doing l comma v m)) (l ++ (spell_comma comma ++ behind)) (l, spell_comma comma ++ behind) (v, 61 ∷ limits) limits (m, []) refl
+    (label_again l (spell_comma comma ++ behind) well.0 (comma_ends comma v (61 ∷ limits) well.1.0)) named refl
+    (limits_again m.first m.last m.step well.1.1.0 well.1.1.1.0 well.1.1.1.1) ∙ ap (λ c. Some (doing l c.0 v m)) comma_is
+
+continuing_again : continuing_of (codes "CONTINUE") ≡ Some continuing
+unfolding continuing_of ◌>>=◌ after when
+continuing_again = refl
+
 ending_again : ending_of (codes "END") ≡ Some ending
 unfolding ending_of ◌>>=◌ after when
 ending_again = refl
@@ -310,4 +381,6 @@ unfolding shape_of
 shape_again (assignment n e) well = rw (shape_kind (assignment n e) well, shape_of) (assignment_again n e well)
 shape_again (writing u l es) well = rw (shape_kind (writing u l es) well, shape_of) (writing_again u l es well)
 shape_again (format t) well = rw (shape_kind (format t) well, shape_of) (format_again t well)
+shape_again (doing l comma v m) well = rw (shape_kind (doing l comma v m) well, shape_of) (doing_again l comma v m well)
+shape_again continuing well = rw (shape_kind continuing well, shape_of) continuing_again
 shape_again ending well = rw (shape_kind ending well, shape_of) ending_again

@@ -1,18 +1,20 @@
 -- A spelled expression changes nothing of what stands outside parentheses and apostrophes but itself: so the kind of a
 -- spelling is its form's.
-use Rattle.std.proofs.Common.{◌≡◌, ℕ, ◌+◌, ◌-◌, ◌<◌, Bool, true, false, not, ltb, eqb, ◌&&◌, List, [], ◌∷◌, ◌++◌, inl, inr, refl, ap, ◌∙◌, append_assoc, arith}
+use Rattle.std.proofs.Common.{◌≡◌, ℕ, ◌+◌, ◌-◌, ◌<◌, Bool, true, false, not, ltb, eqb, ◌&&◌, List, [], ◌∷◌, ◌++◌, inl, inr, refl, sym, ap, ◌∙◌, append_assoc, arith}
 use Rattle.std.specs.List.{list_all, list_any}
 use Rattle.std.specs.Prelude.{codes}
 use Rattle.std.proofs.lemmas.Bool.{cases_Bool, and_parts, ltb-true, ne_eqb}
 use Rattle.std.proofs.lemmas.Bool.Decides.{nat_tests}
+use Rattle.std.proofs.lemmas.List.{append-nil}
 use Rattle.meaning.specs.declared.syntax.Sign.{Sign}
 use Rattle.meaning.specs.declared.syntax.Sign.TheVariants as signs
 use Rattle.meaning.specs.declared.syntax.Operator.{Operator}
 use Rattle.meaning.specs.declared.syntax.Operator.TheVariants as operators
-use Rattle.meaning.specs.Characters.{is_digit, is_letter, is_alphanumeric, is_name, is_number}
-use Rattle.meaning.specs.Syntax.{ExprTree, number, name, signed, binary, UnitTree, star, unit_number, ShapeTree, assignment, writing, format, ending}
-use Rattle.meaning.specs.Spelling.{sign_byte, operator_text, spell_expr, IsWellExpr, spell_more, spell_list, AreWellExprs, spell_unit, IsWellUnit, balanced, spell, IsWell}
-use Rattle.meaning.specs.Kinds.{marks_at, has_equals, kind_of, kind_of_shape}
+use Rattle.meaning.specs.Characters.{is_digit, is_letter, is_alphanumeric, is_name, is_number, is_label}
+use Rattle.meaning.specs.Syntax.{ExprTree, number, name, signed, binary, paren, UnitTree, star, unit_number, LimitsTree, ShapeTree, assignment, writing, format, doing, continuing, ending}
+use Rattle.meaning.specs.Spelling.{sign_byte, operator_text, spell_expr, IsWellExpr, spell_more, spell_list, AreWellExprs, spell_unit, IsWellUnit, balanced, spell_step, spell_limits, IsWellLimits, spell_comma, spell, IsWell}
+use Rattle.meaning.specs.declared.syntax.Kind.TheVariants as kinds
+use Rattle.meaning.specs.Kinds.{marks_at, has_equals, has_limits, kind_of, kind_of_shape}
 use Rattle.meaning.specs.Reading.{Text}
 
 -- the text, put before any other, changes none of its marks
@@ -67,12 +69,20 @@ pub sign_passes : (s : Sign) → Passes (sign_byte s ∷ [])
 sign_passes signs.Plus = characters_pass (43 ∷ []) refl
 sign_passes signs.Minus = characters_pass (45 ∷ []) refl
 
+-- what passes at each depth passes in parentheses
+pub parentheses_pass : (t : Text) → Passes t → Passes (40 ∷ (t ++ 41 ∷ []))
+unfolding marks_at
+parentheses_pass t p depth rest =
+    let same : depth + 1 - 1 ≡ depth = omega arith in
+    ap (marks_at (depth + 1) false) (append_assoc t (41 ∷ []) rest) ∙ p (depth + 1) (41 ∷ rest) ∙ ap (λ d. marks_at d false rest) same
+
 pub expression_passes : (e : ExprTree) → IsWellExpr e → Passes (spell_expr e)
 expression_passes (number digits) well = number_passes digits well
 expression_passes (name letters) well = name_passes letters well
 expression_passes (signed s e) well = both_pass (sign_byte s ∷ []) (spell_expr e) (sign_passes s) (expression_passes e well.0)
 expression_passes (binary o a b) well =
     both_pass (spell_expr a) (operator_text o ++ spell_expr b) (expression_passes a well.0) (both_pass (operator_text o) (spell_expr b) (operator_passes o) (expression_passes b well.1.0))
+expression_passes (paren e) well = parentheses_pass (spell_expr e) (expression_passes e well)
 
 pub unit_passes : (u : UnitTree) → IsWellUnit u → Passes (spell_unit u)
 unit_passes star well = characters_pass (42 ∷ []) refl
@@ -95,13 +105,57 @@ list_has_none (e ∷ es) well = ap has_mark (expression_passes e well.0 0 (spell
 
 -- ---- kinds
 
-assignment_kind : (n : Text) (e : ExprTree) → is_name n ≡ true → has_equals (n ++ (61 ∷ spell_expr e)) ≡ true
+-- an expression has no mark
+expression_marks : (e : ExprTree) → IsWellExpr e → marks_at 0 false (spell_expr e) ≡ []
 unfolding marks_at
-assignment_kind n e well = ap has_mark (name_passes n well 0 (61 ∷ spell_expr e))
+expression_marks e well = ap (marks_at 0 false) (sym (append-nil (spell_expr e))) ∙ expression_passes e well 0 []
+
+-- an assignment has an equals sign alone
+assignment_marks : (n : Text) (e : ExprTree) → is_name n ≡ true → IsWellExpr e → marks_at 0 false (n ++ (61 ∷ spell_expr e)) ≡ 61 ∷ []
+unfolding marks_at
+assignment_marks n e named well = name_passes n named 0 (61 ∷ spell_expr e) ∙ ap (λ m. 61 ∷ m) (expression_marks e well)
+
+assignment_kind : (n : Text) (e : ExprTree) → is_name n ≡ true → IsWellExpr e → kind_of (n ++ (61 ∷ spell_expr e)) ≡ kinds.Assignment
+unfolding kind_of has_limits
+assignment_kind n e named well = rw (assignment_marks n e named well) refl
+
+-- limits have a comma behind the first of them
+limits_marks : (l : LimitsTree) → IsWellLimits l → marks_at 0 false (spell_limits l) ≡ 44 ∷ marks_at 0 false (spell_expr l.last ++ spell_step l.step)
+unfolding marks_at
+limits_marks l well = expression_passes l.first well.0 0 (44 ∷ (spell_expr l.last ++ spell_step l.step))
+
+-- a DO statement has a comma before its equals sign or none, and one behind it
+variable_marks : (v : Text) (l : LimitsTree) → is_name v ≡ true → IsWellLimits l
+    → marks_at 0 false (v ++ (61 ∷ spell_limits l)) ≡ 61 ∷ (44 ∷ marks_at 0 false (spell_expr l.last ++ spell_step l.step))
+unfolding marks_at
+variable_marks v l named well = name_passes v named 0 (61 ∷ spell_limits l) ∙ ap (λ m. 61 ∷ m) (limits_marks l well)
+
+comma_marks : (comma : Bool) (t : Text) → marks_at 0 false (spell_comma comma ++ t) ≡ spell_comma comma ++ marks_at 0 false t
+unfolding marks_at
+comma_marks true t = refl
+comma_marks false t = refl
+
+label_passes : (l : Text) → is_label l ≡ true → Passes l
+label_passes l well = number_passes l (and_parts _ _ (and_parts _ _ well).0).0
+
+doing_marks : (l : Text) (comma : Bool) (v : Text) (limits : LimitsTree) → IsWell (doing l comma v limits)
+    → marks_at 0 false (spell (doing l comma v limits)) ≡ spell_comma comma ++ (61 ∷ (44 ∷ marks_at 0 false (spell_expr limits.last ++ spell_step limits.step)))
+doing_marks l comma v limits well =
+    let behind = v ++ (61 ∷ spell_limits limits) in
+    characters_pass (codes "DO") refl 0 (l ++ (spell_comma comma ++ behind)) ∙ label_passes l well.0 0 (spell_comma comma ++ behind) ∙ comma_marks comma behind ∙ ap (λ m. spell_comma comma ++ m) (variable_marks v limits well.1.0 well.1.1)
+
+-- with such marks a text can be a DO statement alone
+doing_by : (comma : Bool) (t more : Text) → marks_at 0 false t ≡ spell_comma comma ++ (61 ∷ (44 ∷ more)) → kind_of t ≡ kinds.Do
+unfolding kind_of has_limits
+doing_by true t more e = rw e refl
+doing_by false t more e = rw e refl
+
+doing_kind : (l : Text) (comma : Bool) (v : Text) (limits : LimitsTree) → IsWell (doing l comma v limits) → kind_of (spell (doing l comma v limits)) ≡ kinds.Do
+doing_kind l comma v limits well = doing_by comma (spell (doing l comma v limits)) _ (doing_marks l comma v limits well)
 
 writing_kind : (u : UnitTree) (l : Text) (es : List ExprTree) → IsWell (writing u l es) → has_equals (spell (writing u l es)) ≡ false
 unfolding marks_at
-writing_kind u l es well = ap has_mark (unit_passes u well.0 1 (44 ∷ (l ++ (41 ∷ spell_list es))) ∙ number_passes l (and_parts _ _ (and_parts _ _ well.1.0).0).0 1 (41 ∷ spell_list es)) ∙ list_has_none es well.1.1
+writing_kind u l es well = ap has_mark (unit_passes u well.0 1 (44 ∷ (l ++ (41 ∷ spell_list es))) ∙ label_passes l well.1.0 1 (41 ∷ spell_list es)) ∙ list_has_none es well.1.1
 
 -- a text that is balanced has no mark inside one more parenthesis
 balanced_has_none : (depth : ℕ) (inside : Bool) (t : Text) → balanced depth inside t ≡ true → has_mark (marks_at (depth + 1) inside (t ++ 41 ∷ [])) ≡ false
@@ -131,13 +185,19 @@ format_kind : (t : Text) → balanced 0 false t ≡ true → has_equals (spell (
 unfolding marks_at
 format_kind t h = balanced_has_none 0 false t h
 
+continuing_kind : has_equals (codes "CONTINUE") ≡ false
+unfolding marks_at
+continuing_kind = refl
+
 ending_kind : has_equals (codes "END") ≡ false
 unfolding marks_at
 ending_kind = refl
 
 pub shape_kind : (s : ShapeTree) → IsWell s → kind_of (spell s) ≡ kind_of_shape s
 unfolding kind_of
-shape_kind (assignment n e) well = rw (assignment_kind n e well.0) refl
+shape_kind (assignment n e) well = assignment_kind n e well.0 well.1
 shape_kind (writing u l es) well = rw (writing_kind u l es well) refl
 shape_kind (format t) well = rw (format_kind t well) refl
+shape_kind (doing l comma v limits) well = doing_kind l comma v limits well
+shape_kind continuing well = rw continuing_kind refl
 shape_kind ending well = rw ending_kind refl

@@ -1,5 +1,5 @@
 -- What is read is spelled so, and well formed.
-use Rattle.std.proofs.Common.{◌≡◌, ℕ, zero, suc, ◌+◌, ◌≤◌, true, leb, eqb, List, [], ◌∷◌, ◌++◌, length, Option, Some, None, inl, inr, refl, sym, ap, subst, ◌∙◌, append_assoc, arith}
+use Rattle.std.proofs.Common.{◌≡◌, ℕ, zero, suc, ◌+◌, ◌≤◌, true, false, leb, eqb, Bool, List, [], ◌∷◌, ◌++◌, length, Option, Some, None, inl, inr, refl, sym, ap, subst, ◌∙◌, append_assoc, arith}
 use Rattle.std.specs.Prelude.{IsTrue, codes}
 use Rattle.std.proofs.lemmas.Bool.{cases_Bool, and_parts, eqb-true, leb-true, le-leb}
 use Rattle.std.proofs.lemmas.Bool.Decides.{nat_tests}
@@ -10,12 +10,12 @@ use Rattle.meaning.specs.declared.syntax.Sign.TheVariants as signs
 use Rattle.meaning.specs.declared.syntax.Operator.{Operator}
 use Rattle.meaning.specs.declared.syntax.Operator.TheVariants as operators
 use Rattle.meaning.specs.Characters.{is_digit, is_alphanumeric, is_name, is_number, is_label}
-use Rattle.meaning.specs.Syntax.{ExprTree, number, name, signed, binary, UnitTree, star, unit_number, ShapeTree, assignment, writing, format, ending}
-use Rattle.meaning.specs.Spelling.{sign_byte, operator_text, spell_expr, level, level_of, IsWellExpr, spell_more, spell_list, AreWellExprs, spell_unit, IsWellUnit, Reads}
+use Rattle.meaning.specs.Syntax.{ExprTree, number, name, signed, binary, paren, UnitTree, star, unit_number, LimitsTree, ShapeTree, assignment, writing, format, doing, continuing, ending}
+use Rattle.meaning.specs.Spelling.{sign_byte, operator_text, spell_expr, level, level_of, IsWellExpr, spell_more, spell_list, AreWellExprs, spell_unit, IsWellUnit, spell_limits, IsWellLimits, spell_comma, Reads}
 use Rattle.meaning.specs.declared.syntax.Kind.{Kind}
 use Rattle.meaning.specs.declared.syntax.Kind.TheVariants as kinds
 use Rattle.meaning.specs.Kinds.{kind_of}
-use Rattle.meaning.specs.Reading.{Text, Reader, ◌>>=◌, either, run, sign_at, operator_at, name_at, label_at, primary_at, front_at, may_follow, operations_at, expression_at, whole_expression_at, expressions_at, list_of, unit_at, at_end, after, assignment_of, writing_of, format_of, ending_of, shape_of}
+use Rattle.meaning.specs.Reading.{Text, Reader, ◌>>=◌, either, run, sign_at, operator_at, name_at, label_at, paren_at, primary_at, front_at, may_follow, operations_at, expression_at, whole_expression_at, expressions_at, list_of, unit_at, at_end, after, assignment_of, writing_of, format_of, limits_at, comma_at, doing_of, continuing_of, ending_of, shape_of}
 use Rattle.parser.proofs.Words.{after_takes, before_takes, bind_some, when_some, made_is, run_takes, run_passes}
 
 -- ---- tokens
@@ -73,18 +73,6 @@ digits_are : (c : ℕ) (t : Text) → is_digit c ≡ true → is_number (run is_
 unfolding run
 digits_are c t digit = rw (digit, digit, run_passes is_digit t) (grind (arith, nat_tests))
 
-pub primary_takes : (least : ℕ) (t : Text) (x : ExprTree × Text) → least ≤ 8 → primary_at t ≡ Some x → Begins least t x
-unfolding primary_at ◌>>=◌
-primary_takes least [] x low e = absurd cc
-primary_takes least (c ∷ t) x low e =
-    elim (cases_Bool (is_digit c)) [
-      | inl digit ↦ made_is (Begins least (c ∷ t)) (number (run is_digit (c ∷ t)).0, (run is_digit (c ∷ t)).1) x (rw digit at e)
-          (record { whole = run_takes is_digit (c ∷ t); well = digits_are c t digit; strong = low })
-      | inr other ↦ bind_some (name_at (c ∷ t)) (λ n. Some (name n.0, n.1)) x (rw other at e) (λ n e1 e2.
-          let m = name_takes (c ∷ t) n e1 in
-          made_is (Begins least (c ∷ t)) (name n.0, n.1) x e2 (record { whole = m.0; well = m.1; strong = low }))
-    ]
-
 -- what is read by a reader of expressions
 abbrev pub ReadsWell : (ℕ → Reader ExprTree) → Type 0
 ReadsWell rec = (least : ℕ) (t : Text) (x : ExprTree × Text) → least ≤ 8 → rec least t ≡ Some x → Begins least t x
@@ -96,6 +84,34 @@ level_below operators.Subtract = omega arith
 level_below operators.Multiply = omega arith
 
 module _ (rec : ℕ → Reader ExprTree) (reads_well : ReadsWell rec) where
+  pub paren_takes : (least : ℕ) (t : Text) (x : ExprTree × Text) → least ≤ 8 → paren_at rec t ≡ Some x → Begins least (40 ∷ t) x
+  unfolding paren_at ◌>>=◌
+  paren_takes least t x low e =
+      bind_some (rec 0 t) (λ e. after (41 ∷ []) e.1 >>= λ rest. Some (paren e.0, rest)) x e (λ y e1 e2.
+      bind_some (after (41 ∷ []) y.1) (λ rest. Some (paren y.0, rest)) x e2 (λ rest e3 e4.
+      let b = reads_well 0 t y (omega arith) e1 in
+      let closes : y.1 ≡ 41 ∷ rest = after_takes (41 ∷ []) y.1 rest e3 in
+      made_is (Begins least (40 ∷ t)) (paren y.0, rest) x e4 (record {
+        whole = ap (λ u. 40 ∷ u) (b.whole ∙ ap (λ u. spell_expr y.0 ++ u) closes ∙ sym (append_assoc (spell_expr y.0) (41 ∷ []) rest));
+        well = b.well;
+        strong = low;
+      })))
+
+  pub primary_takes : (least : ℕ) (t : Text) (x : ExprTree × Text) → least ≤ 8 → primary_at rec t ≡ Some x → Begins least t x
+  unfolding primary_at ◌>>=◌
+  primary_takes least [] x low e = absurd cc
+  primary_takes least (c ∷ t) x low e =
+      elim (cases_Bool (is_digit c)) [
+        | inl digit ↦ made_is (Begins least (c ∷ t)) (number (run is_digit (c ∷ t)).0, (run is_digit (c ∷ t)).1) x (rw digit at e)
+            (record { whole = run_takes is_digit (c ∷ t); well = digits_are c t digit; strong = low })
+        | inr other ↦ elim (cases_Bool (eqb c 40)) [
+          | inl opens ↦ subst (λ d. Begins least (d ∷ t) x) (sym (eqb-true c 40 opens)) (paren_takes least t x low (rw (other, opens) at e))
+          | inr named ↦ bind_some (name_at (c ∷ t)) (λ n. Some (name n.0, n.1)) x (rw (other, named) at e) (λ n e1 e2.
+              let m = name_takes (c ∷ t) n e1 in
+              made_is (Begins least (c ∷ t)) (name n.0, n.1) x e2 (record { whole = m.0; well = m.1; strong = low }))
+        ]
+      ]
+
   pub front_takes : (least : ℕ) (t : Text) (x : ExprTree × Text) → least ≤ 8 → front_at rec least t ≡ Some x → Begins least t x
   unfolding front_at either ◌>>=◌
   front_takes least t x low e = at_sign (sign_at t) refl
@@ -198,6 +214,52 @@ unit_takes t x e = at_star (after (42 ∷ []) t) refl
         let b = whole_takes t y e1 in
         made_is (λ x. (t ≡ spell_unit x.0 ++ x.1) × IsWellUnit x.0) (unit_number y.0, y.1) x e2 (b.whole, b.well))
 
+-- ---- limits, and the comma behind a label
+
+pub record BeginsLimits (t : Text) (x : LimitsTree × Text) : Type 0 where
+  pub whole : t ≡ spell_limits x.0 ++ x.1
+  pub well : IsWellLimits x.0
+
+-- two expressions with a comma between, and what stands behind them
+two_whole : (a b t : Text) → a ++ (44 ∷ (b ++ t)) ≡ (a ++ (44 ∷ (b ++ []))) ++ t
+two_whole a b t = rw append-nil (sym (append_assoc a (44 ∷ b) t))
+
+-- and three
+three_whole : (a b c t : Text) → a ++ (44 ∷ (b ++ (44 ∷ (c ++ t)))) ≡ (a ++ (44 ∷ (b ++ (44 ∷ c)))) ++ t
+three_whole a b c t = sym (append_assoc a (44 ∷ (b ++ (44 ∷ c))) t ∙ ap (λ u. a ++ (44 ∷ u)) (append_assoc b (44 ∷ c) t))
+
+pub limits_take : (t : Text) (x : LimitsTree × Text) → limits_at t ≡ Some x → BeginsLimits t x
+unfolding limits_at either
+limits_take t x e =
+    bind_some _ _ x e (λ first e1 e. bind_some _ _ x e (λ behind e2 e. bind_some _ _ x e (λ last e3 e.
+    at_step first behind last (whole_takes t first e1) (after_takes (44 ∷ []) first.1 behind e2) (whole_takes behind last e3) (after (44 ∷ []) last.1) refl e)))
+  where
+    at_step : (first : ExprTree × Text) (behind : Text) (last : ExprTree × Text) → Begins 0 t first → first.1 ≡ 44 ∷ behind → Begins 0 behind last
+        → (o : Option Text) → after (44 ∷ []) last.1 ≡ o
+        → either o (Some (record { first = first.0; last = last.0; step = None }, last.1)) (λ rest. whole_expression_at rest >>= λ e. Some (record { first = first.0; last = last.0; step = Some e.0 }, e.1)) ≡ Some x
+        → BeginsLimits t x
+    at_step first behind last a comma b None is e =
+        made_is (BeginsLimits t) (record { first = first.0; last = last.0; step = None }, last.1) x e (record {
+          whole = rw (a.whole, comma, b.whole) (two_whole (spell_expr first.0) (spell_expr last.0) last.1);
+          well = (a.well, (b.well, tt));
+        })
+    at_step first behind last a comma b (Some rest) is e =
+        bind_some (whole_expression_at rest) (λ e. Some (record { first = first.0; last = last.0; step = Some e.0 }, e.1)) x e (λ z e1 e2.
+        let d = after_takes (44 ∷ []) last.1 rest is in
+        let c = whole_takes rest z e1 in
+        made_is (BeginsLimits t) (record { first = first.0; last = last.0; step = Some z.0 }, z.1) x e2 (record {
+          whole = rw (a.whole, comma, b.whole, d, c.whole) (three_whole (spell_expr first.0) (spell_expr last.0) (spell_expr z.0) z.1);
+          well = (a.well, (b.well, c.well));
+        }))
+
+pub comma_takes : (t : Text) → t ≡ spell_comma (comma_at t).0 ++ (comma_at t).1
+unfolding comma_at either
+comma_takes t = at_comma (after (44 ∷ []) t) refl
+  where
+    at_comma : (o : Option Text) → after (44 ∷ []) t ≡ o → t ≡ spell_comma (either {B = Bool × Text} o (false, t) (λ rest. (true, rest))).0 ++ (either {B = Bool × Text} o (false, t) (λ rest. (true, rest))).1
+    at_comma None is = refl
+    at_comma (Some rest) is = after_takes (44 ∷ []) t rest is
+
 -- ---- statements
 
 assignment_takes : (t : Text) (s : ShapeTree) → assignment_of t ≡ Some s → Reads t s
@@ -236,6 +298,34 @@ format_takes t s e =
     let b = before_takes rest text e2 in
     made_is (Reads t) (format text) s e (record { well = is_text; spelled = rw (a, b) refl }))))
 
+doing_takes : (t : Text) (s : ShapeTree) → doing_of t ≡ Some s → Reads t s
+unfolding doing_of
+doing_takes t s e =
+    bind_some _ _ s e (λ rest e1 e. bind_some _ _ s e (λ l e2 e. bind_some _ _ s e (λ v e3 e. bind_some _ _ s e (λ behind e4 e. bind_some _ _ s e (λ limits e5 e.
+    let a = after_takes (codes "DO") t rest e1 in
+    let b = label_takes rest l e2 in
+    let c = comma_takes l.1 in
+    let d = name_takes (comma_at l.1).1 v e3 in
+    let f = after_takes (61 ∷ []) v.1 behind e4 in
+    let g = limits_take behind limits e5 in
+    let h = ends_takes (doing l.0 (comma_at l.1).0 v.0 limits.0, limits.1) s e in
+    subst (Reads t) h.0 (record {
+      well = (b.1, (d.1, g.well));
+      spelled = doing_whole t rest l.0 l.1 (spell_comma (comma_at l.1).0) (comma_at l.1).1 v.0 v.1 behind (spell_limits limits.0) limits.1 a b.0 c d.0 f g.whole h.1;
+    }))))))
+  where
+    doing_whole : (t rest l l1 comma c1 v v1 behind limits end : Text) → t ≡ codes "DO" ++ rest → rest ≡ l ++ l1 → l1 ≡ comma ++ c1 → c1 ≡ v ++ v1 → v1 ≡ 61 ∷ behind → behind ≡ limits ++ end → end ≡ []
+        → codes "DO" ++ (l ++ (comma ++ (v ++ (61 ∷ limits)))) ≡ t
+    doing_whole t rest l l1 comma c1 v v1 behind limits end a b c d f g h = rw (a, b, c, d, f, g, h, append-nil) refl
+
+continuing_takes : (t : Text) (s : ShapeTree) → continuing_of t ≡ Some s → Reads t s
+unfolding continuing_of
+continuing_takes t s e =
+    bind_some _ _ s e (λ rest e1 e.
+    let a = after_takes (codes "CONTINUE") t rest e1 in
+    let b = ends_takes (continuing, rest) s e in
+    subst (Reads t) b.0 (record { well = tt; spelled = rw (a, b.1) refl }))
+
 ending_takes : (t : Text) (s : ShapeTree) → ending_of t ≡ Some s → Reads t s
 unfolding ending_of
 ending_takes t s e =
@@ -252,5 +342,7 @@ shape_takes t s e = at_kind (kind_of t) refl
     at_kind kinds.Assignment is = assignment_takes t s (rw (is, shape_of) at e)
     at_kind kinds.Write is = writing_takes t s (rw (is, shape_of) at e)
     at_kind kinds.Format is = format_takes t s (rw (is, shape_of) at e)
+    at_kind kinds.Do is = doing_takes t s (rw (is, shape_of) at e)
+    at_kind kinds.Continue is = continuing_takes t s (rw (is, shape_of) at e)
     at_kind kinds.End is = ending_takes t s (rw (is, shape_of) at e)
     at_kind kinds.Other is = let no : None ≡ Some s = rw (is, shape_of) at e in absurd cc

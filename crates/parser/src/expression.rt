@@ -3,13 +3,16 @@
 ghost use Rattle.std.specs.Prelude.{◌≡◌, ◌+◌, length, IfOk};
 ghost use Rattle.meaning.specs.Spelling.{level, level_of};
 ghost use Rattle.meaning.specs.Syntax.{binary, expr_tree};
-ghost use Rattle.meaning.specs.Reading.{primary_at, front_at, may_follow, operations_at, expression_at, whole_expression_at};
+ghost use Rattle.meaning.specs.Reading.{paren_at, primary_at, front_at, may_follow, operations_at, expression_at, whole_expression_at};
 ghost use Rattle.parser.specs.Reports.{Agrees};
 
 use crate::read_error::ReadError;
-use crate::token::{read_name, read_operator, read_sign, split_digits};
+use crate::token::{expect, read_name, read_operator, read_sign, split_digits};
 use meaning::syntax::{Expr, Operator};
 use std::alloc::{AllocError, Global};
+
+/// The level of a whole expression.
+const WEAKEST: u8 = 0;
 
 /// The level of a sign with its operand.
 const SIGNED: u8 = 5;
@@ -17,7 +20,7 @@ const SIGNED: u8 = 5;
 /// The level of the term that a sign takes.
 const TERM: u8 = 6;
 
-/// The level of digits and names.
+/// The level of digits, names and expressions in parentheses.
 const PRIMARY: u8 = 8;
 
 /// How strongly an operator binds (ANSI X3.9-1978, 6.1.3 and 6.5).
@@ -35,7 +38,7 @@ fn level_of_expression(expression: &Expr) -> u8
     ensures { result ≡ level_of (expr_tree expression.now) }
 {
     match expression {
-        Expr::Number(_) | Expr::Name(_) => PRIMARY,
+        Expr::Number(_) | Expr::Name(_) | Expr::Paren(_) => PRIMARY,
         Expr::Signed(_, _) => SIGNED,
         Expr::Binary(operator, _, _) => level_of_operator(*operator),
     }
@@ -65,15 +68,30 @@ fn join(alloc: Global, operator: Operator, left: Expr, right: Expr) -> Result<Ex
     Ok(Expr::Binary(operator, left, right))
 }
 
-/// Digits or a name.
-#[tactic(auto, unfolding(meaning::specs::Reading::primary_at, meaning::specs::Reading::name_at))]
-fn read_primary(alloc: Global, text: &[u8]) -> Result<(Expr, &[u8]), ReadError>
-    ensures { Agrees (λ x. (expr_tree x.0, x.1.now)) result (primary_at text.now) }
+/// An expression of the weakest level behind an opening parenthesis, and the closing one.
+#[cycle(expression)]
+#[tactic(auto, unfolding(meaning::specs::Reading::paren_at))]
+fn read_parenthesis(alloc: Global, depth: usize, text: &[u8]) -> Result<(Expr, &[u8]), ReadError>
+    ensures { Agrees (λ x. (expr_tree x.0, x.1.now)) result (paren_at (expression_at depth) text.now) }
 {
-    let first = text.first().ok_or(ReadError::NoReading)?;
+    let (inner, rest) = read_expression(alloc, depth, WEAKEST, text)?;
+    let rest = expect(b")", rest)?;
+    Ok((Expr::Paren(Box::new(alloc, inner)?), rest))
+}
+
+/// Digits, a name, or an expression in parentheses.
+#[cycle(expression)]
+#[tactic(auto, unfolding(meaning::specs::Reading::primary_at, meaning::specs::Reading::name_at))]
+fn read_primary(alloc: Global, depth: usize, text: &[u8]) -> Result<(Expr, &[u8]), ReadError>
+    ensures { Agrees (λ x. (expr_tree x.0, x.1.now)) result (primary_at (expression_at depth) text.now) }
+{
+    let (first, behind) = text.split_first().ok_or(ReadError::NoReading)?;
     if first.is_ascii_digit() {
         let (digits, rest) = split_digits(text);
         return Ok((Expr::Number(Vec::from_slice(alloc, digits)?), rest));
+    }
+    if *first == b'(' {
+        return read_parenthesis(alloc, depth, behind);
     }
     let (name, rest) = read_name(alloc, text)?;
     Ok((Expr::Name(name), rest))
@@ -91,7 +109,7 @@ fn read_front(
     ensures { Agrees (λ x. (expr_tree x.0, x.1.now)) result (front_at (expression_at depth) least text.now) }
 {
     match read_sign(text) {
-        None => read_primary(alloc, text),
+        None => read_primary(alloc, depth, text),
         Some((sign, behind)) => {
             if least > SIGNED {
                 return Err(ReadError::NoReading);
@@ -160,5 +178,5 @@ fn read_expression(
 pub fn read_whole_expression(alloc: Global, text: &[u8]) -> Result<(Expr, &[u8]), ReadError>
     ensures { Agrees (λ x. (expr_tree x.0, x.1.now)) result (whole_expression_at text.now) }
 {
-    read_expression(alloc, text.len() + 1, 0, text)
+    read_expression(alloc, text.len() + 1, WEAKEST, text)
 }

@@ -4,7 +4,7 @@ ghost use Rattle.std.specs.Prelude.{◌≡◌, IfOk};
 ghost use Rattle.meaning.specs.BareText.{bare as bare_text};
 ghost use Rattle.meaning.specs.Kinds.{kind_of};
 
-use crate::scan::{begins, has_equals_sign};
+use crate::scan::{begins, has_comma_behind, has_equals_sign};
 use meaning::statement::{Bare, Statement};
 use meaning::syntax::Kind;
 use std::alloc::{AllocError, Global};
@@ -34,21 +34,28 @@ pub fn bare(alloc: Global, statement: &Statement) -> Result<Bare, AllocError>
     })
 }
 
-/// Which statement a bare text can be: an assignment where an equals sign stands outside parentheses and
-/// apostrophes, and else what its first keyword says.
+/// Which statement a bare text can be: where an equals sign stands outside parentheses and apostrophes, a DO
+/// statement if such a comma stands behind the first one, and else an assignment; where none does, what its first
+/// keyword says.
 #[tactic(auto, unfolding(meaning::specs::Kinds::kind_of))]
 pub fn kind(bare: &Bare) -> Kind
     ensures { result ≡ kind_of bare.now.text.items }
 {
     let text = bare.text.as_slice();
     if has_equals_sign(text) {
-        Kind::Assignment
+        if has_comma_behind(text) {
+            Kind::Do
+        } else {
+            Kind::Assignment
+        }
     } else if begins(text, b"WRITE(") {
         Kind::Write
     } else if begins(text, b"FORMAT(") {
         Kind::Format
     } else if begins(text, b"END") {
         Kind::End
+    } else if begins(text, b"CONTINUE") {
+        Kind::Continue
     } else {
         Kind::Other
     }

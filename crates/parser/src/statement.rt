@@ -1,8 +1,8 @@
 //! Statements: a text as the form that it reads as.
 
 ghost use Rattle.std.specs.Prelude.{◌≡◌, ◌∷◌, IfOk};
-ghost use Rattle.meaning.specs.Syntax.{expr_tree, exprs_trees, unit_tree, shape_tree};
-ghost use Rattle.meaning.specs.Reading.{after, expressions_at, list_of, unit_at, assignment_of, writing_of, format_of, ending_of, shape_of, read_shape};
+ghost use Rattle.meaning.specs.Syntax.{expr_tree, exprs_trees, unit_tree, limits_tree, shape_tree};
+ghost use Rattle.meaning.specs.Reading.{at_end as ends, expressions_at, list_of, unit_at, assignment_of, writing_of, format_of, ending_of, limits_at, comma_at, doing_of, continuing_of, shape_of, read_shape};
 ghost use Rattle.meaning.specs.Answers.{at_line};
 ghost use Rattle.meaning.specs.Reports.{Gives};
 ghost use Rattle.parser.specs.Reports.{Agrees};
@@ -11,10 +11,10 @@ use crate::expression::read_whole_expression;
 use crate::lexer::kind;
 use crate::read_error::ReadError;
 use crate::scan::{begins_left_out, is_balanced, is_too_deep};
-use crate::token::{before_parenthesis, behind, read_label, read_name};
+use crate::token::{before_parenthesis, behind, expect, read_label, read_name};
 use meaning::refusal::{Refusal, Rule};
 use meaning::statement::Bare;
-use meaning::syntax::{Expr, Exprs, Form, Kind, Shape, Unit};
+use meaning::syntax::{Expr, Exprs, Form, Kind, Limits, Shape, Unit};
 use std::alloc::{AllocError, Global};
 
 /// An expression before others.
@@ -71,11 +71,14 @@ fn read_unit(alloc: Global, text: &[u8]) -> Result<(Unit, &[u8]), ReadError>
     }
 }
 
-/// What stands behind a word at the front, where it must stand.
-fn expect<'t>(word: &[u8], text: &'t [u8]) -> Result<&'t [u8], ReadError>
-    ensures { Agrees (λ x. x.now) result (after word.now text.now) }
+/// What was read, where nothing stands behind it.
+fn at_end(shape: Shape, rest: &[u8]) -> Result<Shape, ReadError>
+    ensures { Agrees (λ x. shape_tree x) result (ends (shape_tree shape, rest.now)) }
 {
-    behind(word, text).ok_or(ReadError::NoReading)
+    if !rest.is_empty() {
+        return Err(ReadError::NoReading);
+    }
+    Ok(shape)
 }
 
 /// An assignment (ANSI X3.9-1978, 10.1).
@@ -86,10 +89,7 @@ fn read_assignment(alloc: Global, text: &[u8]) -> Result<Shape, ReadError>
     let (name, rest) = read_name(alloc, text)?;
     let rest = expect(b"=", rest)?;
     let (value, rest) = read_whole_expression(alloc, rest)?;
-    if !rest.is_empty() {
-        return Err(ReadError::NoReading);
-    }
-    Ok(Shape::Assignment { name, value })
+    at_end(Shape::Assignment { name, value }, rest)
 }
 
 /// A WRITE statement (ANSI X3.9-1978, 12.8).
@@ -125,10 +125,80 @@ fn read_end(text: &[u8]) -> Result<Shape, ReadError>
     ensures { Agrees (λ x. shape_tree x) result (ending_of text.now) }
 {
     let rest = expect(b"END", text)?;
-    if !rest.is_empty() {
-        return Err(ReadError::NoReading);
+    at_end(Shape::End, rest)
+}
+
+/// The limits of a DO statement (ANSI X3.9-1978, 11.10): two expressions or three, with commas between.
+#[tactic(auto, unfolding(meaning::specs::Reading::limits_at, meaning::specs::Reading::either))]
+fn read_limits(alloc: Global, text: &[u8]) -> Result<(Limits, &[u8]), ReadError>
+    ensures { Agrees (λ x. (limits_tree x.0, x.1.now)) result (limits_at text.now) }
+{
+    let (first, rest) = read_whole_expression(alloc, text)?;
+    let rest = expect(b",", rest)?;
+    let (last, rest) = read_whole_expression(alloc, rest)?;
+    match behind(b",", rest) {
+        None => Ok((
+            Limits {
+                first,
+                last,
+                step: None,
+            },
+            rest,
+        )),
+        Some(rest) => {
+            let (step, rest) = read_whole_expression(alloc, rest)?;
+            Ok((
+                Limits {
+                    first,
+                    last,
+                    step: Some(step),
+                },
+                rest,
+            ))
+        }
     }
-    Ok(Shape::End)
+}
+
+/// Whether a comma stands at the front, and what stands behind it.
+#[tactic(auto, unfolding(meaning::specs::Reading::comma_at, meaning::specs::Reading::either))]
+fn split_comma(text: &[u8]) -> (bool, &[u8])
+    ensures { (result.0, result.1.now) ≡ comma_at text.now }
+{
+    match behind(b",", text) {
+        None => (false, text),
+        Some(rest) => (true, rest),
+    }
+}
+
+/// A DO statement (ANSI X3.9-1978, 11.10).
+#[tactic(auto, unfolding(meaning::specs::Reading::doing_of))]
+fn read_do(alloc: Global, text: &[u8]) -> Result<Shape, ReadError>
+    ensures { Agrees (λ x. shape_tree x) result (doing_of text.now) }
+{
+    let rest = expect(b"DO", text)?;
+    let (label, rest) = read_label(alloc, rest)?;
+    let (comma, rest) = split_comma(rest);
+    let (variable, rest) = read_name(alloc, rest)?;
+    let rest = expect(b"=", rest)?;
+    let (limits, rest) = read_limits(alloc, rest)?;
+    at_end(
+        Shape::Do {
+            label,
+            comma,
+            variable,
+            limits,
+        },
+        rest,
+    )
+}
+
+/// A CONTINUE statement (ANSI X3.9-1978, 11.11).
+#[tactic(auto, unfolding(meaning::specs::Reading::continuing_of))]
+fn read_continue(text: &[u8]) -> Result<Shape, ReadError>
+    ensures { Agrees (λ x. shape_tree x) result (continuing_of text.now) }
+{
+    let rest = expect(b"CONTINUE", text)?;
+    at_end(Shape::Continue, rest)
 }
 
 /// The form that a bare text reads as.
@@ -140,6 +210,8 @@ fn read_shape_of(alloc: Global, bare: &Bare) -> Result<Shape, ReadError>
         Kind::Assignment => read_assignment(alloc, &bare.text),
         Kind::Write => read_write(alloc, &bare.text),
         Kind::Format => read_format(alloc, &bare.text),
+        Kind::Do => read_do(alloc, &bare.text),
+        Kind::Continue => read_continue(&bare.text),
         Kind::End => read_end(&bare.text),
         Kind::Other => Err(ReadError::NoReading),
     }

@@ -1,7 +1,7 @@
 use super::*;
 use meaning::refusal::Refusal;
 use meaning::statement::{Bare, Statement};
-use meaning::syntax::{Expr, Exprs, Form, Kind, Operator, Shape, Sign, Unit};
+use meaning::syntax::{Expr, Exprs, Form, Kind, Limits, Operator, Shape, Sign, Unit};
 use std::alloc::{AllocError, Global};
 use std::test::*;
 
@@ -16,7 +16,8 @@ fn bare_of(alloc: Global, text: &[u8]) -> Result<Option<Bare>, AllocError> {
     }))
 }
 
-/// An expression with parentheses round each sign and each operator with its operands.
+/// An expression with parentheses round each sign and each operator with its operands, and with brackets in place of
+/// the parentheses that were written.
 fn write_expression(out: &mut Vec<u8>, expression: &Expr) -> Result<(), AllocError> {
     match expression {
         Expr::Number(digits) => out.extend_from_slice(digits)?,
@@ -41,6 +42,11 @@ fn write_expression(out: &mut Vec<u8>, expression: &Expr) -> Result<(), AllocErr
             write_expression(out, right)?;
             out.push(b')')?;
         }
+        Expr::Paren(inner) => {
+            out.push(b'[')?;
+            write_expression(out, inner)?;
+            out.push(b']')?;
+        }
     }
     Ok(())
 }
@@ -55,6 +61,18 @@ fn write_list(out: &mut Vec<u8>, list: &Exprs) -> Result<(), AllocError> {
             write_list(out, others)
         }
     }
+}
+
+/// Limits with semicolons between.
+fn write_limits(out: &mut Vec<u8>, limits: &Limits) -> Result<(), AllocError> {
+    write_expression(out, &limits.first)?;
+    out.push(b';')?;
+    write_expression(out, &limits.last)?;
+    if let Some(step) = &limits.step {
+        out.push(b';')?;
+        write_expression(out, step)?;
+    }
+    Ok(())
 }
 
 fn write_shape(out: &mut Vec<u8>, shape: &Shape) -> Result<(), AllocError> {
@@ -79,6 +97,20 @@ fn write_shape(out: &mut Vec<u8>, shape: &Shape) -> Result<(), AllocError> {
             out.extend_from_slice(b"format ")?;
             out.extend_from_slice(text)?;
         }
+        Shape::Do {
+            label,
+            comma,
+            variable,
+            limits,
+        } => {
+            out.extend_from_slice(b"do ")?;
+            out.extend_from_slice(label)?;
+            out.extend_from_slice(if *comma { b" , " } else { b" " })?;
+            out.extend_from_slice(variable)?;
+            out.push(b' ')?;
+            write_limits(out, limits)?;
+        }
+        Shape::Continue => out.extend_from_slice(b"continue")?,
         Shape::End => out.extend_from_slice(b"end")?,
     }
     Ok(())
@@ -126,6 +158,21 @@ fn forms(rt: HostRuntime) -> Result<(), Fail> {
         ("FORMAT('(')", "format '('"),
         ("FORMAT((I5),'=')", "format (I5),'='"),
         ("END", "end"),
+        ("I=(J)", "assign I [J]"),
+        ("I=((1+J))*K", "assign I ([[(1+J)]]*K)"),
+        ("I=-(-J)", "assign I (-[(-J)])"),
+        ("I=J*(-K)", "assign I (J*[(-K)])"),
+        ("I=A-(B-C)", "assign I (A-[(B-C)])"),
+        ("WRITE((6),10)(I),-(J)", "write [6] 10;[I];(-[J])"),
+        ("DO10I=1,5", "do 10 I 1;5"),
+        ("DO10,I=1,5", "do 10 , I 1;5"),
+        ("DO10I=1,10,3", "do 10 I 1;10;3"),
+        ("DO00010I=1,5", "do 00010 I 1;5"),
+        ("DO10I5=-1,J*2", "do 10 I5 (-1);(J*2)"),
+        ("DO10I=(1),((2)),-(3)", "do 10 I [1];[[2]];(-[3])"),
+        ("DO10DO10=1,5", "do 10 DO10 1;5"),
+        ("DO=1", "assign DO 1"),
+        ("CONTINUE", "continue"),
     ];
     for (text, wanted) in table {
         assert_eq!(rt; reading(rt.alloc(), text.as_bytes())?.as_str(), wanted);
@@ -144,7 +191,6 @@ fn refusals(rt: HostRuntime) -> Result<(), Fail> {
         "I=A*-B",
         "I=A+-B",
         "I=--3",
-        "I=(3)",
         "I=3+",
         "I=3=4",
         "I=3)",
@@ -169,7 +215,44 @@ fn refusals(rt: HostRuntime) -> Result<(), Fail> {
         "WRITE(6)",
         "WRITE(,10)",
         "GOTO10",
-        "CONTINUE",
+        "I=()",
+        "I=(1",
+        "I=1)",
+        "I=((1)",
+        "I=(1))",
+        "I=(1)2",
+        "I=(1)(2)",
+        "I=A(1)",
+        "I=(A)=3",
+        "I=(A,B)",
+        "I=(A,)",
+        "I=J*-K",
+        "I=J*(-K",
+        "I=(J*-K)",
+        "I=1,2",
+        "DO10I",
+        "DO10I=1.5",
+        "DO10I=1,",
+        "DO10I=,2",
+        "DO10I=1,2,",
+        "DO10I=1,2,3,4",
+        "DO10I=1,2)",
+        "DO10I=(1,2)",
+        "DO10I=1,2=3",
+        "DO10(I)=1,2",
+        "DO10,,I=1,2",
+        "DO,10I=1,2",
+        "DO10,I=1",
+        "DO10=1,2",
+        "DOI=1,2",
+        "DO0I=1,2",
+        "DO100000I=1,2",
+        "DO10ABCDEFG=1,2",
+        "CONTINUE=1",
+        "CONTINUE=1,2",
+        "CONTINUE1",
+        "CONTINU",
+        "CONTINUE=",
     ];
     for text in no_reading {
         assert_eq!(rt;
@@ -220,6 +303,33 @@ fn parentheses(rt: HostRuntime) -> Result<(), Fail> {
     for (front, count, wanted) in table {
         let text = opened(rt.alloc(), front.as_bytes(), count)?;
         assert_eq!(rt; reading(rt.alloc(), &text)?.as_str(), wanted, "{count}");
+    }
+    Ok(())
+}
+
+/// An assignment of a value inside this many parentheses, with a front before each.
+fn nested(alloc: Global, front: &[u8], count: usize) -> Result<Vec<u8>, AllocError> {
+    let mut text = Vec::from_slice(alloc, b"I=")?;
+    for _ in 0..count {
+        text.extend_from_slice(front)?;
+        text.push(b'(')?;
+    }
+    text.push(b'1')?;
+    for _ in 0..count {
+        text.push(b')')?;
+    }
+    Ok(text)
+}
+
+/// As many parentheses are read as may be open at once, each with a sign and operators before it too.
+#[test]
+fn nested_parentheses(rt: HostRuntime) -> Result<(), Fail> {
+    for front in ["", "-J+K*"] {
+        let most = nested(rt.alloc(), front.as_bytes(), 64)?;
+        let read = bare_of(rt.alloc(), &most)?.ok_or("the text is too long")?;
+        assert!(rt; form(rt.alloc(), &read).is_ok(), "{front}");
+        let more = nested(rt.alloc(), front.as_bytes(), 65)?;
+        assert_eq!(rt; reading(rt.alloc(), &more)?.as_str(), "G3 7", "{front}");
     }
     Ok(())
 }
@@ -278,6 +388,16 @@ fn kinds(rt: HostRuntime) -> Result<(), Fail> {
         ("FORMAT('=',(A='))", Kind::Format),
         ("ENDX", Kind::End),
         ("GOTO10", Kind::Other),
+        ("DO10I=1,5", Kind::Do),
+        ("DO10,I=1,5", Kind::Do),
+        ("DO10,I=1", Kind::Assignment),
+        ("I=(1,2)", Kind::Assignment),
+        ("I=1,2", Kind::Do),
+        ("DO=1", Kind::Assignment),
+        ("DO10I", Kind::Other),
+        ("CONTINUE", Kind::Continue),
+        ("CONTINUE1", Kind::Continue),
+        ("CONTINUE=1", Kind::Assignment),
     ];
     for (text, wanted) in table {
         let read = bare_of(rt.alloc(), text.as_bytes())?.ok_or("the text is too long")?;

@@ -18,6 +18,13 @@ pub fn behind<'t>(word: &[u8], text: &'t [u8]) -> Option<&'t [u8]>
     text.strip_prefix(word)
 }
 
+/// What stands behind a word at the front, where it must stand.
+pub fn expect<'t>(word: &[u8], text: &'t [u8]) -> Result<&'t [u8], ReadError>
+    ensures { Agrees (λ x. x.now) result (after word.now text.now) }
+{
+    behind(word, text).ok_or(ReadError::NoReading)
+}
+
 /// What stands before a last closing parenthesis.
 #[tactic(auto, using(crate::proofs::Words::before_is))]
 pub fn before_parenthesis(text: &[u8]) -> Option<&[u8]>

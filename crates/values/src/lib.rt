@@ -53,6 +53,7 @@ pub fn value<V: Variables>(expression: &Expr, variables: &V) -> Result<Value, Fa
             let y = value(right, variables)?;
             operated(*operator, as_integer(x), as_integer(y))
         }
+        Expr::Paren(operand) => value(operand, variables),
     }
 }
 

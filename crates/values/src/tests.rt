@@ -45,6 +45,10 @@ fn binary(alloc: Global, operator: Operator, left: Expr, right: Expr) -> Result<
     Ok(Expr::Binary(operator, left, Box::new(alloc, right)?))
 }
 
+fn paren(alloc: Global, operand: Expr) -> Result<Expr, AllocError> {
+    Ok(Expr::Paren(Box::new(alloc, operand)?))
+}
+
 /// `-2147483647-1`
 fn least(alloc: Global) -> Result<Expr, AllocError> {
     let minus = signed(alloc, Sign::Minus, constant(alloc, b"2147483647")?)?;
@@ -127,6 +131,26 @@ fn least_integer(rt: HostRuntime) -> Result<(), Fail> {
     let minus_one = signed(alloc, Sign::Minus, constant(alloc, b"1")?)?;
     let opposite = binary(alloc, Operator::Multiply, least(alloc)?, minus_one)?;
     assert_eq!(rt; value(&opposite, &Start), Err(FaultKind::F2));
+    Ok(())
+}
+
+/// `(7)`, `3*(2+5)` and `((2147483648))`
+#[test]
+fn parentheses(rt: HostRuntime) -> Result<(), Fail> {
+    let alloc = rt.alloc();
+    let seven = paren(alloc, constant(alloc, b"7")?)?;
+    assert_eq!(rt; value(&seven, &Start), Ok(Value::Int(7)));
+    let sum = binary(
+        alloc,
+        Operator::Add,
+        constant(alloc, b"2")?,
+        constant(alloc, b"5")?,
+    )?;
+    let factor = paren(alloc, sum)?;
+    let product = binary(alloc, Operator::Multiply, constant(alloc, b"3")?, factor)?;
+    assert_eq!(rt; value(&product, &Start), Ok(Value::Int(21)));
+    let inner = paren(alloc, constant(alloc, b"2147483648")?)?;
+    assert_eq!(rt; value(&paren(alloc, inner)?, &Start), Err(FaultKind::F2));
     Ok(())
 }
 

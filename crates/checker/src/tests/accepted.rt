@@ -1,7 +1,7 @@
 // Programs that keep the rules.
 
 use super::building::Says::{Ends, Formats, Sets, Writes};
-use super::building::{Row, binary, member, of_two, operand, signed, tree};
+use super::building::{Row, binary, of_two, operand, plain, signed, tree};
 use crate::check;
 use format_edit::Descriptor;
 use meaning::syntax::{Operator, Shape, Sign, Tree};
@@ -76,8 +76,8 @@ fn names_in_expressions(rt: HostRuntime) -> Result<(), Fail> {
         value: binary(alloc, minus, Operator::Add, difference)?,
     };
     let mut body = Vec::new(alloc);
-    body.push(member(&rt, 1, None, set))?;
-    body.push(member(&rt, 2, None, Shape::End))?;
+    body.push(plain(&rt, 1, None, set))?;
+    body.push(plain(&rt, 2, None, Shape::End))?;
     let program = check(alloc, Tree { body })?;
     assert_eq!(rt; program.names.len(), 4);
     let wanted: [&[u8]; 4] = [b"L", b"M", b"K", b"J"];

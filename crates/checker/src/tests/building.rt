@@ -1,14 +1,16 @@
 // Program units built by hand.
 
-ghost use Rattle.std.specs.Prelude.{◌≤◌, length};
-ghost use Rattle.meaning.specs.Spelling.{spell, spell_expr, spell_list, spell_more, spell_unit};
-ghost use Rattle.meaning.specs.Syntax.{expr_tree, exprs_trees, shape_tree, unit_tree};
+ghost use Rattle.std.specs.Prelude.{◌≤◌, length, option_map};
+ghost use Rattle.meaning.specs.Spelling.{spell, spell_expr, spell_limits, spell_list, spell_more, spell_step, spell_unit};
+ghost use Rattle.meaning.specs.Syntax.{expr_tree, exprs_trees, limits_tree, shape_tree, unit_tree};
 
-use meaning::syntax::{Expr, Exprs, Form, Member, Operator, Shape, Sign, Tree, Unit};
+use meaning::syntax::{
+    Expr, Exprs, Form, Item, Limits, Loop, Member, Operator, Shape, Sign, Tree, Unit,
+};
 use std::alloc::{AllocError, Global};
 use std::process::Abort;
 
-/// What a statement of a table says. Each operand is the digits of a constant or a name.
+/// What a statement of a table says. Each operand and each limit is the digits of a constant or a name.
 #[derive(Clone, Copy)]
 pub enum Says {
     /// `name=operand`
@@ -17,9 +19,16 @@ pub enum Says {
     Writes(&'static [u8], &'static [u8], &'static [u8]),
     /// `FORMAT(text)`
     Formats(&'static [u8]),
+    /// `DO 50 variable=first,last,step`, without the step where it is empty, and its range.
+    Does(&'static [u8], Bounds, &'static [Row]),
+    /// `CONTINUE`
+    Goes,
     /// `END`
     Ends,
 }
+
+/// The limits of a DO statement, the step empty where it isn't written.
+pub type Bounds = (&'static [u8], &'static [u8], &'static [u8]);
 
 /// A statement of a table: its line, its label and what it says.
 pub type Row = (u32, Option<u32>, Says);
@@ -35,6 +44,7 @@ fn expression_length(expression: &Expr) -> usize
         Expr::Binary(_, left, right) => expression_length(left)
             .saturating_add(1)
             .saturating_add(expression_length(right)),
+        Expr::Paren(operand) => expression_length(operand).saturating_add(2),
     }
 }
 
@@ -59,6 +69,25 @@ fn unit_length(unit: &Unit) -> usize
     }
 }
 
+// The step with its comma.
+fn step_length(step: &Option<Expr>) -> usize
+    ensures { result ≤ 1320 → length (spell_step (option_map expr_tree step.now)) ≤ result }
+{
+    match step {
+        None => 0,
+        Some(step) => expression_length(step).saturating_add(1),
+    }
+}
+
+fn limits_length(limits: &Limits) -> usize
+    ensures { result ≤ 1320 → length (spell_limits (limits_tree limits.now)) ≤ result }
+{
+    expression_length(&limits.first)
+        .saturating_add(1)
+        .saturating_add(expression_length(&limits.last))
+        .saturating_add(step_length(&limits.step))
+}
+
 fn shape_length(shape: &Shape) -> usize
     ensures { result ≤ 1320 → length (spell (shape_tree shape.now)) ≤ result }
 {
@@ -72,19 +101,35 @@ fn shape_length(shape: &Shape) -> usize
             .saturating_add(label.len())
             .saturating_add(list_length(list)),
         Shape::Format(text) => text.len().saturating_add(8),
+        Shape::Do {
+            label,
+            comma: _,
+            variable,
+            limits,
+        } => label
+            .len()
+            .saturating_add(4)
+            .saturating_add(variable.len())
+            .saturating_add(limits_length(limits)),
+        Shape::Continue => 8,
         Shape::End => 3,
     }
 }
 
 /// A statement in its place.
-pub fn member(rt: &impl Abort, line: u32, label: Option<u32>, shape: Shape) -> Member {
+pub fn item(rt: &impl Abort, line: u32, label: Option<u32>, shape: Shape) -> Item {
     let length = shape_length(&shape);
     assert!(rt; length <= 1320, "a statement is too long");
-    Member {
+    Item {
         line,
         label,
         form: Form { shape },
     }
+}
+
+/// A statement outside the ranges of DO statements.
+pub fn plain(rt: &impl Abort, line: u32, label: Option<u32>, shape: Shape) -> Member {
+    Member::Plain(item(rt, line, label, shape))
 }
 
 /// A constant where a digit comes first, else a variable.
@@ -98,6 +143,10 @@ pub fn operand(alloc: Global, text: &[u8]) -> Result<Expr, AllocError> {
 
 pub fn signed(alloc: Global, sign: Sign, operand: Expr) -> Result<Expr, AllocError> {
     Ok(Expr::Signed(sign, Box::new(alloc, operand)?))
+}
+
+pub fn paren(alloc: Global, operand: Expr) -> Result<Expr, AllocError> {
+    Ok(Expr::Paren(Box::new(alloc, operand)?))
 }
 
 pub fn binary(
@@ -138,6 +187,19 @@ fn unit(alloc: Global, text: &[u8]) -> Result<Unit, AllocError> {
     }
 }
 
+fn limits_of(alloc: Global, limits: Bounds) -> Result<Limits, AllocError> {
+    let (first, last, step) = limits;
+    Ok(Limits {
+        first: operand(alloc, first)?,
+        last: operand(alloc, last)?,
+        step: if step.is_empty() {
+            None
+        } else {
+            Some(operand(alloc, step)?)
+        },
+    })
+}
+
 fn shape(alloc: Global, says: Says) -> Result<Shape, AllocError> {
     match says {
         Says::Sets(name, value) => Ok(Shape::Assignment {
@@ -150,15 +212,36 @@ fn shape(alloc: Global, says: Says) -> Result<Shape, AllocError> {
             list: one(alloc, operand(alloc, item)?)?,
         }),
         Says::Formats(text) => Ok(Shape::Format(Vec::from_slice(alloc, text)?)),
+        Says::Does(variable, limits, _) => Ok(Shape::Do {
+            label: Vec::from_slice(alloc, b"50")?,
+            comma: false,
+            variable: Vec::from_slice(alloc, variable)?,
+            limits: limits_of(alloc, limits)?,
+        }),
+        Says::Goes => Ok(Shape::Continue),
         Says::Ends => Ok(Shape::End),
     }
 }
 
+/// The members of a list of rows.
+fn members(rt: &impl Abort, alloc: Global, rows: &[Row]) -> Result<Vec<Member>, AllocError> {
+    let mut found = Vec::new(alloc);
+    for (line, label, says) in rows {
+        let head = item(rt, *line, *label, shape(alloc, *says)?);
+        match says {
+            Says::Does(_, _, range) => {
+                let range = members(rt, alloc, range)?;
+                found.push(Member::Loop(Loop { head, range }))?;
+            }
+            _ => found.push(Member::Plain(head))?,
+        }
+    }
+    Ok(found)
+}
+
 /// The program unit of a table.
 pub fn tree(rt: &impl Abort, alloc: Global, rows: &[Row]) -> Result<Tree, AllocError> {
-    let mut body = Vec::new(alloc);
-    for (line, label, says) in rows {
-        body.push(member(rt, *line, *label, shape(alloc, *says)?))?;
-    }
-    Ok(Tree { body })
+    Ok(Tree {
+        body: members(rt, alloc, rows)?,
+    })
 }

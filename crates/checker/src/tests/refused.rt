@@ -1,7 +1,7 @@
 // Programs that break a rule.
 
 use super::building::Says::{Ends, Formats, Sets, Writes};
-use super::building::{Row, binary, member, operand, signed, tree};
+use super::building::{Row, binary, operand, plain, signed, tree};
 use crate::check;
 use meaning::refusal::{Refusal, Rule};
 use meaning::syntax::{Expr, Operator, Shape, Sign, Tree};
@@ -176,8 +176,8 @@ fn refused(rt: HostRuntime) -> Result<(), Fail> {
 fn told(rt: &impl Abort, alloc: Global, value: Expr) -> Result<Option<Refusal>, AllocError> {
     let name = Vec::from_slice(alloc, b"I")?;
     let mut body = Vec::new(alloc);
-    body.push(member(rt, 1, None, Shape::Assignment { name, value }))?;
-    body.push(member(rt, 2, None, Shape::End))?;
+    body.push(plain(rt, 1, None, Shape::Assignment { name, value }))?;
+    body.push(plain(rt, 2, None, Shape::End))?;
     Ok(check(alloc, Tree { body }).err())
 }
 

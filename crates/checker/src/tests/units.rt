@@ -1,6 +1,6 @@
 // Units of WRITE statements.
 
-use super::building::{binary, member, of_two, one, operand, signed};
+use super::building::{binary, of_two, one, operand, paren, plain, signed};
 use crate::check;
 use meaning::refusal::{Refusal, Rule};
 use meaning::syntax::{Expr, Operator, Shape, Sign, Tree, Unit};
@@ -17,9 +17,9 @@ fn writing(rt: &impl Abort, alloc: Global, unit: Unit) -> Result<Tree, AllocErro
     };
     let format = Shape::Format(Vec::from_slice(alloc, b"I5")?);
     let mut body = Vec::new(alloc);
-    body.push(member(rt, 4, None, write))?;
-    body.push(member(rt, 5, Some(10), format))?;
-    body.push(member(rt, 6, None, Shape::End))?;
+    body.push(plain(rt, 4, None, write))?;
+    body.push(plain(rt, 5, Some(10), format))?;
+    body.push(plain(rt, 6, None, Shape::End))?;
     Ok(Tree { body })
 }
 
@@ -64,6 +64,7 @@ fn of_value_six(rt: HostRuntime) -> Result<(), Fail> {
         alloc,
         binary(alloc, minus_six, Operator::Add, operand(alloc, b"12")?)?,
     )?;
+    accepts(&rt, alloc, paren(alloc, operand(alloc, b"6")?)?)?;
     let star = writing(&rt, alloc, Unit::Star)?;
     assert_eq!(rt; check(alloc, star).err(), None);
     Ok(())
@@ -103,5 +104,7 @@ fn with_names(rt: HostRuntime) -> Result<(), Fail> {
         alloc,
         signed(alloc, Sign::Minus, operand(alloc, b"J")?)?,
     )?;
+    let sum = of_two(alloc, b"6", Operator::Add, b"I")?;
+    refuses(&rt, alloc, paren(alloc, sum)?)?;
     Ok(())
 }

@@ -9,5 +9,5 @@ use Rattle.checker.proofs.constants.great_constant.Goals as goal
 pub loop-member-preserved : goal.loop-member-preserved
 loop-member-preserved c =
     let m = c.member-item.result in
-    let here = c.broken_if-broken.ensures ∙ ap (λ t. least (broken_if t m.line K6)) c.is_great_at.ensures in
+    let here = c.broken_if-broken.ensures ∙ ap (λ t. least (broken_if t m.now.line K6)) c.has_too_great.ensures in
     least_more great_constants c.args.members.now c.loop-member.member-index m c.loop-member.best c.broken_if-broken.result c.lesser-best.result (omega arith) c.member-item.is c.loop-member.invariant here c.lesser-best.ensures

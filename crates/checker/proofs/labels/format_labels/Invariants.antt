@@ -1,10 +1,10 @@
 use Rattle.std.proofs.Common.{◌≡◌, ◌≤◌, ◌^◌, ℕ, false, map, take}
 use Rattle.std.specs.Ordering.{nat_cmp}
 use Rattle.std.specs.BTreeSet.{contains}
-use Rattle.meaning.specs.Nesting.{member_tree}
+use Rattle.checker.specs.Listed.{tree_at}
 use Rattle.meaning.specs.Rules.{has_format}
 use Rattle.checker.proofs.labels.format_labels.Given as goal
 
 abbrev pub invariant-loop-member : goal.invariant-loop-member
 invariant-loop-member l =
-    ((s : ℕ) → contains nat_cmp l.labels s ≡ has_format (map member_tree (take l.member-index l.members)) s) × ((s : ℕ) → 2 ^ 32 ≤ s → has_format (map member_tree (take l.member-index l.members)) s ≡ false)
+    ((s : ℕ) → contains nat_cmp l.labels s ≡ has_format (map tree_at (take l.member-index l.members)) s) × ((s : ℕ) → 2 ^ 32 ≤ s → has_format (map tree_at (take l.member-index l.members)) s ≡ false)

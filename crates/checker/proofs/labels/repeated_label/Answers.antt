@@ -14,5 +14,5 @@ loop-member-preserved c =
     let m = c.member-item.result in
     let e = c.in_ok-is_repeated.ensures in (
       repeated_more c.args.members.now c.loop-member.member-index m (contains nat_cmp c.loop-member.known) c.in_ok-is_repeated.is_repeated c.loop-member.best c.broken_if-broken.result c.lesser-best.result (omega arith) c.member-item.is c.loop-member.invariant.0 c.loop-member.invariant.1 e.told c.broken_if-broken.ensures c.lesser-best.ensures,
-      λ s. any_more (has_label s) c.args.members.now c.loop-member.member-index m (contains nat_cmp c.loop-member.known s) _ (is_label_at m.label s) (omega arith) c.member-item.is (c.loop-member.invariant.1 s) refl (e.noted s),
+      λ s. any_more (has_label s) c.args.members.now c.loop-member.member-index m (contains nat_cmp c.loop-member.known s) _ (is_label_at m.now.label s) (omega arith) c.member-item.is (c.loop-member.invariant.1 s) refl (e.noted s),
     )

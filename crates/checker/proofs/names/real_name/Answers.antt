@@ -9,5 +9,5 @@ use Rattle.checker.proofs.names.real_name.Goals as goal
 pub loop-member-preserved : goal.loop-member-preserved
 loop-member-preserved c =
     let m = c.member-item.result in
-    let here = c.broken_if-broken.ensures ∙ ap (λ t. least (broken_if t m.line K3)) c.is_real_at.ensures in
+    let here = c.broken_if-broken.ensures ∙ ap (λ t. least (broken_if t m.now.line K3)) c.has_real.ensures in
     least_more real_names c.args.members.now c.loop-member.member-index m c.loop-member.best c.broken_if-broken.result c.lesser-best.result (omega arith) c.member-item.is c.loop-member.invariant here c.lesser-best.ensures

@@ -1,12 +1,12 @@
-use Rattle.std.proofs.Common.{[], map}
-use Rattle.std.specs.Prelude.{flat_map}
-use Rattle.meaning.specs.Nesting.{member_tree}
-use Rattle.meaning.specs.Rules.{repeated_labels, real_names, great_constants, misformed}
-use Rattle.checker.proofs.Passes.{least_four}
+use Rattle.std.proofs.Common.{[], sym, ap, ap₂, ◌∙◌}
+use Rattle.meaning.specs.Refusals.{least, merge}
+use Rattle.meaning.specs.Trees.{nested, flatten}
+use Rattle.meaning.specs.Rules.{broken_items, reset_variables}
+use Rattle.meaning.proofs.Least.{least-append}
 use Rattle.checker.proofs.rules.least_broken.Goals as goal
 
 pub returns : goal.returns
 returns c =
-    let all = map member_tree c.args.members.now in
-    let parts = least_four (repeated_labels [] all) (flat_map real_names all) (flat_map great_constants all) (flat_map (misformed all) all) in
-    cc (c.in_ok-repeated.ensures, c.in_ok-misformed.ensures)
+    let t = nested c.args.tree.now in
+    c.lesser.ensures ∙ ap₂ merge (c.in_ok-broken.ensures ∙ ap (λ ms. least (broken_items ms)) c.requires) c.reset_variable.ensures
+    ∙ sym (least-append (broken_items (flatten t)) (reset_variables [] t.body))

@@ -1,5 +1,6 @@
-use Rattle.nesting.proofs.Units.{reads_as_nests, nests_is_read}
+use Rattle.nesting.proofs.Read.{read_nests}
+use Rattle.nesting.proofs.Complete.{nests_read}
 use Rattle.nesting.proofs.laws.nests_exactly.Goals as goal
 
 pub returns : goal.returns
-returns c = λ members t. (reads_as_nests members t, nests_is_read members t)
+returns c = λ items t. (read_nests items t, nests_read items t)

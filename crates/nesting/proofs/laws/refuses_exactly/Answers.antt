@@ -1,5 +1,5 @@
-use Rattle.nesting.proofs.Refused.{refused_is, refused_again}
+use Rattle.nesting.proofs.Refused.{refused_of, refused_is}
 use Rattle.nesting.proofs.laws.refuses_exactly.Goals as goal
 
 pub returns : goal.returns
-returns c = λ members b. (refused_is members b, refused_again members b)
+returns c = λ items b. (refused_of items b, refused_is items b)

@@ -5,6 +5,6 @@ use Rattle.parser.proofs.scan.has_equals_sign.Given as goal
 
 abbrev pub invariant-loop-c : goal.invariant-loop-c
 invariant-loop-c l = record {
-  low : l.depth ≤ l.c-index;
-  same : list_any (λ c. eqb c 61) (marks_at l.depth l.inside (drop l.c-index l.text)) ≡ has_equals l.text;
+  low : l.place.depth ≤ l.c-index;
+  same : list_any (λ c. eqb c 61) (marks_at l.place.depth l.place.inside (drop l.c-index l.text)) ≡ has_equals l.text;
 }

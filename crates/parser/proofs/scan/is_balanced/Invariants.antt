@@ -4,6 +4,6 @@ use Rattle.parser.proofs.scan.is_balanced.Given as goal
 
 abbrev pub invariant-loop-c : goal.invariant-loop-c
 invariant-loop-c l = record {
-  low : l.depth ≤ l.c-index;
-  same : balanced l.depth l.inside (drop l.c-index l.text) ≡ balanced 0 false l.text;
+  low : l.place.depth ≤ l.c-index;
+  same : balanced l.place.depth l.place.inside (drop l.c-index l.text) ≡ balanced 0 false l.text;
 }

@@ -1,0 +1,241 @@
+-- Turns: no more are used than are given, and a run that didn't meet the limit is the same with more of them.
+use Rattle.std.proofs.Common.{◌≡◌, ℕ, zero, suc, ℤ, ◌+◌, ◌-◌, ◌+ℤ◌, ◌≤◌, false, List, [], ◌∷◌, ◌++◌, Result, Ok, Err, refl, sym, ap, ◌∙◌, arith}
+use mathlib.Core.Path.{fun_ext}
+use Rattle.meaning.specs.declared.ending.FaultKind.{FaultKind}
+use Rattle.meaning.specs.declared.ending.Value.{Value}
+use Rattle.meaning.specs.Characters.{number_of}
+use Rattle.meaning.specs.Syntax.{ShapeTree, assignment, writing, format, doing, continuing, ending, ItemTree}
+use Rattle.meaning.specs.Trees.{Members, none, plain, loop}
+use Rattle.meaning.specs.Trips.{span_of, trips}
+use Rattle.meaning.specs.Maps.{Map, put}
+use Rattle.meaning.specs.Values.{value, values_of, as_integer, integer}
+use Rattle.meaning.specs.Records.{edited}
+use Rattle.meaning.specs.Execution.{Outcome, normal, fault, Ran, more, ended, turn, with_ok, format_at, Meaning, Follow, goes_on, goes_on_by, step, added, fold_trips, trips_from, looped, pass_over, fuelled, exec}
+use Rattle.meaning.specs.Turns.{met_limit}
+use Rattle.meaning.proofs.Running.{more-more, more-none, exec-fuelled}
+
+-- ---- what is used
+
+-- what follows uses no more than it is given
+abbrev pub Spares : Follow → Type 0
+Spares go = (n : Map) (u : ℕ) → (go n u).used ≤ u
+
+abbrev pub SparesAll : Meaning → Type 0
+SparesAll f = (all rest : Members) (m : Map) (t : ℕ) → (f all rest m t).used ≤ t
+
+more-used : (ps : List (List ℕ)) (n : ℕ) (r : Ran) (t : ℕ) → n + r.used ≤ t → (more ps n r).used ≤ t
+unfolding more
+more-used ps n r t h = h
+
+goes_on_by-used : (o : Outcome) (r : Ran) (t : ℕ) (go : Follow) → r.used ≤ t → Spares go → (goes_on_by o r t go).used ≤ t
+goes_on_by-used normal r t go le spares =
+    more-used r.pieces r.used (go r.map (t - r.used)) t (let h = spares r.map (t - r.used) in omega arith)
+goes_on_by-used (fault k line) r t go le spares = le
+
+goes_on-used : (r : Ran) (t : ℕ) (go : Follow) → r.used ≤ t → Spares go → (goes_on r t go).used ≤ t
+unfolding goes_on
+goes_on-used r t go le spares = goes_on_by-used r.outcome r t go le spares
+
+with_ok-used : {A : Type 0} (r : Result A FaultKind) (line : ℕ) (m : Map) (t : ℕ) (go : A → Ran) → ((x : A) → (go x).used ≤ t) → (with_ok r line m go).used ≤ t
+unfolding with_ok
+with_ok-used (Ok x) line m t go h = h x
+with_ok-used (Err k) line m t go h = omega arith
+
+turn-used : (line : ℕ) (m : Map) (t : ℕ) (go : ℕ → Ran) → ((u : ℕ) → (go u).used ≤ u) → (turn line m t go).used ≤ t
+unfolding turn
+turn-used line m zero go h = omega arith
+turn-used line m (suc t) go h = more-used [] 1 (go t) (suc t) (let k = h t in omega arith)
+
+module _ (program : List ItemTree) where
+  step-used : (s : ShapeTree) (line : ℕ) (m : Map) (t : ℕ) (go : Follow) → Spares go → (step program s line m t go).used ≤ t
+  step-used (assignment target e) line m t go h =
+      turn-used line m t (λ u. with_ok (value e m) line m (λ v. go (put m target [] (as_integer v)) u)) (λ u. with_ok-used (value e m) line m u (λ v. go (put m target [] (as_integer v)) u) (λ v. h (put m target [] (as_integer v)) u))
+  step-used (writing unit label es) line m t go h =
+      let records : List Value → Result (List ℕ) FaultKind = λ vs. edited (format_at program (number_of label)) vs in
+      turn-used line m t (λ u. with_ok (values_of es m) line m (λ vs. with_ok (records vs) line m (λ r. more (r ∷ []) 0 (go m u)))) (λ u. with_ok-used (values_of es m) line m u (λ vs. with_ok (records vs) line m (λ r. more (r ∷ []) 0 (go m u))) (λ vs. with_ok-used (records vs) line m u (λ r. more (r ∷ []) 0 (go m u)) (λ r. more-used (r ∷ []) 0 (go m u) u (let k = h m u in omega arith))))
+  step-used (format text) line m t go h = h m t
+  step-used (doing label comma variable limits) line m t go h = h m t
+  step-used continuing line m t go h = turn-used line m t (λ u. go m u) (λ u. h m u)
+  step-used ending line m t go h = h m t
+
+fold_trips-used : (f : Meaning) (line : ℕ) (variable : List ℕ) (by : ℤ) (range : Members) → SparesAll f → (is : List ℤ) (m : Map) (t : ℕ) → (fold_trips f line variable by range is m t).used ≤ t
+unfolding fold_trips
+fold_trips-used f line variable by range all_spared [] m t = omega arith
+fold_trips-used f line variable by range all_spared (i ∷ is) m t =
+    goes_on-used (f range range m t) t (λ n u. added line variable by n (λ k. fold_trips f line variable by range is k u)) (all_spared range range m t) (λ n u. with_ok-used (integer (n variable [] +ℤ by)) line n u (λ v. fold_trips f line variable by range is (put n variable [] (as_integer v)) u) (λ v. fold_trips-used f line variable by range all_spared is (put n variable [] (as_integer v)) u))
+
+looped-used : (f : Meaning) → SparesAll f → (s : ShapeTree) (line : ℕ) (range : Members) (m : Map) (t : ℕ) (go : Follow) → Spares go → (looped f s line range m t go).used ≤ t
+unfolding looped
+looped-used f all_spared (doing label comma variable limits) line range m t go h =
+    turn-used line m t (λ u. with_ok (span_of limits m) line m (λ s. goes_on (trips_from f line variable range m u s) u go)) (λ u. with_ok-used (span_of limits m) line m u (λ s. goes_on (trips_from f line variable range m u s) u go) (λ s. goes_on-used (trips_from f line variable range m u s) u go (fold_trips-used f line variable s.step range all_spared (trips s.first s.last s.step) (put m variable [] s.first) u) h))
+looped-used f all_spared (assignment target e) line range m t go h = h m t
+looped-used f all_spared (writing unit label es) line range m t go h = h m t
+looped-used f all_spared (format text) line range m t go h = h m t
+looped-used f all_spared continuing line range m t go h = h m t
+looped-used f all_spared ending line range m t go h = h m t
+
+pass_over-used : (program : List ItemTree) (f : Meaning) → SparesAll f → (all rest : Members) (m : Map) (t : ℕ) → (pass_over program f all rest m t).used ≤ t
+unfolding pass_over
+pass_over-used program f all_spared all none m t = omega arith
+pass_over-used program f all_spared all (plain x ms) m t =
+    step-used program x.shape x.line m t (λ n u. pass_over program f all ms n u) (λ n u. pass_over-used program f all_spared all ms n u)
+pass_over-used program f all_spared all (loop x range ms) m t =
+    looped-used f all_spared x.shape x.line range m t (λ n u. pass_over program f all ms n u) (λ n u. pass_over-used program f all_spared all ms n u)
+
+fuelled-used : (program : List ItemTree) (n : ℕ) → SparesAll (fuelled program n)
+unfolding fuelled
+fuelled-used program zero all rest m t = omega arith
+fuelled-used program (suc n) all rest m t = pass_over-used program (fuelled program n) (fuelled-used program n) all rest m t
+
+pub exec-used : (program : List ItemTree) (all rest : Members) (m : Map) (t : ℕ) → (exec program all rest m t).used ≤ t
+unfolding exec
+exec-used program all rest m t = fuelled-used program (suc t) all rest m t
+
+-- ---- more turns
+
+-- a way to go on that is the same with more turns, where it doesn't meet the limit
+abbrev pub Steady : (ℕ → Ran) → Type 0
+Steady go = (t u : ℕ) → t ≤ u → met_limit (go t).outcome ≡ false → go u ≡ go t
+
+abbrev pub SteadyFollow : Follow → Type 0
+SteadyFollow go = (n : Map) → Steady (λ t. go n t)
+
+abbrev pub SteadyMeaning : Meaning → Type 0
+SteadyMeaning f = (all rest : Members) (m : Map) → Steady (λ t. f all rest m t)
+
+more-outcome : (ps : List (List ℕ)) (n : ℕ) (r : Ran) → (more ps n r).outcome ≡ r.outcome
+unfolding more
+more-outcome ps n r = refl
+
+more-steady : (ps : List (List ℕ)) (n : ℕ) (go : ℕ → Ran) → Steady go → Steady (λ t. more ps n (go t))
+more-steady ps n go steady t u le h =
+    ap (λ r. more ps n r) (steady t u le (sym (ap met_limit (more-outcome ps n (go t))) ∙ h))
+
+turn-steady : (line : ℕ) (m : Map) (go : ℕ → Ran) → Steady go → Steady (λ t. turn line m t go)
+unfolding turn
+turn-steady line m go steady zero u le h = absurd cc
+turn-steady line m go steady (suc t) zero le h = absurd (omega arith)
+turn-steady line m go steady (suc t) (suc u) le h = more-steady [] 1 go steady t u (omega arith) h
+
+with_ok-steady : {A : Type 0} (r : Result A FaultKind) (line : ℕ) (m : Map) (go : A → ℕ → Ran) → ((x : A) → Steady (go x)) → Steady (λ t. with_ok r line m (λ x. go x t))
+unfolding with_ok
+with_ok-steady (Ok x) line m go steady t u le h = steady x t u le h
+with_ok-steady (Err k) line m go steady t u le h = refl
+
+goes_on_by-steady : (o : Outcome) (r : Ran) (go : Follow) → SteadyFollow go → Steady (λ t. goes_on_by o r t go)
+goes_on_by-steady normal r go steady t u le h =
+    more-steady r.pieces r.used (λ k. go r.map k) (steady r.map) (t - r.used) (u - r.used) (omega arith) h
+goes_on_by-steady (fault k line) r go steady t u le h = refl
+
+goes_on-steady : (r : Ran) (go : Follow) → SteadyFollow go → Steady (λ t. goes_on r t go)
+unfolding goes_on
+goes_on-steady r go steady t u le h = goes_on_by-steady r.outcome r go steady t u le h
+
+-- what goes on behind a run that met the limit has met it
+goes_on_by-limit : (o : Outcome) (r : Ran) (t : ℕ) (go : Follow) → r.outcome ≡ o → met_limit (goes_on_by o r t go).outcome ≡ false → met_limit o ≡ false
+goes_on_by-limit normal r t go e h = refl
+goes_on_by-limit (fault k line) r t go e h = ap met_limit (sym e) ∙ h
+
+goes_on-limit : (r : Ran) (t : ℕ) (go : Follow) → met_limit (goes_on r t go).outcome ≡ false → met_limit r.outcome ≡ false
+unfolding goes_on
+goes_on-limit r t go h = goes_on_by-limit r.outcome r t go refl h
+
+-- a run and then what follows, each the same with more turns
+run_on-steady : (run : ℕ → Ran) (go : Follow) → Steady run → SteadyFollow go → Steady (λ t. goes_on (run t) t go)
+run_on-steady run go steady follow t u le h =
+    ap (λ r. goes_on r u go) (steady t u le (goes_on-limit (run t) t go h)) ∙ goes_on-steady (run t) go follow t u le h
+
+module _ (program : List ItemTree) where
+  step-steady : (s : ShapeTree) (line : ℕ) (m : Map) (go : Follow) → SteadyFollow go → Steady (λ t. step program s line m t go)
+  step-steady (assignment target e) line m go h =
+      turn-steady line m (λ u. with_ok (value e m) line m (λ v. go (put m target [] (as_integer v)) u)) (with_ok-steady (value e m) line m (λ v u. go (put m target [] (as_integer v)) u) (λ v. h (put m target [] (as_integer v))))
+  step-steady (writing unit label es) line m go h =
+      let records : List Value → Result (List ℕ) FaultKind = λ vs. edited (format_at program (number_of label)) vs in
+      turn-steady line m (λ u. with_ok (values_of es m) line m (λ vs. with_ok (records vs) line m (λ r. more (r ∷ []) 0 (go m u)))) (with_ok-steady (values_of es m) line m (λ vs u. with_ok (records vs) line m (λ r. more (r ∷ []) 0 (go m u))) (λ vs. with_ok-steady (records vs) line m (λ r u. more (r ∷ []) 0 (go m u)) (λ r. more-steady (r ∷ []) 0 (λ u. go m u) (h m))))
+  step-steady (format text) line m go h = h m
+  step-steady (doing label comma variable limits) line m go h = h m
+  step-steady continuing line m go h = turn-steady line m (λ u. go m u) (h m)
+  step-steady ending line m go h = h m
+
+fold_trips-steady : (f : Meaning) (line : ℕ) (variable : List ℕ) (by : ℤ) (range : Members) → SteadyMeaning f → (is : List ℤ) (m : Map) → Steady (λ t. fold_trips f line variable by range is m t)
+unfolding fold_trips
+fold_trips-steady f line variable by range steady [] m t u le h = refl
+fold_trips-steady f line variable by range steady (i ∷ is) m t u le h =
+    run_on-steady (λ t. f range range m t) (λ n u. added line variable by n (λ k. fold_trips f line variable by range is k u)) (steady range range m) (λ n. with_ok-steady (integer (n variable [] +ℤ by)) line n (λ v u. fold_trips f line variable by range is (put n variable [] (as_integer v)) u) (λ v. fold_trips-steady f line variable by range steady is (put n variable [] (as_integer v)))) t u le h
+
+looped-steady : (f : Meaning) → SteadyMeaning f → (s : ShapeTree) (line : ℕ) (range : Members) (m : Map) (go : Follow) → SteadyFollow go → Steady (λ t. looped f s line range m t go)
+unfolding looped
+looped-steady f steady (doing label comma variable limits) line range m go h =
+    turn-steady line m (λ u. with_ok (span_of limits m) line m (λ s. goes_on (trips_from f line variable range m u s) u go)) (with_ok-steady (span_of limits m) line m (λ s u. goes_on (trips_from f line variable range m u s) u go) (λ s. run_on-steady (λ u. trips_from f line variable range m u s) go (fold_trips-steady f line variable s.step range steady (trips s.first s.last s.step) (put m variable [] s.first)) h))
+looped-steady f steady (assignment target e) line range m go h = h m
+looped-steady f steady (writing unit label es) line range m go h = h m
+looped-steady f steady (format text) line range m go h = h m
+looped-steady f steady continuing line range m go h = h m
+looped-steady f steady ending line range m go h = h m
+
+pass_over-steady : (program : List ItemTree) (f : Meaning) → SteadyMeaning f → SteadyMeaning (pass_over program f)
+unfolding pass_over
+pass_over-steady program f steady all none m t u le h = refl
+pass_over-steady program f steady all (plain x ms) m t u le h =
+    step-steady program x.shape x.line m (λ n u. pass_over program f all ms n u) (λ n. pass_over-steady program f steady all ms n) t u le h
+pass_over-steady program f steady all (loop x range ms) m t u le h =
+    looped-steady f steady x.shape x.line range m (λ n u. pass_over program f all ms n u) (λ n. pass_over-steady program f steady all ms n) t u le h
+
+fuelled-steady : (program : List ItemTree) (n : ℕ) → SteadyMeaning (fuelled program n)
+unfolding fuelled
+fuelled-steady program zero all rest m t u le h = refl
+fuelled-steady program (suc n) all rest m t u le h = pass_over-steady program (fuelled program n) (fuelled-steady program n) all rest m t u le h
+
+module _ (program : List ItemTree) (all rest : Members) (m : Map) where
+  -- both runs with the greater fuel
+  pub exec-steady : (t u : ℕ) → t ≤ u → met_limit (exec program all rest m t).outcome ≡ false → exec program all rest m u ≡ exec program all rest m t
+  unfolding exec
+  exec-steady t u le h =
+      let e = exec-fuelled program (suc u) all rest m t (omega arith) in
+      fuelled-steady program (suc u) all rest m t u le (ap (λ (r : Ran). met_limit r.outcome) e ∙ h) ∙ e
+
+-- ---- trips one after another
+
+sub-add : (t a b : ℕ) → t - (a + b) ≡ (t - a) - b
+sub-add t a b = omega arith
+
+goes_on_by-more : (o : Outcome) (ps : List (List ℕ)) (n : ℕ) (r : Ran) (t : ℕ) (go : Follow) → goes_on_by o (more ps n r) t go ≡ more ps n (goes_on_by o r (t - n) go)
+unfolding more
+goes_on_by-more normal ps n r t go =
+    ap (λ u. more (ps ++ r.pieces) (n + r.used) (go r.map u)) (sub-add t n r.used) ∙ sym (more-more ps r.pieces n r.used (go r.map ((t - n) - r.used)))
+goes_on_by-more (fault k line) ps n r t go = refl
+
+goes_on-more : (ps : List (List ℕ)) (n : ℕ) (r : Ran) (t : ℕ) (go : Follow) → goes_on (more ps n r) t go ≡ more ps n (goes_on r (t - n) go)
+unfolding goes_on
+goes_on-more ps n r t go = ap (λ o. goes_on_by o (more ps n r) t go) (more-outcome ps n r) ∙ goes_on_by-more r.outcome ps n r t go
+
+goes_on_by-goes_on : (o : Outcome) (r : Ran) (t : ℕ) (go on : Follow) → r.outcome ≡ o → goes_on (goes_on_by o r t go) t on ≡ goes_on_by o r t (λ n u. goes_on (go n u) u on)
+unfolding goes_on
+goes_on_by-goes_on normal r t go on e = goes_on-more r.pieces r.used (go r.map (t - r.used)) t on
+goes_on_by-goes_on (fault k line) r t go on e = ap (λ o. goes_on_by o r t on) e
+
+goes_on-goes_on : (r : Ran) (t : ℕ) (go on : Follow) → goes_on (goes_on r t go) t on ≡ goes_on r t (λ n u. goes_on (go n u) u on)
+unfolding goes_on
+goes_on-goes_on r t go on = goes_on_by-goes_on r.outcome r t go on refl
+
+with_ok-goes_on : {A : Type 0} (r : Result A FaultKind) (line : ℕ) (m : Map) (t : ℕ) (go : A → Ran) (on : Follow) → goes_on (with_ok r line m go) t on ≡ with_ok r line m (λ x. goes_on (go x) t on)
+unfolding with_ok goes_on
+with_ok-goes_on (Ok x) line m t go on = refl
+with_ok-goes_on (Err k) line m t go on = refl
+
+goes_on-ended : (m : Map) (t : ℕ) (go : Follow) → go m t ≡ goes_on (ended m) t go
+unfolding goes_on
+goes_on-ended m t go = more-none (go m t) ∙ ap (λ u. more [] 0 (go m u)) (less-none t)
+  where
+    less-none : (t : ℕ) → t ≡ t - 0
+    less-none t = omega arith
+
+module _ (f : Meaning) (line : ℕ) (variable : List ℕ) (by : ℤ) (range : Members) (js : List ℤ) where
+  abbrev then_others : Follow
+  then_others n u = fold_trips f line variable by range js n u
+
+  pub fold_trips-append : (is : List ℤ) (m : Map) (t : ℕ) → fold_trips f line variable by range (is ++ js) m t ≡ goes_on (fold_trips f line variable by range is m t) t then_others
+  unfolding fold_trips
+  fold_trips-append [] m t = goes_on-ended m t then_others
+  fold_trips-append (i ∷ is) m t =
+      ap (λ go. goes_on (f range range m t) t go) (fun_ext (λ n. fun_ext (λ u. ap (λ go. with_ok (integer (n variable [] +ℤ by)) line n go) (fun_ext (λ v. fold_trips-append is (put n variable [] (as_integer v)) u)) ∙ sym (with_ok-goes_on (integer (n variable [] +ℤ by)) line n u (λ v. fold_trips f line variable by range is (put n variable [] (as_integer v)) u) then_others)))) ∙ sym (goes_on-goes_on (f range range m t) t (λ n u. added line variable by n (λ k. fold_trips f line variable by range is k u)) then_others)

@@ -1,0 +1,37 @@
+//! Laws of execution and of cells (ANSI X3.9-1978, chapters 5 and 10 to 12), for those who build on their parts.
+
+ghost use Rattle.std.specs.Prelude.{List};
+ghost use Rattle.meaning.specs.Arrays.{Dimension, Named, AreOneToOne, HaveOwnCells};
+ghost use Rattle.meaning.specs.Turns.{IsItsPass, UsesWhatIsGiven, MoreTurnsChangeNothing, TripsSplit};
+
+/// Executing a list of statements is one pass over it, in which each range is executed likewise.
+pub fn execution_is_its_pass()
+    ensures { IsItsPass }
+{}
+
+/// A run uses no more turns than it is given.
+pub fn turns_used_are_given()
+    ensures { UsesWhatIsGiven }
+{}
+
+/// A run that didn't meet the turn limit is the same with more turns: its outcome, what it leaves, what it writes and
+/// the turns that it uses.
+pub fn more_turns_change_nothing()
+    ensures { MoreTurnsChangeNothing }
+{}
+
+/// The trips of two lists, one after another, are the trips of the first and then, after a normal end, those of the
+/// second with what the first left.
+pub fn trips_split()
+    ensures { TripsSplit }
+{}
+
+/// Each element of an array has a place of its own, below their number, and each such place has an element.
+pub fn elements_have_places()
+    ensures { (dimensions : List Dimension) → AreOneToOne dimensions }
+{}
+
+/// Each variable and each array element has a cell of its own, below the number of cells.
+pub fn cells_are_own()
+    ensures { (names : List Named) → HaveOwnCells names }
+{}

@@ -1,0 +1,69 @@
+-- What it says that a statement breaks no rule behind others.
+use Rattle.std.proofs.Common.{◌≡◌, ℕ, Bool, true, false, List, length, Option, Some, None, refl, leb}
+use Rattle.std.specs.Prelude.{◌&&◌, ◌||◌, not, if◌then◌else◌}
+use Rattle.meaning.specs.declared.refusal.Rule.{Rule}
+use Rattle.meaning.specs.declared.refusal.Rule.TheVariants.{N2, N4, N5}
+use Rattle.meaning.specs.Syntax.{ItemTree}
+use Rattle.meaning.specs.Nesting.{Unfinished, labels, is_ended, is_named, is_hidden, is_end, named, may_end, is_crossing, is_too_deep, breaks}
+use Rattle.nesting.proofs.Names.{or_left, or_right}
+
+-- a statement with its label could end a range there
+pub record MayClose (names : List ℕ) (x : ItemTree) : Type 0 where
+  pub unhidden : is_hidden x.label names ≡ false
+  pub terminal : (is_named x.label names && not (may_end x.shape)) ≡ false
+
+pub record IsClear (z : Unfinished) (x : ItemTree) : Type 0 where
+  pub goes_on : is_ended z ≡ false
+  pub closes : MayClose (labels z) x
+  pub uncrossed : is_hidden (named x.shape) (labels z) ≡ false
+  pub outside : (is_end x.shape && leb 1 (length (labels z))) ≡ false
+  pub shallow : is_too_deep (labels z) x ≡ false
+
+abbrev told : Bool → Bool → Bool → Option Rule
+told a b c = if a then Some N2 else (if b then Some N4 else (if c then Some N5 else None))
+
+told_ended : (a b c : Bool) → told a b c ≡ None → a ≡ false
+told_ended true b c h = absurd cc
+told_ended false b c h = refl
+
+told_crossing : (a b c : Bool) → told a b c ≡ None → b ≡ false
+told_crossing true b c h = absurd cc
+told_crossing false true c h = absurd cc
+told_crossing false false c h = refl
+
+told_deep : (a b c : Bool) → told a b c ≡ None → c ≡ false
+told_deep true b c h = absurd cc
+told_deep false true c h = absurd cc
+told_deep false false true h = absurd cc
+told_deep false false false h = refl
+
+told_none : (a b c : Bool) → a ≡ false → b ≡ false → c ≡ false → told a b c ≡ None
+told_none a b c e f g = rw (e, f, g) refl
+
+pub clear_of : (z : Unfinished) (x : ItemTree) → breaks z x ≡ None → IsClear z x
+unfolding breaks
+clear_of z x h =
+    let names = labels z in
+    let a = is_hidden x.label names in
+    let b = is_named x.label names && not (may_end x.shape) in
+    let c = is_hidden (named x.shape) names in
+    let d = is_end x.shape && leb 1 (length names) in
+    let crossing : (a || (b || (c || d))) ≡ false = told_crossing (is_ended z) (is_crossing names x) (is_too_deep names x) h in
+    record {
+      goes_on = told_ended (is_ended z) (is_crossing names x) (is_too_deep names x) h;
+      closes = record { unhidden = or_left a (b || (c || d)) crossing; terminal = or_left b (c || d) (or_right a (b || (c || d)) crossing) };
+      uncrossed = or_left c d (or_right b (c || d) (or_right a (b || (c || d)) crossing));
+      outside = or_right c d (or_right b (c || d) (or_right a (b || (c || d)) crossing));
+      shallow = told_deep (is_ended z) (is_crossing names x) (is_too_deep names x) h;
+    }
+
+or_false : (a b c d : Bool) → a ≡ false → b ≡ false → c ≡ false → d ≡ false → (a || (b || (c || d))) ≡ false
+or_false a b c d e f g h = rw (e, f, g, h) refl
+
+pub clear_is : (z : Unfinished) (x : ItemTree) → IsClear z x → breaks z x ≡ None
+unfolding breaks
+clear_is z x k =
+    let names = labels z in
+    told_none (is_ended z) (is_crossing names x) (is_too_deep names x) k.goes_on
+    (or_false (is_hidden x.label names) (is_named x.label names && not (may_end x.shape)) (is_hidden (named x.shape) names) (is_end x.shape && leb 1 (length names)) k.closes.unhidden k.closes.terminal k.uncrossed k.outside)
+    k.shallow

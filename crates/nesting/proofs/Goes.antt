@@ -1,0 +1,69 @@
+-- Statements that break no rule one behind the other, and what is open behind them.
+use Rattle.std.proofs.Common.{◌≡◌, ℕ, false, List, [], ◌∷◌, ◌++◌, Option, None, refl, ap, ◌∙◌}
+use Rattle.meaning.specs.Rules.{is_label_at}
+use Rattle.meaning.specs.Syntax.{ItemTree}
+use Rattle.meaning.specs.Trees.{Members, none}
+use Rattle.meaning.specs.Nesting.{Unfinished, ended, body, range, labels, is_ended, is_named, joined, add, past, behind, breaks, told_first, first_broken}
+use Rattle.nesting.proofs.Joined.{joined_none, joined_joined}
+use Rattle.nesting.proofs.Names.{or_left}
+use Rattle.nesting.proofs.Sound.{add_longer}
+use Rattle.nesting.proofs.Passed.{unbroken_parts}
+
+pub record Goes (z : Unfinished) (xs : List ItemTree) (y : Unfinished) : Type 0 where
+  pub unbroken : first_broken z xs ≡ None
+  pub reached : behind z xs ≡ y
+
+pub goes_first : (z : Unfinished) (x : ItemTree) (xs : List ItemTree) → breaks z x ≡ None → first_broken z (x ∷ xs) ≡ first_broken (past z x) xs
+goes_first z x xs h = ap (λ o. told_first x o (first_broken (past z x) xs)) h
+
+pub goes_one : (z : Unfinished) (x : ItemTree) (y : Unfinished) → breaks z x ≡ None → past z x ≡ y → Goes z (x ∷ []) y
+goes_one z x y h e = record { unbroken = goes_first z x [] h; reached = e }
+
+pub broken_append : (z : Unfinished) (xs ys : List ItemTree) → first_broken z xs ≡ None → first_broken z (xs ++ ys) ≡ first_broken (behind z xs) ys
+broken_append z [] ys h = refl
+broken_append z (x ∷ xs) ys h =
+    let p = unbroken_parts z x xs h in
+    goes_first z x (xs ++ ys) p.0 ∙ broken_append (past z x) xs ys p.1
+
+pub behind_append : (z : Unfinished) (xs ys : List ItemTree) → behind z (xs ++ ys) ≡ behind (behind z xs) ys
+behind_append z [] ys = refl
+behind_append z (x ∷ xs) ys = behind_append (past z x) xs ys
+
+pub goes_both : (z : Unfinished) (xs ys : List ItemTree) (y w : Unfinished) → Goes z xs y → Goes y ys w → Goes z (xs ++ ys) w
+goes_both z xs ys y w g h = record {
+  unbroken = broken_append z xs ys g.unbroken ∙ ap (λ u. first_broken u ys) g.reached ∙ h.unbroken;
+  reached = behind_append z xs ys ∙ ap (λ u. behind u ys) g.reached ∙ h.reached;
+}
+
+pub front_unbroken : (z : Unfinished) (xs ys : List ItemTree) → first_broken z (xs ++ ys) ≡ None → first_broken z xs ≡ None
+front_unbroken z [] ys h = refl
+front_unbroken z (x ∷ xs) ys h =
+    let p = unbroken_parts z x (xs ++ ys) h in
+    goes_first z x xs p.0 ∙ front_unbroken (past z x) xs ys p.1
+
+-- ---- a member whose last label no open DO statement names
+
+pub add_fresh : (z : Unfinished) (l : Option ℕ) (more : Members) → is_named l (labels z) ≡ false → add l more z ≡ add None more z
+add_fresh (ended ms) l more h = refl
+add_fresh (body ms) l more h = refl
+add_fresh (range head s ms around) l more h = add_longer l more head s ms around (or_left (is_label_at l s) (is_named l (labels around)) h)
+
+pub add_labels : (z : Unfinished) (more : Members) → labels (add None more z) ≡ labels z
+add_labels (ended ms) more = refl
+add_labels (body ms) more = refl
+add_labels (range head s ms around) more = refl
+
+pub add_goes_on : (z : Unfinished) (more : Members) → is_ended (add None more z) ≡ is_ended z
+add_goes_on (ended ms) more = refl
+add_goes_on (body ms) more = refl
+add_goes_on (range head s ms around) more = refl
+
+pub add_nothing : (z : Unfinished) → add None none z ≡ z
+add_nothing (ended ms) = ap (λ (m : Members). ended m) (joined_none ms)
+add_nothing (body ms) = ap (λ (m : Members). body m) (joined_none ms)
+add_nothing (range head s ms around) = ap (λ (m : Members). range head s m around) (joined_none ms)
+
+pub add_add : (z : Unfinished) (l : Option ℕ) (a b : Members) → add l b (add None a z) ≡ add l (joined a b) z
+add_add (ended ms) l a b = ap (λ (m : Members). ended m) (joined_joined ms a b)
+add_add (body ms) l a b = ap (λ (m : Members). body m) (joined_joined ms a b)
+add_add (range head s ms around) l a b = rw (joined_joined ms a b) refl
