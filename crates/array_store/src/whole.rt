@@ -36,7 +36,7 @@ impl Whole {
         requires { cell.0 < length self.now }
         ensures { slice_get self.now cell.0 ≡ Some result }
     {
-        self.cells[cell.0 as usize]
+        self.cells[cell.0]
     }
 
     /// Writes a value to a cell. It takes no memory, and is never refused.
@@ -44,7 +44,7 @@ impl Whole {
         requires { cell.0 < length self.old }
         ensures { self.new ≡ slice_set self.old cell.0 value }
     {
-        self.cells[cell.0 as usize] = value;
+        self.cells[cell.0] = value;
     }
 
     /// The values, in the order of the cells' numbers.

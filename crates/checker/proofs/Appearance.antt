@@ -2,7 +2,7 @@
 use Rattle.std.proofs.Common.{◌≡◌, ℕ, ◌+◌, ◌<◌, Bool, true, false, ◌||◌, List, [], ◌∷◌, ◌++◌, length, get_or, take, map, refl, sym, ap, ◌∙◌, subst}
 use Rattle.std.specs.Borrow.{Bor}
 use Rattle.std.specs.Global.{Vec}
-use Rattle.std.specs.Prelude.{if◌then◌else◌}
+use Rattle.std.specs.Prelude.{flat_map, if◌then◌else◌}
 use Rattle.std.specs.Str.{bytes_eq}
 use Rattle.std.specs.List.{list_any, AllByRecursion}
 use Rattle.std.proofs.lemmas.Slice.Eq.{bytes_eq-Decides}
@@ -10,12 +10,16 @@ use Rattle.std.proofs.lemmas.List.{map-append, append-nil}
 use Rattle.std.proofs.lemmas.List.Sums.{fold-append}
 use Rattle.std.proofs.lemmas.Grind.{flat_map-append}
 use Rattle.meaning.specs.declared.syntax.Item.{Item}
-use Rattle.meaning.specs.Syntax.{ItemTree}
-use Rattle.meaning.specs.Rules.{names_of}
+use Rattle.meaning.specs.Syntax.{listed, ExprsTree, no_exprs, exprs, ItemTree}
 use Rattle.checker.specs.Listed.{tree_at}
-use Rattle.checker.specs.Numbered.{HoldsAll, Numbers, texts, with_name, with_names, variables}
+use Rattle.checker.specs.Numbered.{names_in, names_in_all, names_of, HoldsAll, Numbers, texts, with_name, with_names, variables}
 use Rattle.checker.proofs.Parts.{any_append}
 use Rattle.checker.proofs.Passes.{trees_more}
+
+-- the names in a list of expressions
+pub names_listed : (es : ExprsTree) → names_in_all es ≡ flat_map names_in (listed es)
+names_listed no_exprs = refl
+names_listed (exprs e es) = ap (λ names. names_in e ++ names) (names_listed es)
 
 -- names behind those that are there, in two parts
 pub with_names_append : (names a b : List (List ℕ)) → with_names names (a ++ b) ≡ with_names (with_names names a) b
@@ -38,7 +42,7 @@ variables_more ms i m before after lt is so_far added =
 -- ---- a set of names
 
 -- whether a name is there, by the keys and by their texts
-texts_any : (n : List ℕ) (keys : List (Vec ℕ)) → list_any (λ k. bytes_eq n k.items) keys ≡ list_any (bytes_eq n) (texts keys)
+pub texts_any : (n : List ℕ) (keys : List (Vec ℕ)) → list_any (λ k. bytes_eq n k.items) keys ≡ list_any (bytes_eq n) (texts keys)
 texts_any n [] = refl
 texts_any n (k ∷ ks) = ap (λ b. bytes_eq n k.items || b) (texts_any n ks)
 

@@ -2,7 +2,15 @@ pub mod Parts
 pub mod Passes
 pub mod Flattened
 pub mod Reset
-pub mod Tested
 pub mod Appearance
+pub mod Gathering
+pub mod Indexing
 pub mod Labelled
 pub mod Found
+pub mod Capped
+pub mod Placing
+pub mod Stored
+pub mod Fitting
+pub mod Sizing
+pub mod Disputing
+pub mod Bounded

@@ -3,12 +3,12 @@ use Rattle.std.specs.Prelude.{◌≡◌, ◌≤◌, ◌^◌, ◌==◌, if◌then
 use Rattle.std.specs.Global.{Vec}
 use Rattle.std.specs.Str.{bytes_eq}
 use Rattle.std.specs.List.{list_any, AllByRecursion}
-use Rattle.meaning.specs.Syntax.{ItemTree}
+use Rattle.meaning.specs.Syntax.{listed, ExprTree, number, name, signed, binary, paren, element, ExprsTree, no_exprs, exprs, ShapeTree, assignment, writing, format, doing, continuing, typing, ending, ItemTree}
 use Rattle.std.specs.Ordering.{nat_cmp}
 use Rattle.std.specs.BTreeMap.{BTreeMap, get}
 use Rattle.meaning.specs.Formats.{Descriptor}
 use Rattle.meaning.specs.Execution.{descriptors_if}
-use Rattle.meaning.specs.Rules.{names_of, has_format, has_label}
+use Rattle.meaning.specs.Rules.{unit_exprs, limit_exprs, declarators_in, has_format, has_label}
 use Rattle.format_edit.specs.declared.format.Format.{Format}
 use Rattle.format_edit.specs.Formatted.{descriptors}
 
@@ -24,7 +24,48 @@ with_name names n = if list_any (bytes_eq n) names then names else names ++ n �
 abbrev pub with_names : List (List ℕ) → List (List ℕ) → List (List ℕ)
 with_names names more = fold with_name names more
 
--- the variables of statements as they appear
+-- the names in an expression from the left
+abbrev mutual
+  pub names_in : ExprTree → List (List ℕ)
+  names_in (number digits) = []
+  names_in (name letters) = letters ∷ []
+  names_in (signed sign e) = names_in e
+  names_in (binary operator a b) = names_in a ++ names_in b
+  names_in (paren e) = names_in e
+  names_in (element letters es) = letters ∷ names_in_all es
+
+  pub names_in_all : ExprsTree → List (List ℕ)
+  names_in_all no_exprs = []
+  names_in_all (exprs e es) = names_in e ++ names_in_all es
+
+-- the name that a statement sets, with subscripts or without, and the expressions that it has values of
+abbrev pub names_set : ShapeTree → List (List ℕ)
+names_set (assignment target subscripts e) = target ∷ []
+names_set (writing unit label es) = []
+names_set (format text) = []
+names_set (doing label comma variable limits) = variable ∷ []
+names_set continuing = []
+names_set (typing ds) = []
+names_set ending = []
+
+abbrev pub exprs_used : ShapeTree → List ExprTree
+exprs_used (assignment target subscripts e) = listed subscripts ++ e ∷ []
+exprs_used (writing unit label es) = unit_exprs unit ++ es
+exprs_used (format text) = []
+exprs_used (doing label comma variable limits) = limit_exprs limits
+exprs_used continuing = []
+exprs_used (typing ds) = []
+exprs_used ending = []
+
+-- the names that a statement declares
+abbrev pub names_declared : ShapeTree → List (List ℕ)
+names_declared s = map (λ d. d.name) (declarators_in s)
+
+-- the names of a statement: those that it declares, the one that it sets and those in its expressions
+abbrev pub names_of : ShapeTree → List (List ℕ)
+names_of s = names_declared s ++ (names_set s ++ flat_map names_in (exprs_used s))
+
+-- the variables and arrays of statements as they appear
 abbrev pub variables : List ItemTree → List (List ℕ)
 variables members = flat_map (λ m. names_of m.shape) members
 
@@ -35,7 +76,7 @@ Holds keys n = IsTrue (list_any (λ k. bytes_eq n k.items) keys)
 abbrev pub HoldsAll : List (Vec ℕ) → List (List ℕ) → Type 0
 HoldsAll keys names = AllByRecursion (Holds keys) names
 
--- each variable of the statements is among the keys
+-- each variable and each array of the statements is among the keys
 abbrev pub Numbers : List (Vec ℕ) → List ItemTree → Type 0
 Numbers keys members = AllByRecursion (λ m. HoldsAll keys (names_of m.shape)) members
 

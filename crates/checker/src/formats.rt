@@ -74,6 +74,7 @@ fn is_misformed(alloc: Global, labels: &BTreeSet<u32>, member: &Item) -> Result<
         }
         Shape::Do { .. } => Ok(false),
         Shape::Continue => Ok(false),
+        Shape::Integer(_) => Ok(false),
         Shape::End => Ok(false),
     }
 }
@@ -110,6 +111,7 @@ fn add_format(
         Shape::Write { .. } => Ok(()),
         Shape::Do { .. } => Ok(()),
         Shape::Continue => Ok(()),
+        Shape::Integer(_) => Ok(()),
         Shape::End => Ok(()),
     }
 }

@@ -57,6 +57,7 @@ fn format_label(member: &Item) -> Option<u32>
         Shape::Write { .. } => None,
         Shape::Do { .. } => None,
         Shape::Continue => None,
+        Shape::Integer(_) => None,
         Shape::End => None,
     }
 }

@@ -5,14 +5,21 @@ ghost use Rattle.meaning.specs.Syntax.{shape_tree};
 ghost use Rattle.meaning.specs.Rules.{targets_of};
 ghost use Rattle.checker.specs.Listed.{name_at};
 
-use meaning::syntax::Shape;
+use meaning::syntax::{Exprs, Shape};
 
 /// The variable that a statement sets, if it sets one.
 pub fn target_of(shape: &Shape) -> Option<&[u8]>
     ensures { name_at result ≡ targets_of (shape_tree shape.now) }
 {
     match shape {
-        Shape::Assignment { name, value: _ } => Some(name),
+        Shape::Assignment {
+            name,
+            subscripts,
+            value: _,
+        } => match subscripts {
+            Exprs::Empty => Some(name),
+            Exprs::More(_, _) => None,
+        },
         Shape::Write { .. } => None,
         Shape::Format(_) => None,
         Shape::Do {
@@ -22,6 +29,7 @@ pub fn target_of(shape: &Shape) -> Option<&[u8]>
             limits: _,
         } => Some(variable),
         Shape::Continue => None,
+        Shape::Integer(_) => None,
         Shape::End => None,
     }
 }

@@ -1,7 +1,11 @@
 //! Programs that are built by hand, refused and accepted.
 
 mod accepted;
+mod arrays;
+mod bounds;
 mod building;
 mod loops;
+mod numbering;
+mod pairs;
 mod refused;
 mod units;

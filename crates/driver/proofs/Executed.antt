@@ -4,17 +4,19 @@ use Rattle.std.specs.List.{concat}
 use Rattle.meaning.specs.declared.ending.FaultKind.{FaultKind}
 use Rattle.meaning.specs.declared.ending.FaultKind.TheVariants.{F4}
 use Rattle.meaning.specs.declared.ending.Fault.{Fault}
+use Rattle.meaning.specs.declared.ending.Value.{Value}
+use Rattle.meaning.specs.Rules.{arrays_of}
 use Rattle.meaning.specs.Characters.{number_of}
-use Rattle.meaning.specs.Syntax.{ExprTree, UnitTree, ShapeTree, ItemTree, assignment, writing}
-use Rattle.meaning.specs.Maps.{Map, put, map_of}
-use Rattle.meaning.specs.Values.{value, values_of, as_integer, and_then}
+use Rattle.meaning.specs.Syntax.{ExprTree, ExprsTree, UnitTree, ShapeTree, ItemTree, assignment, writing}
+use Rattle.meaning.specs.Maps.{Map, put}
+use Rattle.meaning.specs.Values.{dimensions_in, subscripts, value, values_of, as_integer, and_then}
 use Rattle.meaning.specs.Records.{edited}
 use Rattle.meaning.specs.Execution.{Ran, more, Follow, turn, with_ok, failed, step, format_at}
 use Rattle.meaning.specs.Promise.{Told, Took, IsBroken}
 use Rattle.meaning.proofs.Running.{more-more, more-none}
 use Rattle.driver.specs.declared.halt.Halt.{Halt}
 use Rattle.driver.specs.Walk.{Faults, GoesOn, Steps}
-use Rattle.driver.specs.Statements.{Puts, TakesTurn, FaultsAs, Does, recorded}
+use Rattle.driver.specs.Statements.{Puts, target_and_value, TakesTurn, FaultsAs, Does, recorded}
 use Rattle.driver.proofs.Taken.{Took-none}
 use Rattle.driver.proofs.Composed.{pieces-more}
 use Rattle.std.proofs.lemmas.List.{append-nil}
@@ -62,17 +64,34 @@ module _ (line : ℕ) (m : Map) where
 
 -- ---- an assignment
 
-module _ (all : List ItemTree) (n : List ℕ) (e : ExprTree) (line t : ℕ) where
-  pub assigned : (names : List (List ℕ)) (old new : List ℤ) (u : ℕ) → t ≡ suc u → Puts names n e old new → (go : Follow) → step all (assignment n e) line (map_of names old) t go ≡ more [] 1 (go (map_of names new) u)
-  assigned names old new u taken puts go =
-      turn_goes line (map_of names old) t u (value e (map_of names old)) puts.result (λ v k. go (put (map_of names old) n [] (as_integer v)) k) taken puts.is ∙ ap (λ m. more [] 1 (go m u)) (sym puts.after)
+with_ok-parts : {A B : Type 0} (r : Result A FaultKind) (q : Result B FaultKind) (line : ℕ) (m : Map) (go : A → B → Ran) → with_ok r line m (λ x. with_ok q line m (λ y. go x y)) ≡ with_ok {A = A × B} (and_then r (λ x. and_then q (λ y. Ok (x, y)))) line m (λ p. go p.0 p.1)
+unfolding with_ok and_then
+with_ok-parts (Ok x) (Ok y) line m go = refl
+with_ok-parts (Ok x) (Err k) line m go = refl
+with_ok-parts (Err k) q line m go = refl
 
-  pub unassigned : (m : Map) (k : FaultKind) (u : ℕ) → t ≡ suc u → value e m ≡ Err k → (go : Follow) → FaultsAs (step all (assignment n e) line m t go) (record { kind = k; line = line })
-  unassigned m k u taken h go = turn_fails line m t u (value e m) k (λ v i. go (put m n [] (as_integer v)) i) taken h
+module _ (all : List ItemTree) (n : List ℕ) (es : ExprsTree) (e : ExprTree) (line t : ℕ) (m : Map) where
+  abbrev parts : Result (List ℤ × Value) FaultKind
+  parts = target_and_value (arrays_of all) n es e m
 
-  pub unexecuted : (m : Map) → t ≡ 0 → (go : Follow) → FaultsAs (step all (assignment n e) line m t go) (record { kind = F4; line = line })
-  unexecuted m none go =
-      turn_none line m t (λ u. with_ok (value e m) line m (λ v. go (put m n [] (as_integer v)) u)) none
+  abbrev puts_them : Follow → List ℤ × Value → ℕ → Ran
+  puts_them go p u = go (put m n p.0 (as_integer p.1)) u
+
+  assigns : (go : Follow) → step all (assignment n es e) line m t go ≡ turn line m t (λ u. with_ok parts line m (λ p. puts_them go p u))
+  assigns go = λ i. turn line m t (λ u. with_ok-parts (subscripts (arrays_of all) (dimensions_in (arrays_of all n)) es m) (value (arrays_of all) e m) line m (λ ss v. go (put m n ss (as_integer v)) u) i)
+
+  faults : (f : Fault) (go : Follow) → FaultsAs (turn line m t (λ u. with_ok parts line m (λ p. puts_them go p u))) f → FaultsAs (step all (assignment n es e) line m t go) f
+  faults f go x = subst (λ r. FaultsAs r f) (sym (assigns go)) x
+
+  pub assigned : (new : Map) (u : ℕ) → t ≡ suc u → Puts (arrays_of all) n es e m new → (go : Follow) → step all (assignment n es e) line m t go ≡ more [] 1 (go new u)
+  assigned new u taken puts go =
+      assigns go ∙ turn_goes line m t u parts puts.given (λ p k. puts_them go p k) taken puts.is ∙ ap (λ x. more [] 1 (go x u)) (sym puts.after)
+
+  pub unassigned : (k : FaultKind) (u : ℕ) → t ≡ suc u → parts ≡ Err k → (go : Follow) → FaultsAs (step all (assignment n es e) line m t go) (record { kind = k; line = line })
+  unassigned k u taken h go = faults (record { kind = k; line = line }) go (turn_fails line m t u parts k (λ p i. puts_them go p i) taken h)
+
+  pub unexecuted : t ≡ 0 → (go : Follow) → FaultsAs (step all (assignment n es e) line m t go) (record { kind = F4; line = line })
+  unexecuted none go = faults (record { kind = F4; line = line }) go (turn_none line m t (λ u. with_ok parts line m (λ p. puts_them go p u)) none)
 
 -- ---- a WRITE statement
 
@@ -83,7 +102,7 @@ with_ok-with_ok (Err k) f line m go = refl
 
 module _ (all : List ItemTree) (unit : UnitTree) (label : List ℕ) (es : List ExprTree) (line : ℕ) (m : Map) (t : ℕ) where
   writes : (go : Follow) → step all (writing unit label es) line m t go ≡ turn line m t (λ u. with_ok (recorded all (number_of label) es m) line m (λ records. more (records ∷ []) 0 (go m u)))
-  writes go = λ i. turn line m t (λ u. with_ok-with_ok (values_of es m) (λ vs. edited (format_at all (number_of label)) vs) line m (λ records. more (records ∷ []) 0 (go m u)) i)
+  writes go = λ i. turn line m t (λ u. with_ok-with_ok (values_of (arrays_of all) es m) (λ vs. edited (format_at all (number_of label)) vs) line m (λ records. more (records ∷ []) 0 (go m u)) i)
 
   along : (f : Fault) (a : Told) (go : Follow) → FaultsAs (turn line m t (λ u. with_ok (recorded all (number_of label) es m) line m (λ records. more (records ∷ []) 0 (go m u)))) f → Faults (step all (writing unit label es) line m t go) f a a
   along f a go x = subst (λ r. Faults r f a a) (sym (writes go)) (quiet_fault _ f a x)

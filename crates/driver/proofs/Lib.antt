@@ -1,7 +1,9 @@
 pub mod Taken
-pub mod Numbering
+pub mod Placed
 pub mod Composed
+pub mod Wholes
 pub mod Assigned
+pub mod Limiting
 pub mod Executed
 pub mod Quotients
 pub mod Looped

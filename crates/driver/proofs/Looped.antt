@@ -1,10 +1,8 @@
 -- Lists of statements, and the trips of a DO statement.
-use Rattle.std.proofs.Common.{◌≡◌, Bool, Result, Ok, ℕ, ℤ, pos, zero, suc, ◌+◌, ◌<◌, ◌≤◌, List, [], ◌∷◌, ◌++◌, length, get_or, drop, replicate, Option, Some, None, Err, refl, sym, ap, ◌∙◌, arith, subst, inl, inr}
-use Rattle.std.specs.Global.{Vec}
+use Rattle.std.proofs.Common.{◌≡◌, Bool, Result, Ok, ℕ, ℤ, pos, zero, suc, ◌+◌, ◌<◌, ◌≤◌, List, [], ◌∷◌, ◌++◌, length, get_or, drop, replicate, slice_get, unwrap_or, Option, Some, None, Err, refl, sym, ap, ◌∙◌, arith, subst}
 use Rattle.std.specs.List.{AllByRecursion}
 use mathlib.Core.Path.{fun_ext}
-use Rattle.std.proofs.lemmas.Bool.{cases_lt}
-use Rattle.std.proofs.lemmas.List.{append-nil, drop_more, drop_all, get_or-replicate, get_or_past, length-map, length-replicate}
+use Rattle.std.proofs.lemmas.List.{append-nil, drop_more, drop_all, length-map}
 use Rattle.std.proofs.lemmas.List.FromFn.{length-range_with_len}
 use Rattle.meaning.specs.declared.syntax.Member.{Member, Plain, Loop, Loop'}
 use Rattle.meaning.specs.declared.syntax.Loop.{Loop as LoopOf, out-Loop}
@@ -13,20 +11,22 @@ use Rattle.meaning.specs.declared.ending.FaultKind.TheVariants.{F4}
 use Rattle.meaning.specs.declared.ending.Fault.{Fault}
 use Rattle.meaning.specs.Promise.{Told}
 use Rattle.driver.specs.declared.halt.Halt.{Halt}
-use Rattle.meaning.specs.Syntax.{ExprTree, UnitTree, ItemTree, ShapeTree, LimitsTree, assignment, writing, format, doing, continuing, ending, shape_tree}
+use Rattle.meaning.specs.Syntax.{ExprTree, ExprsTree, DeclaratorTree, UnitTree, ItemTree, ShapeTree, LimitsTree, assignment, writing, format, doing, continuing, typing, ending, shape_tree}
 use Rattle.meaning.specs.Trees.{Members, none, flat, item_tree, member_before, row_members, members_tree}
 use Rattle.meaning.specs.Trips.{Span, span_of, trips, trip_count}
-use Rattle.meaning.specs.Rules.{names_of}
-use Rattle.meaning.specs.Maps.{Map, put, start, place_of, cell_at, map_of}
+use Rattle.meaning.specs.Rules.{arrays_of}
+use Rattle.meaning.specs.Values.{Arrays}
+use Rattle.meaning.specs.Stores.{known, overlay}
+use Rattle.array_store.specs.Whole.{world_of}
+use Rattle.meaning.specs.Maps.{Map, CellNumbers, put, start, value_at, map_by}
 use Rattle.meaning.specs.Execution.{Ran, Meaning, Follow, ended, failed, more, with_ok, goes_on, added, fold_trips, trips_from, looped, pass_over, exec}
 use Rattle.meaning.proofs.Running.{exec_is}
 use Rattle.meaning.proofs.Ranges.{range_is}
-use Rattle.checker.specs.Numbered.{HoldsAll, Numbers}
 use Rattle.driver.specs.Walk.{Faults, Halts, Runs, Ends, GoesOn, Steps, member_does}
 use Rattle.driver.proofs.Composed.{steps_on, steps_behind_turn}
 use Rattle.driver.proofs.Executed.{passed_over, quiet_fault, turn_none, turn_fails, turn_goes}
 
--- ---- names
+-- ---- what holds of each statement
 
 split-all : {A : Type 0} (P : A → Type 0) (xs ys : List A) → AllByRecursion P (xs ++ ys) → AllByRecursion P xs × AllByRecursion P ys
 split-all P [] ys h = (tt, h)
@@ -37,27 +37,28 @@ flat-before (Plain x) ms = refl
 flat-before (Loop' head shape range) ms =
     ap (λ xs. item_tree head ∷ (xs ++ flat ms)) (sym (append-nil (flat (row_members range))))
 
-pub named_at : (keys : List (Vec ℕ)) (ms : List Member) (i : ℕ) (x : Member) → i < length ms → x ≡ get_or ms i x → Numbers keys (flat (members_tree ms)) → Numbers keys (flat (member_before x none))
-named_at keys [] i x lt is h = absurd (omega arith)
-named_at keys (y ∷ ys) zero x lt is h =
-    subst (λ z. Numbers keys (flat (member_before z none))) (sym is) (split-all (λ m. HoldsAll keys (names_of m.shape)) (flat (member_before y none)) (flat (members_tree ys)) (subst (λ xs. Numbers keys xs) (flat-before y (members_tree ys)) h)).0
-named_at keys (y ∷ ys) (suc i) x lt is h =
-    named_at keys ys i x (omega arith) is (split-all (λ m. HoldsAll keys (names_of m.shape)) (flat (member_before y none)) (flat (members_tree ys)) (subst (λ xs. Numbers keys xs) (flat-before y (members_tree ys)) h)).1
+module _ (P : ItemTree → Type 0) where
+  pub known_at : (ms : List Member) (i : ℕ) (x : Member) → i < length ms → x ≡ get_or ms i x → AllByRecursion P (flat (members_tree ms)) → AllByRecursion P (flat (member_before x none))
+  known_at [] i x lt is h = absurd (omega arith)
+  known_at (y ∷ ys) zero x lt is h =
+      subst (λ z. AllByRecursion P (flat (member_before z none))) (sym is) (split-all P (flat (member_before y none)) (flat (members_tree ys)) (subst (λ xs. AllByRecursion P xs) (flat-before y (members_tree ys)) h)).0
+  known_at (y ∷ ys) (suc i) x lt is h =
+      known_at ys i x (omega arith) is (split-all P (flat (member_before y none)) (flat (members_tree ys)) (subst (λ xs. AllByRecursion P xs) (flat-before y (members_tree ys)) h)).1
 
--- the names of a DO statement, and those of its range
-pub head_named : (keys : List (Vec ℕ)) (x : Member) (l : LoopOf) → x ≡ Loop l → Numbers keys (flat (member_before x none)) → HoldsAll keys (names_of (shape_tree (out-Loop l).head.form.shape))
-head_named keys x l is h = (subst (λ y. Numbers keys (flat (member_before y none))) is h).0
+  -- of a DO statement, and of those in its range
+  pub head_known : (x : Member) (l : LoopOf) → x ≡ Loop l → AllByRecursion P (flat (member_before x none)) → P (item_tree (out-Loop l).head)
+  head_known x l is h = (subst (λ y. AllByRecursion P (flat (member_before y none))) is h).0
 
-pub range_named : (keys : List (Vec ℕ)) (x : Member) (l : LoopOf) → x ≡ Loop l → Numbers keys (flat (member_before x none)) → Numbers keys (flat (members_tree (out-Loop l).range.items))
-range_named keys x l is h =
-    subst (λ ms. Numbers keys (flat ms)) (range_is l) (split-all (λ m. HoldsAll keys (names_of m.shape)) _ [] (subst (λ y. Numbers keys (flat (member_before y none))) is h).1).0
+  pub range_known : (x : Member) (l : LoopOf) → x ≡ Loop l → AllByRecursion P (flat (member_before x none)) → AllByRecursion P (flat (members_tree (out-Loop l).range.items))
+  range_known x l is h =
+      subst (λ ms. AllByRecursion P (flat ms)) (range_is l) (split-all P _ [] (subst (λ y. AllByRecursion P (flat (member_before y none))) is h).1).0
 
 -- ---- lists
 
 module _ (program : List ItemTree) where
-  pub loop_does : (rec : Meaning) (l : LoopOf) (m : Map) (t : ℕ) (go : Follow) → member_does program rec (Loop l) m t go ≡ looped rec (shape_tree (out-Loop l).head.form.shape) (out-Loop l).head.line (members_tree (out-Loop l).range.items) m t go
+  pub loop_does : (rec : Meaning) (l : LoopOf) (m : Map) (t : ℕ) (go : Follow) → member_does program rec (Loop l) m t go ≡ looped (arrays_of program) rec (shape_tree (out-Loop l).head.form.shape) (out-Loop l).head.line (members_tree (out-Loop l).range.items) m t go
   loop_does rec l m t go =
-      ap (λ range. looped rec (shape_tree (out-Loop l).head.form.shape) (out-Loop l).head.line range m t go) (range_is l)
+      ap (λ range. looped (arrays_of program) rec (shape_tree (out-Loop l).head.form.shape) (out-Loop l).head.line range m t go) (range_is l)
 
   head-does : (rec : Meaning) (all : Members) (x : Member) (ms : Members) (m : Map) (t : ℕ) → pass_over program rec all (member_before x ms) m t ≡ member_does program rec x m t (λ n u. pass_over program rec all ms n u)
   unfolding pass_over
@@ -108,49 +109,47 @@ module _ (rec : Meaning) (line : ℕ) (variable : List ℕ) (first last by : ℤ
 
 -- ---- the start
 
-zero_at : (n i : ℕ) → get_or (replicate n (pos 0)) i (pos 0) ≡ pos 0
-zero_at n i =
-    elim (cases_lt i n) [
-      | inl lt ↦ get_or-replicate n i (pos 0) (pos 0) lt
-      | inr le ↦ get_or_past (replicate n (pos 0)) i (pos 0) (omega (arith, length-replicate n (pos 0)))
-    ]
+zero_at : (n i : ℕ) → unwrap_or (slice_get (replicate n (pos 0)) i) (pos 0) ≡ pos 0
+zero_at zero i = refl
+zero_at (suc n) zero = refl
+zero_at (suc n) (suc i) = zero_at n i
 
-zero_cell : (n : ℕ) (o : Option ℕ) (xs : List ℤ) → cell_at (replicate n (pos 0)) o xs ≡ pos 0
-zero_cell n None xs = refl
-zero_cell n (Some i) [] = zero_at n i
-zero_cell n (Some i) (x ∷ xs) = refl
+zero_cell : (n : ℕ) (o : Option ℕ) → value_at (known (world_of (replicate n (pos 0)))) o ≡ pos 0
+unfolding known overlay
+zero_cell n None = refl
+zero_cell n (Some i) = zero_at n i
 
 -- cells of 0 stand for the start
-pub start_is : (names : List (List ℕ)) (n : ℕ) → map_of names (replicate n (pos 0)) ≡ start
-unfolding map_of start
-start_is names n = fun_ext (λ x. fun_ext (λ xs. zero_cell n (place_of names x) xs))
+pub start_is : (numbers : CellNumbers) (n : ℕ) → map_by numbers (known (world_of (replicate n (pos 0)))) ≡ start
+unfolding map_by start
+start_is numbers n = fun_ext (λ x. fun_ext (λ xs. zero_cell n (numbers x xs)))
 
 -- ---- DO statements
 
-module _ (rec : Meaning) (label : List ℕ) (comma : Bool) (variable : List ℕ) (limits : LimitsTree) (line : ℕ) (range : Members) (m : Map) (t : ℕ) where
+module _ (arrays : Arrays) (rec : Meaning) (label : List ℕ) (comma : Bool) (variable : List ℕ) (limits : LimitsTree) (line : ℕ) (range : Members) (m : Map) (t : ℕ) where
   abbrev do_statement : ShapeTree
   do_statement = doing label comma variable limits
 
-  pub do_unexecuted : (a : Told) → t ≡ 0 → (go : Follow) → Faults (looped rec do_statement line range m t go) (record { kind = F4; line = line }) a a
+  pub do_unexecuted : (a : Told) → t ≡ 0 → (go : Follow) → Faults (looped arrays rec do_statement line range m t go) (record { kind = F4; line = line }) a a
   unfolding looped
   do_unexecuted a zero-left go =
-      quiet_fault _ (record { kind = F4; line = line }) a (turn_none line m t (λ u. with_ok (span_of limits m) line m (λ s. goes_on (trips_from rec line variable range m u s) u go)) zero-left)
+      quiet_fault _ (record { kind = F4; line = line }) a (turn_none line m t (λ u. with_ok (span_of arrays limits m) line m (λ s. goes_on (trips_from rec line variable range m u s) u go)) zero-left)
 
   module _ (u : ℕ) (taken : t ≡ suc u) where
-    pub do_fails : (k : FaultKind) (a : Told) → span_of limits m ≡ Err k → (go : Follow) → Faults (looped rec do_statement line range m t go) (record { kind = k; line = line }) a a
+    pub do_fails : (k : FaultKind) (a : Told) → span_of arrays limits m ≡ Err k → (go : Follow) → Faults (looped arrays rec do_statement line range m t go) (record { kind = k; line = line }) a a
     unfolding looped
     do_fails k a h go =
-        quiet_fault _ (record { kind = k; line = line }) a (turn_fails line m t u (span_of limits m) k (λ s n. goes_on (trips_from rec line variable range m n s) n go) taken h)
+        quiet_fault _ (record { kind = k; line = line }) a (turn_fails line m t u (span_of arrays limits m) k (λ s n. goes_on (trips_from rec line variable range m n s) n go) taken h)
 
-    do_is : (s : Span) → span_of limits m ≡ Ok s → (go : Follow) → looped rec do_statement line range m t go ≡ more [] 1 (goes_on (trips_from rec line variable range m u s) u go)
+    do_is : (s : Span) → span_of arrays limits m ≡ Ok s → (go : Follow) → looped arrays rec do_statement line range m t go ≡ more [] 1 (goes_on (trips_from rec line variable range m u s) u go)
     unfolding looped
-    do_is s h go = turn_goes line m t u (span_of limits m) s (λ y n. goes_on (trips_from rec line variable range m n y) n go) taken h
+    do_is s h go = turn_goes line m t u (span_of arrays limits m) s (λ y n. goes_on (trips_from rec line variable range m n y) n go) taken h
 
     -- the trips of a DO statement, and then what follows it
-    pub do_runs : (s : Span) (first new : Map) (left : ℕ) (o : Result (Option Fault) Halt) (old after : Told) → span_of limits m ≡ Ok s → first ≡ put m variable [] s.first → Runs (fold_trips rec line variable s.step range (trips s.first s.last s.step) first u) u new left o old after → Steps (λ go. looped rec do_statement line range m t go) t new left o old after
+    pub do_runs : (s : Span) (first new : Map) (left : ℕ) (o : Result (Option Fault) Halt) (old after : Told) → span_of arrays limits m ≡ Ok s → first ≡ put m variable [] s.first → Runs (fold_trips rec line variable s.step range (trips s.first s.last s.step) first u) u new left o old after → Steps (λ go. looped arrays rec do_statement line range m t go) t new left o old after
     do_runs s first new left o old after h e x =
         let runs = subst (λ n. Runs (fold_trips rec line variable s.step range (trips s.first s.last s.step) n u) u new left o old after) e x in
-        steps_behind_turn (λ go. goes_on (trips_from rec line variable range m u s) u go) (λ go. looped rec do_statement line range m t go) t u new left o old after taken (do_is s h) (steps_on (trips_from rec line variable range m u s) u new left o old after runs)
+        steps_behind_turn (λ go. goes_on (trips_from rec line variable range m u s) u go) (λ go. looped arrays rec do_statement line range m t go) t u new left o old after taken (do_is s h) (steps_on (trips_from rec line variable range m u s) u new left o old after runs)
 
 -- ---- what is no DO statement
 
@@ -162,29 +161,33 @@ steps_same does whole given m left (Ok (Some f)) old new is x = λ go. subst (λ
 steps_same does whole given m left (Err h) old new is x =
     λ go. subst (λ (r : Ran). Halts r.pieces h old new) (sym (is go)) (x go)
 
-pub steps_unless_do : (rec : Meaning) (s shape : ShapeTree) (line : ℕ) (range : Members) (m : Map) (t : ℕ) (a : Told) → shape ≡ s → ((go : Follow) → looped rec s line range m t go ≡ go m t) → GoesOn (λ go. looped rec shape line range m t go) t m t a a
-steps_unless_do rec s shape line range m t a e is =
-    steps_same (λ go. go m t) (λ go. looped rec shape line range m t go) t m t (Ok None) a a (λ go. ap (λ x. looped rec x line range m t go) e ∙ is go) (passed_over m t a)
+pub steps_unless_do : (arrays : Arrays) (rec : Meaning) (s shape : ShapeTree) (line : ℕ) (range : Members) (m : Map) (t : ℕ) (a : Told) → shape ≡ s → ((go : Follow) → looped arrays rec s line range m t go ≡ go m t) → GoesOn (λ go. looped arrays rec shape line range m t go) t m t a a
+steps_unless_do arrays rec s shape line range m t a e is =
+    steps_same (λ go. go m t) (λ go. looped arrays rec shape line range m t go) t m t (Ok None) a a (λ go. ap (λ x. looped arrays rec x line range m t go) e ∙ is go) (passed_over m t a)
 
-pub assignment_goes : (target : List ℕ) (e : ExprTree) (rec : Meaning) (line : ℕ) (range : Members) (m : Map) (t : ℕ) (go : Follow) → looped rec (assignment target e) line range m t go ≡ go m t
+pub assignment_goes : (target : List ℕ) (es : ExprsTree) (e : ExprTree) (arrays : Arrays) (rec : Meaning) (line : ℕ) (range : Members) (m : Map) (t : ℕ) (go : Follow) → looped arrays rec (assignment target es e) line range m t go ≡ go m t
 unfolding looped
-assignment_goes target e rec line range m t go = refl
+assignment_goes target es e arrays rec line range m t go = refl
 
-pub write_goes : (unit : UnitTree) (label : List ℕ) (es : List ExprTree) (rec : Meaning) (line : ℕ) (range : Members) (m : Map) (t : ℕ) (go : Follow) → looped rec (writing unit label es) line range m t go ≡ go m t
+pub write_goes : (unit : UnitTree) (label : List ℕ) (es : List ExprTree) (arrays : Arrays) (rec : Meaning) (line : ℕ) (range : Members) (m : Map) (t : ℕ) (go : Follow) → looped arrays rec (writing unit label es) line range m t go ≡ go m t
 unfolding looped
-write_goes unit label es rec line range m t go = refl
+write_goes unit label es arrays rec line range m t go = refl
 
-pub format_goes : (text : List ℕ) (rec : Meaning) (line : ℕ) (range : Members) (m : Map) (t : ℕ) (go : Follow) → looped rec (format text) line range m t go ≡ go m t
+pub format_goes : (text : List ℕ) (arrays : Arrays) (rec : Meaning) (line : ℕ) (range : Members) (m : Map) (t : ℕ) (go : Follow) → looped arrays rec (format text) line range m t go ≡ go m t
 unfolding looped
-format_goes text rec line range m t go = refl
+format_goes text arrays rec line range m t go = refl
 
-pub continue_goes : (rec : Meaning) (line : ℕ) (range : Members) (m : Map) (t : ℕ) (go : Follow) → looped rec continuing line range m t go ≡ go m t
+pub continue_goes : (arrays : Arrays) (rec : Meaning) (line : ℕ) (range : Members) (m : Map) (t : ℕ) (go : Follow) → looped arrays rec continuing line range m t go ≡ go m t
 unfolding looped
-continue_goes rec line range m t go = refl
+continue_goes arrays rec line range m t go = refl
 
-pub end_goes : (rec : Meaning) (line : ℕ) (range : Members) (m : Map) (t : ℕ) (go : Follow) → looped rec ending line range m t go ≡ go m t
+pub end_goes : (arrays : Arrays) (rec : Meaning) (line : ℕ) (range : Members) (m : Map) (t : ℕ) (go : Follow) → looped arrays rec ending line range m t go ≡ go m t
 unfolding looped
-end_goes rec line range m t go = refl
+end_goes arrays rec line range m t go = refl
+
+pub typing_goes : (ds : List DeclaratorTree) (arrays : Arrays) (rec : Meaning) (line : ℕ) (range : Members) (m : Map) (t : ℕ) (go : Follow) → looped arrays rec (typing ds) line range m t go ≡ go m t
+unfolding looped
+typing_goes ds arrays rec line range m t go = refl
 
 -- ---- the addition behind a range
 

@@ -6,6 +6,7 @@ use Rattle.meaning.specs.declared.syntax.Member.{Member, Plain, Loop'}
 use Rattle.meaning.specs.Maps.{Map}
 use Rattle.meaning.specs.Execution.{Outcome, normal, fault, Ran, more, Meaning, Follow, step, looped}
 use Rattle.meaning.specs.Syntax.{ItemTree, shape_tree}
+use Rattle.meaning.specs.Rules.{arrays_of}
 use Rattle.meaning.specs.Trees.{row_members}
 use Rattle.meaning.specs.Promise.{Told, Took, IsFront, IsBroken}
 use Rattle.driver.specs.declared.halt.Halt.{Halt}
@@ -69,7 +70,7 @@ pub record SoFar (whole rest : Ran) (given left : ℕ) (old new : Told) : Type 0
 abbrev pub member_does : List ItemTree → Meaning → Member → Map → ℕ → Follow → Ran
 member_does program rec (Plain x) m t go = step program (shape_tree x.form.shape) x.line m t go
 member_does program rec (Loop' head shape range) m t go =
-    looped rec (shape_tree head.form.shape) head.line (row_members range) m t go
+    looped (arrays_of program) rec (shape_tree head.form.shape) head.line (row_members range) m t go
 
 -- ---- the run of a program
 

@@ -1,27 +1,30 @@
 //! The statements of a program, executed one after another (ANSI X3.9-1978, chapters 10 to 12).
 
-ghost use Rattle.std.specs.Prelude.{◌≡◌, ◌≢◌, [], ℕ, List, Bool, false, vec_len, length, replicate, pos, IfOk};
+ghost use Rattle.std.specs.Prelude.{◌≡◌, ◌≢◌, ℕ, List, Bool, false, length, pos};
 ghost use Rattle.meaning.specs.declared.syntax.Loop.{out-Loop};
-ghost use Rattle.meaning.specs.Syntax.{ItemTree, shape_tree, limits_tree, doing};
-ghost use Rattle.meaning.specs.Maps.{map_of};
+ghost use Rattle.meaning.specs.Arrays.{cells_of};
+ghost use Rattle.meaning.specs.Syntax.{shape_tree, limits_tree, doing};
 ghost use Rattle.meaning.specs.Trees.{Members, none, flat, flatten, item_tree, member_before, members_tree};
 ghost use Rattle.meaning.specs.Trips.{trips};
 ghost use Rattle.meaning.specs.Answers.{run_of};
-ghost use Rattle.meaning.specs.Rules.{names_of};
-ghost use Rattle.meaning.specs.Execution.{exec, fold_trips, looped, pass_over};
+ghost use Rattle.meaning.specs.Values.{dimensions_in};
+ghost use Rattle.meaning.specs.Execution.{exec, fold_trips, looped};
 ghost use Rattle.meaning.specs.Promise.{Told};
-ghost use Rattle.checker.specs.Checked.{tree_of, names_of_program, IsNumbered};
-ghost use Rattle.checker.specs.Numbered.{Holds, HoldsAll, Numbers};
+ghost use Rattle.checker.specs.Checked.{tree_of, named_of_program, IsNumbered};
+ghost use Rattle.checker.specs.Numbered.{Holds};
+ghost use Rattle.driver.specs.Cells.{arrays_in, map_in, IsKnown, AreKnown};
 ghost use Rattle.driver.specs.Walk.{Steps, Runs, Ends, member_does};
 
 use crate::halt::Halt;
-use crate::limits::{Span, count_of, values_of_limits};
+use crate::limits::{Span, count_of};
 use crate::sink::Sink;
-use crate::statement::{add_to, execute_item, set_variable, take_turn};
+use crate::statement::{execute_item, take_turn};
+use crate::whole::{add_whole, limits_whole, set_whole};
+use array_store::Whole;
 use checker::Program;
 use meaning::ending::{Fault, FaultKind};
 use meaning::syntax::{Limits, Loop, Member, Shape};
-use std::alloc::{AllocError, Global};
+use std::alloc::Global;
 
 // Executes a range once for each trip of its DO statement, whose variable has its first value.
 #[cycle(members)]
@@ -31,25 +34,26 @@ fn execute_trips<S: Sink>(
     repeated: &Loop,
     variable: &[u8],
     span: Span,
-    cells: &mut Vec<i32>,
+    cells: &mut Whole,
     turns: &mut u64,
     sink: &mut S,
 ) -> Result<Option<Fault>, Halt>
     requires numbered { IsNumbered program.now }
-    requires named { Numbers program.now.names.keys (flat (members_tree (out-Loop repeated.now).range.items)) }
+    requires named { AreKnown program.now (flat (members_tree (out-Loop repeated.now).range.items)) }
     requires held { Holds program.now.names.keys variable.now }
-    requires sized { vec_len cells.old ≡ length program.now.names.keys }
+    requires plain { length (dimensions_in (arrays_in program.now variable.now)) ≡ 0 }
+    requires sized { length cells.old ≡ cells_of (named_of_program program.now) }
     requires unrefused { (S.told sink.old).refused ≡ false }
     requires some { span.step ≢ pos 0 }
-    ensures runs { Runs (fold_trips (exec (flatten (tree_of program.now))) (out-Loop repeated.now).head.line variable.now span.step (members_tree (out-Loop repeated.now).range.items) (trips span.first span.last span.step) (map_of (names_of_program program.now) cells.old.items) turns.old) turns.old (map_of (names_of_program program.now) cells.new.items) turns.new result (S.told sink.old) (S.told sink.new) }
-    ensures len { vec_len cells.new ≡ vec_len cells.old }
+    ensures runs { Runs (fold_trips (exec (flatten (tree_of program.now))) (out-Loop repeated.now).head.line variable.now span.step (members_tree (out-Loop repeated.now).range.items) (trips span.first span.last span.step) (map_in program.now cells.old) turns.old) turns.old (map_in program.now cells.new) turns.new result (S.told sink.old) (S.told sink.new) }
+    ensures len { length cells.new ≡ length cells.old }
 {
     for _ in 0..count_of(span) {
         match execute_list(alloc, program, &repeated.range, cells, turns, sink)? {
             None => {}
             Some(inner) => return Ok(Some(inner)),
         }
-        match add_to(program, variable, span.step, cells) {
+        match add_whole(program, variable, span.step, cells) {
             Ok(()) => {}
             Err(kind) => {
                 let line = repeated.head.line;
@@ -68,17 +72,18 @@ fn execute_do<S: Sink>(
     repeated: &Loop,
     variable: &[u8],
     limits: &Limits,
-    cells: &mut Vec<i32>,
+    cells: &mut Whole,
     turns: &mut u64,
     sink: &mut S,
 ) -> Result<Option<Fault>, Halt>
     requires numbered { IsNumbered program.now }
-    requires named { Numbers program.now.names.keys (flat (members_tree (out-Loop repeated.now).range.items)) }
+    requires named { AreKnown program.now (flat (members_tree (out-Loop repeated.now).range.items)) }
     requires held { Holds program.now.names.keys variable.now }
-    requires sized { vec_len cells.old ≡ length program.now.names.keys }
+    requires plain { length (dimensions_in (arrays_in program.now variable.now)) ≡ 0 }
+    requires sized { length cells.old ≡ cells_of (named_of_program program.now) }
     requires unrefused { (S.told sink.old).refused ≡ false }
-    ensures steps { (label : List ℕ) (comma : Bool) → Steps (λ go. looped (exec (flatten (tree_of program.now))) (doing label comma variable.now (limits_tree limits.now)) (out-Loop repeated.now).head.line (members_tree (out-Loop repeated.now).range.items) (map_of (names_of_program program.now) cells.old.items) turns.old go) turns.old (map_of (names_of_program program.now) cells.new.items) turns.new result (S.told sink.old) (S.told sink.new) }
-    ensures len { vec_len cells.new ≡ vec_len cells.old }
+    ensures steps { (label : List ℕ) (comma : Bool) → Steps (λ go. looped (arrays_in program.now) (exec (flatten (tree_of program.now))) (doing label comma variable.now (limits_tree limits.now)) (out-Loop repeated.now).head.line (members_tree (out-Loop repeated.now).range.items) (map_in program.now cells.old) turns.old go) turns.old (map_in program.now cells.new) turns.new result (S.told sink.old) (S.told sink.new) }
+    ensures len { length cells.new ≡ length cells.old }
 {
     let line = repeated.head.line;
     if !take_turn(turns) {
@@ -87,9 +92,9 @@ fn execute_do<S: Sink>(
             line,
         }));
     }
-    match values_of_limits(program, limits, cells) {
+    match limits_whole(program, limits, cells) {
         Ok(span) => {
-            set_variable(program, variable, span.first, cells);
+            set_whole(program, variable, span.first, cells);
             execute_trips(alloc, program, repeated, variable, span, cells, turns, sink)
         }
         Err(kind) => Ok(Some(Fault { kind, line })),
@@ -102,17 +107,17 @@ fn execute_loop<S: Sink>(
     alloc: Global,
     program: &Program,
     repeated: &Loop,
-    cells: &mut Vec<i32>,
+    cells: &mut Whole,
     turns: &mut u64,
     sink: &mut S,
 ) -> Result<Option<Fault>, Halt>
     requires numbered { IsNumbered program.now }
-    requires named { Numbers program.now.names.keys (flat (members_tree (out-Loop repeated.now).range.items)) }
-    requires head { HoldsAll program.now.names.keys (names_of (shape_tree (out-Loop repeated.now).head.form.shape)) }
-    requires sized { vec_len cells.old ≡ length program.now.names.keys }
+    requires named { AreKnown program.now (flat (members_tree (out-Loop repeated.now).range.items)) }
+    requires head { IsKnown program.now (item_tree (out-Loop repeated.now).head) }
+    requires sized { length cells.old ≡ cells_of (named_of_program program.now) }
     requires unrefused { (S.told sink.old).refused ≡ false }
-    ensures steps { Steps (λ go. looped (exec (flatten (tree_of program.now))) (shape_tree (out-Loop repeated.now).head.form.shape) (out-Loop repeated.now).head.line (members_tree (out-Loop repeated.now).range.items) (map_of (names_of_program program.now) cells.old.items) turns.old go) turns.old (map_of (names_of_program program.now) cells.new.items) turns.new result (S.told sink.old) (S.told sink.new) }
-    ensures len { vec_len cells.new ≡ vec_len cells.old }
+    ensures steps { Steps (λ go. looped (arrays_in program.now) (exec (flatten (tree_of program.now))) (shape_tree (out-Loop repeated.now).head.form.shape) (out-Loop repeated.now).head.line (members_tree (out-Loop repeated.now).range.items) (map_in program.now cells.old) turns.old go) turns.old (map_in program.now cells.new) turns.new result (S.told sink.old) (S.told sink.new) }
+    ensures len { length cells.new ≡ length cells.old }
 {
     match &repeated.head.form.shape {
         Shape::Do {
@@ -127,6 +132,7 @@ fn execute_loop<S: Sink>(
         Shape::Write { .. } => Ok(None),
         Shape::Format(_) => Ok(None),
         Shape::Continue => Ok(None),
+        Shape::Integer(_) => Ok(None),
         Shape::End => Ok(None),
     }
 }
@@ -137,16 +143,16 @@ fn execute_member<S: Sink>(
     alloc: Global,
     program: &Program,
     member: &Member,
-    cells: &mut Vec<i32>,
+    cells: &mut Whole,
     turns: &mut u64,
     sink: &mut S,
 ) -> Result<Option<Fault>, Halt>
     requires numbered { IsNumbered program.now }
-    requires named { Numbers program.now.names.keys (flat (member_before member.now none)) }
-    requires sized { vec_len cells.old ≡ length program.now.names.keys }
+    requires named { AreKnown program.now (flat (member_before member.now none)) }
+    requires sized { length cells.old ≡ cells_of (named_of_program program.now) }
     requires unrefused { (S.told sink.old).refused ≡ false }
-    ensures steps { Steps (λ go. member_does (flatten (tree_of program.now)) (exec (flatten (tree_of program.now))) member.now (map_of (names_of_program program.now) cells.old.items) turns.old go) turns.old (map_of (names_of_program program.now) cells.new.items) turns.new result (S.told sink.old) (S.told sink.new) }
-    ensures len { vec_len cells.new ≡ vec_len cells.old }
+    ensures steps { Steps (λ go. member_does (flatten (tree_of program.now)) (exec (flatten (tree_of program.now))) member.now (map_in program.now cells.old) turns.old go) turns.old (map_in program.now cells.new) turns.new result (S.told sink.old) (S.told sink.new) }
+    ensures len { length cells.new ≡ length cells.old }
 {
     match member {
         Member::Plain(item) => execute_item(alloc, program, item, cells, turns, sink),
@@ -160,16 +166,16 @@ fn execute_list<S: Sink>(
     alloc: Global,
     program: &Program,
     members: &[Member],
-    cells: &mut Vec<i32>,
+    cells: &mut Whole,
     turns: &mut u64,
     sink: &mut S,
 ) -> Result<Option<Fault>, Halt>
     requires numbered { IsNumbered program.now }
-    requires named { Numbers program.now.names.keys (flat (members_tree members.now)) }
-    requires sized { vec_len cells.old ≡ length program.now.names.keys }
+    requires named { AreKnown program.now (flat (members_tree members.now)) }
+    requires sized { length cells.old ≡ cells_of (named_of_program program.now) }
     requires unrefused { (S.told sink.old).refused ≡ false }
-    ensures runs { (all : Members) → Runs (exec (flatten (tree_of program.now)) all (members_tree members.now) (map_of (names_of_program program.now) cells.old.items) turns.old) turns.old (map_of (names_of_program program.now) cells.new.items) turns.new result (S.told sink.old) (S.told sink.new) }
-    ensures len { vec_len cells.new ≡ vec_len cells.old }
+    ensures runs { (all : Members) → Runs (exec (flatten (tree_of program.now)) all (members_tree members.now) (map_in program.now cells.old) turns.old) turns.old (map_in program.now cells.new) turns.new result (S.told sink.old) (S.told sink.new) }
+    ensures len { length cells.new ≡ length cells.old }
 {
     for member in members {
         match execute_member(alloc, program, member, cells, turns, sink)? {
@@ -178,14 +184,6 @@ fn execute_list<S: Sink>(
         }
     }
     Ok(None)
-}
-
-// So many cells of 0.
-fn zero_cells(alloc: Global, count: usize) -> Result<Vec<i32>, AllocError>
-    ensures items { IfOk result (λ cells. cells.items ≡ replicate count (pos 0)) }
-    ensures len { IfOk result (λ cells. vec_len cells ≡ count) }
-{
-    vec![in alloc; 0; count]
 }
 
 /// Executes a program from the start, and answers the fault of a statement, if one faulted. What was written is all
@@ -200,7 +198,7 @@ pub fn execute<S: Sink>(
     requires unrefused { (S.told sink.old).refused ≡ false }
     ensures { Ends (run_of (tree_of program.now) turns) result (S.told sink.old) (S.told sink.new) }
 {
-    let mut cells = zero_cells(alloc, program.names.len())?;
+    let mut cells = Whole::new(alloc, &program.starts)?;
     let mut left = turns;
     execute_list(
         alloc,

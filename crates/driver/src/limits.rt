@@ -1,17 +1,20 @@
 //! The limits of a DO statement (ANSI X3.9-1978, 11.10.3).
 
-ghost use Rattle.std.specs.Prelude.{◌≡◌, ◌≢◌, int_div, pos};
+ghost use Rattle.std.specs.Prelude.{◌≡◌, ◌≢◌, int_div, option_map, pos};
 ghost use Rattle.std.specs.Int.{CanDivide, w64};
-ghost use Rattle.meaning.specs.Syntax.{limits_tree};
-ghost use Rattle.meaning.specs.Maps.{map_of};
-ghost use Rattle.meaning.specs.Trips.{span_of, at_least_zero, trip_count};
-ghost use Rattle.checker.specs.Checked.{names_of_program};
+ghost use Rattle.meaning.specs.Characters.{at_least_zero};
+ghost use Rattle.meaning.specs.Syntax.{expr_tree, limits_tree};
+ghost use Rattle.meaning.specs.Arrays.{cells_of};
+ghost use Rattle.meaning.specs.Stores.{Reads};
+ghost use Rattle.meaning.specs.Trips.{span_of, step_value, trip_count};
+ghost use Rattle.checker.specs.Checked.{named_of_program, IsNumbered};
+ghost use Rattle.driver.specs.Cells.{arrays_in, map_at};
 ghost use Rattle.driver.specs.Limited.{SpanIs};
 
-use crate::statement::Cells;
+use array_store::Store;
 use checker::Program;
-use meaning::ending::FaultKind;
-use meaning::syntax::Limits;
+use meaning::ending::{FaultKind, Value};
+use meaning::syntax::{Expr, Limits};
 use values::{as_integer, value};
 
 /// The values of limits. The step isn't zero.
@@ -22,25 +25,37 @@ pub struct Span {
     pub step: i32,
 }
 
+/// The value of a step, which is 1 where none is written.
+fn step_of<S: Store>(
+    program: &Program,
+    step: &Option<Expr>,
+    store: &mut S,
+) -> Result<Value, FaultKind>
+    requires numbered { IsNumbered program.now }
+    requires sized { (S.world store.old).cells ≡ cells_of (named_of_program program.now) }
+    ensures reads { Reads (S.world store.old) (S.world store.new) (λ m. step_value (arrays_in program.now) (option_map expr_tree step.now) (map_at program.now m) ≡ result) }
+    ensures cells { (S.world store.new).cells ≡ (S.world store.old).cells }
+{
+    match step {
+        None => Ok(Value::Int(1)),
+        Some(expression) => value(expression, program, store),
+    }
+}
+
 /// The values of limits, from the left, or the fault: that of an expression, or F5 where the step is zero.
-#[tactic(auto, unfolding(meaning::specs::Trips::span_of, meaning::specs::Values::and_then))]
-pub fn values_of_limits(
+pub fn values_of_limits<S: Store>(
     program: &Program,
     limits: &Limits,
-    cells: &[i32],
+    store: &mut S,
 ) -> Result<Span, FaultKind>
-    ensures { SpanIs result (span_of (limits_tree limits.now) (map_of (names_of_program program.now) cells.now)) }
+    requires numbered { IsNumbered program.now }
+    requires sized { (S.world store.old).cells ≡ cells_of (named_of_program program.now) }
+    ensures reads { Reads (S.world store.old) (S.world store.new) (λ m. SpanIs result (span_of (arrays_in program.now) (limits_tree limits.now) (map_at program.now m))) }
+    ensures cells { (S.world store.new).cells ≡ (S.world store.old).cells }
 {
-    let variables = Cells {
-        names: &program.names,
-        cells,
-    };
-    let first = as_integer(value(&limits.first, &variables)?);
-    let last = as_integer(value(&limits.last, &variables)?);
-    let step = match &limits.step {
-        None => 1,
-        Some(expression) => as_integer(value(expression, &variables)?),
-    };
+    let first = as_integer(value(&limits.first, program, store)?);
+    let last = as_integer(value(&limits.last, program, store)?);
+    let step = as_integer(step_of(program, &limits.step, store)?);
     if step == 0 {
         return Err(FaultKind::F5);
     }

@@ -1,130 +1,49 @@
 //! Single statements (ANSI X3.9-1978, 10.1, 11.11 and 12.8).
 
-ghost use Rattle.std.specs.Prelude.{◌≡◌, [], ℕ, List, false, map, vec_len, length, IfOk};
+ghost use Rattle.std.specs.Prelude.{◌≡◌, List, false, length, IfOk};
+ghost use Rattle.meaning.specs.Arrays.{cells_of};
 ghost use Rattle.meaning.specs.Characters.{number_of};
-ghost use Rattle.meaning.specs.Syntax.{ItemTree, UnitTree, assignment, writing, continuing, expr_tree, exprs_trees, shape_tree};
-ghost use Rattle.meaning.specs.Maps.{Map, put, map_of};
-ghost use Rattle.meaning.specs.Trees.{flatten};
-ghost use Rattle.meaning.specs.Rules.{names_of};
-ghost use Rattle.meaning.specs.Values.{value as value_of, values_of};
-ghost use Rattle.meaning.specs.Execution.{step, format_at, format_found};
+ghost use Rattle.meaning.specs.Syntax.{ItemTree, UnitTree, assignment, writing, continuing, expr_tree, exprs_tree, exprs_trees, shape_tree};
+ghost use Rattle.meaning.specs.Maps.{Map};
+ghost use Rattle.meaning.specs.Trees.{item_tree, flatten};
+ghost use Rattle.meaning.specs.Rules.{count};
+ghost use Rattle.meaning.specs.Values.{dimensions_in};
+ghost use Rattle.meaning.specs.Execution.{step, format_at};
 ghost use Rattle.meaning.specs.Records.{edited};
 ghost use Rattle.meaning.specs.Promise.{Told};
-ghost use Rattle.checker.specs.Checked.{tree_of, names_of_program, IsNumbered};
-ghost use Rattle.checker.specs.Numbered.{Holds, HoldsAll};
+ghost use Rattle.checker.specs.Checked.{tree_of, named_of_program, IsNumbered};
+ghost use Rattle.checker.specs.Numbered.{Holds};
 ghost use Rattle.values.specs.Listed.{Listed};
+ghost use Rattle.driver.specs.Cells.{arrays_in, map_in, IsKnown};
 ghost use Rattle.driver.specs.Walk.{Steps};
-ghost use Rattle.driver.specs.Statements.{Assigns, Adds, recorded, TakesTurn, Does};
+ghost use Rattle.driver.specs.Statements.{recorded, TakesTurn, Does};
 
 use crate::halt::Halt;
 use crate::sink::{Sink, put_all};
+use crate::whole::{assign_whole, values_whole};
+use array_store::Whole;
 use checker::Program;
 use format_edit::{EditFault, Format, edit};
-use indexmap::IndexSet;
 use meaning::ending::{Fault, FaultKind, Value};
 use meaning::syntax::{Expr, Exprs, Item, Shape};
 use std::alloc::{AllocError, Global};
-use values::{Variables, as_integer, value, values};
 
-/// The variables of a program by name, and their cells.
-#[derive(Clone, Copy)]
-pub struct Cells<'a> {
-    pub names: &'a IndexSet<Vec<u8>>,
-    pub cells: &'a [i32],
-}
-
-impl Variables for Cells<'_> {
-    ghost map = { λ s. map_of (map (λ k. k.items) s.names.now.keys) s.cells.now };
-
-    fn read(&self, name: &[u8]) -> i32 {
-        match self.names.get_index_of(name) {
-            Some(cell) => {
-                if cell < self.cells.len() {
-                    self.cells[cell]
-                } else {
-                    0
-                }
-            }
-            None => 0,
-        }
-    }
-}
-
-/// Gives a variable a value.
-pub fn set_variable(program: &Program, name: &[u8], x: i32, cells: &mut Vec<i32>)
-    requires numbered { Holds program.now.names.keys name.now }
-    requires sized { vec_len cells.old ≡ length program.now.names.keys }
-    ensures set { map_of (names_of_program program.now) cells.new.items ≡ put (map_of (names_of_program program.now) cells.old.items) name.now [] x }
-    ensures len { vec_len cells.new ≡ vec_len cells.old }
-{
-    if let Some(cell) = program.names.get_index_of(name) {
-        cells[cell] = x;
-    }
-}
-
-// Gives a variable the value of an expression.
-fn assign(
-    program: &Program,
-    name: &[u8],
-    expression: &Expr,
-    cells: &mut Vec<i32>,
-) -> Result<(), FaultKind>
-    requires numbered { Holds program.now.names.keys name.now }
-    requires sized { vec_len cells.old ≡ length program.now.names.keys }
-    ensures assigned { Assigns (names_of_program program.now) name.now (expr_tree expression.now) cells.old.items cells.new.items result }
-    ensures len { vec_len cells.new ≡ vec_len cells.old }
-{
-    let variables = Cells {
-        names: &program.names,
-        cells,
-    };
-    let x = as_integer(value(expression, &variables)?);
-    set_variable(program, name, x, cells);
-    Ok(())
-}
-
-/// Adds to a variable. A sum outside INTEGER is F2, and the variable stays.
-pub fn add_to(
-    program: &Program,
-    name: &[u8],
-    by: i32,
-    cells: &mut Vec<i32>,
-) -> Result<(), FaultKind>
-    requires numbered { Holds program.now.names.keys name.now }
-    requires sized { vec_len cells.old ≡ length program.now.names.keys }
-    ensures adds { (line : ℕ) → Adds line name.now by (map_of (names_of_program program.now) cells.old.items) (map_of (names_of_program program.now) cells.new.items) result }
-    ensures len { vec_len cells.new ≡ vec_len cells.old }
-{
-    let variables = Cells {
-        names: &program.names,
-        cells,
-    };
-    match variables.read(name).checked_add(by) {
-        Some(sum) => {
-            set_variable(program, name, sum, cells);
-            Ok(())
-        }
-        None => Err(FaultKind::F2),
-    }
-}
-
-// The records of a WRITE statement, or its fault.
+// The records of a WRITE statement, or its fault. The cells keep their values.
 #[tactic(auto, unfolding(meaning::specs::Values::and_then))]
 fn recorded_list(
     alloc: Global,
     program: &Program,
     label: &[u8],
     list: &Exprs,
-    cells: &[i32],
+    cells: &mut Whole,
 ) -> Result<Result<Vec<u8>, FaultKind>, AllocError>
-    requires { IsNumbered program.now }
-    ensures { IfOk result (λ r. Listed r (recorded (flatten (tree_of program.now)) (number_of label.now) (exprs_trees list.now) (map_of (names_of_program program.now) cells.now))) }
+    requires numbered { IsNumbered program.now }
+    requires sized { length cells.old ≡ cells_of (named_of_program program.now) }
+    ensures recorded { IfOk result (λ r. Listed r (recorded (flatten (tree_of program.now)) (number_of label.now) (exprs_trees list.now) (map_in program.now cells.old))) }
+    ensures kept { IfOk result (λ _. map_in program.now cells.new ≡ map_in program.now cells.old) }
+    ensures len { length cells.new ≡ length cells.old }
 {
-    let variables = Cells {
-        names: &program.names,
-        cells,
-    };
-    match values(alloc, list, &variables)? {
+    match values_whole(alloc, list, program, cells)? {
         Ok(found) => edited_list(alloc, program, label, &found),
         Err(kind) => Ok(Err(kind)),
     }
@@ -168,14 +87,17 @@ fn execute_assignment(
     program: &Program,
     line: u32,
     name: &[u8],
+    subscripts: &Exprs,
     expression: &Expr,
-    cells: &mut Vec<i32>,
+    cells: &mut Whole,
     turns: &mut u64,
 ) -> Option<Fault>
-    requires numbered { Holds program.now.names.keys name.now }
-    requires sized { vec_len cells.old ≡ length program.now.names.keys }
-    ensures does { (all : List ItemTree) → Does (λ go. step all (assignment name.now (expr_tree expression.now)) line (map_of (names_of_program program.now) cells.old.items) turns.old go) turns.old (map_of (names_of_program program.now) cells.new.items) turns.new result }
-    ensures len { vec_len cells.new ≡ vec_len cells.old }
+    requires numbered { IsNumbered program.now }
+    requires held { Holds program.now.names.keys name.now }
+    requires fits { length (dimensions_in (arrays_in program.now name.now)) ≡ count (exprs_tree subscripts.now) }
+    requires sized { length cells.old ≡ cells_of (named_of_program program.now) }
+    ensures does { Does (λ go. step (flatten (tree_of program.now)) (assignment name.now (exprs_tree subscripts.now) (expr_tree expression.now)) line (map_in program.now cells.old) turns.old go) turns.old (map_in program.now cells.new) turns.new result }
+    ensures len { length cells.new ≡ length cells.old }
 {
     if !take_turn(turns) {
         return Some(Fault {
@@ -183,7 +105,7 @@ fn execute_assignment(
             line,
         });
     }
-    match assign(program, name, expression, cells) {
+    match assign_whole(program, name, subscripts, expression, cells) {
         Ok(()) => None,
         Err(kind) => Some(Fault { kind, line }),
     }
@@ -196,13 +118,15 @@ fn execute_write<S: Sink>(
     line: u32,
     label: &[u8],
     list: &Exprs,
-    cells: &[i32],
+    cells: &mut Whole,
     turns: &mut u64,
     sink: &mut S,
 ) -> Result<Option<Fault>, Halt>
     requires numbered { IsNumbered program.now }
+    requires sized { length cells.old ≡ cells_of (named_of_program program.now) }
     requires unrefused { (S.told sink.old).refused ≡ false }
-    ensures steps { (unit : UnitTree) → Steps (λ go. step (flatten (tree_of program.now)) (writing unit label.now (exprs_trees list.now)) line (map_of (names_of_program program.now) cells.now) turns.old go) turns.old (map_of (names_of_program program.now) cells.now) turns.new result (S.told sink.old) (S.told sink.new) }
+    ensures steps { (unit : UnitTree) → Steps (λ go. step (flatten (tree_of program.now)) (writing unit label.now (exprs_trees list.now)) line (map_in program.now cells.old) turns.old go) turns.old (map_in program.now cells.new) turns.new result (S.told sink.old) (S.told sink.new) }
+    ensures len { length cells.new ≡ length cells.old }
 {
     if !take_turn(turns) {
         return Ok(Some(Fault {
@@ -238,22 +162,24 @@ pub fn execute_item<S: Sink>(
     alloc: Global,
     program: &Program,
     item: &Item,
-    cells: &mut Vec<i32>,
+    cells: &mut Whole,
     turns: &mut u64,
     sink: &mut S,
 ) -> Result<Option<Fault>, Halt>
     requires numbered { IsNumbered program.now }
-    requires named { HoldsAll program.now.names.keys (names_of (shape_tree item.now.form.shape)) }
-    requires sized { vec_len cells.old ≡ length program.now.names.keys }
+    requires known { IsKnown program.now (item_tree item.now) }
+    requires sized { length cells.old ≡ cells_of (named_of_program program.now) }
     requires unrefused { (S.told sink.old).refused ≡ false }
-    ensures steps { Steps (λ go. step (flatten (tree_of program.now)) (shape_tree item.now.form.shape) item.now.line (map_of (names_of_program program.now) cells.old.items) turns.old go) turns.old (map_of (names_of_program program.now) cells.new.items) turns.new result (S.told sink.old) (S.told sink.new) }
-    ensures len { vec_len cells.new ≡ vec_len cells.old }
+    ensures steps { Steps (λ go. step (flatten (tree_of program.now)) (shape_tree item.now.form.shape) item.now.line (map_in program.now cells.old) turns.old go) turns.old (map_in program.now cells.new) turns.new result (S.told sink.old) (S.told sink.new) }
+    ensures len { length cells.new ≡ length cells.old }
 {
     let line = item.line;
     match &item.form.shape {
-        Shape::Assignment { name, value } => Ok(execute_assignment(
-            program, line, name, value, cells, turns,
-        )),
+        Shape::Assignment {
+            name,
+            subscripts,
+            value,
+        } => Ok(execute_assignment(program, line, name, subscripts, value, cells, turns)),
         Shape::Write {
             unit: _,
             label,
@@ -262,6 +188,7 @@ pub fn execute_item<S: Sink>(
         Shape::Continue => Ok(execute_continue(line, turns)),
         Shape::Do { .. } => Ok(None),
         Shape::Format(_) => Ok(None),
+        Shape::Integer(_) => Ok(None),
         Shape::End => Ok(None),
     }
 }

@@ -10,6 +10,7 @@ use std::io;
 use std::io::{ErrorKind, Write};
 use std::test::*;
 
+mod arrays;
 mod loops;
 
 /// A writer in memory that takes at most `step` bytes a call and `room` bytes in all; past that it answers 0, or an

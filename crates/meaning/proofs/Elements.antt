@@ -79,7 +79,7 @@ below-product n (suc m) k i p q = let h = mul-le-mul (le_refl n) (le-of-suc i m 
 
 -- ---- places
 
-place-lt : (ds : List Dimension) (ss : List ℤ) (i : ℕ) → place ds ss ≡ Some i → i < size ds
+pub place-lt : (ds : List Dimension) (ss : List ℤ) (i : ℕ) → place ds ss ≡ Some i → i < size ds
 place-lt [] [] i h = let same : 0 ≡ i = cc in omega arith
 place-lt [] (s ∷ ss) i h = absurd cc
 place-lt (d ∷ ds) [] i h = absurd cc

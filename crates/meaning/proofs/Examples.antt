@@ -9,27 +9,27 @@ use Rattle.meaning.specs.declared.refusal.Rule.TheVariants.{G1, G2}
 use Rattle.meaning.specs.declared.ending.Ending.TheVariants as endings
 use Rattle.meaning.specs.declared.ending.Value.TheVariants as values
 use Rattle.meaning.specs.declared.ending.FaultKind.TheVariants.{F7}
-use Rattle.meaning.specs.Syntax.{number, name, signed, binary, paren, assignment, doing}
+use Rattle.meaning.specs.Syntax.{number, name, signed, binary, paren, no_exprs, assignment, doing}
 use Rattle.meaning.specs.Answers.{answer, program_of, members_of, run_of}
 use Rattle.meaning.specs.Statements.{statements_of, broken_lines, entries}
 use Rattle.meaning.specs.Lines.{lines_of, pieces, without_return, card}
 use Rattle.meaning.specs.BareText.{bare, bare_behind}
-use Rattle.meaning.specs.Reading.{read_shape, shape_of, assignment_of, writing_of, format_of, ending_of, before_last_parenthesis, doing_of, continuing_of, limits_at, comma_at, label_at, unit_at, list_of, expressions_at, whole_expression_at, expression_at, operations_at, front_at, primary_at, paren_at, name_at, operator_at, sign_at, run, after, most_open, is_left_out}
+use Rattle.meaning.specs.Reading.{read_shape, shape_of, assignment_of, writing_of, format_of, ending_of, before_last_parenthesis, doing_of, continuing_of, typing_of, declarator_at, dimensions_at, bounds_at, separated_at, name_or_element_at, subscripts_at, exprs_at, limits_at, comma_at, label_at, unit_at, list_of, expressions_at, whole_expression_at, expression_at, operations_at, front_at, primary_at, paren_at, name_at, operator_at, sign_at, run, after, most_open, is_left_out}
 use Rattle.meaning.specs.Kinds.{kind_of, marks_at, has_limits}
 use Rattle.meaning.specs.Spelling.{balanced}
 use Rattle.meaning.specs.Nesting.{nest, past, breaks, missing_end}
-use Rattle.meaning.specs.Rules.{checked, repeated_labels, reset_variables}
+use Rattle.meaning.specs.Rules.{checked, repeated_labels, reset_variables, repeats, disputed_names, have_too_large, large_arrays, dimensions_given, arrays_by}
 use Rattle.meaning.specs.Formats.{descriptors_of, descriptors_at, descriptor_at, behind_count, field, skip}
 use Rattle.meaning.specs.Execution.{exec, fuelled, pass_over, looped, fold_trips, goes_on, format_found, with_ok, turn, more}
 use Rattle.meaning.specs.Trips.{span_of, trips}
 use Rattle.meaning.specs.Arrays.{Dimension, place, cell_of}
 use Rattle.meaning.specs.Values.{value, values_of, integer}
-use Rattle.meaning.specs.Maps.{put, start, map_of}
+use Rattle.meaning.specs.Maps.{put, start, map_by}
 use Rattle.meaning.specs.Records.{edited, outcome_of, written, text_of, laid, course}
 
 -- every definition that stays folded elsewhere
 all_definitions : Unit {0}
-unfolding answer program_of members_of statements_of lines_of pieces without_return card broken_lines entries bare bare_behind read_shape shape_of kind_of marks_at has_limits assignment_of writing_of format_of ending_of doing_of continuing_of limits_at comma_at paren_at balanced before_last_parenthesis label_at unit_at list_of expressions_at whole_expression_at expression_at operations_at front_at primary_at name_at operator_at sign_at run after most_open is_left_out nest past breaks missing_end checked repeated_labels reset_variables descriptors_of descriptors_at descriptor_at behind_count run_of exec fuelled pass_over looped fold_trips goes_on span_of format_found with_ok turn more value values_of integer put start map_of edited outcome_of written text_of laid course digits
+unfolding answer program_of members_of statements_of lines_of pieces without_return card broken_lines entries bare bare_behind read_shape shape_of kind_of marks_at has_limits assignment_of writing_of format_of ending_of doing_of continuing_of typing_of declarator_at dimensions_at bounds_at separated_at name_or_element_at subscripts_at exprs_at limits_at comma_at paren_at balanced before_last_parenthesis label_at unit_at list_of expressions_at whole_expression_at expression_at operations_at front_at primary_at name_at operator_at sign_at run after most_open is_left_out nest past breaks missing_end checked repeated_labels reset_variables repeats disputed_names have_too_large large_arrays dimensions_given arrays_by descriptors_of descriptors_at descriptor_at behind_count run_of exec fuelled pass_over looped fold_trips goes_on span_of format_found with_ok turn more value values_of integer put start map_by edited outcome_of written text_of laid course digits
 all_definitions = tt
 
 -- blanks have no meaning outside apostrophes, and letters are raised there
@@ -43,17 +43,17 @@ unfolding all_definitions
 kind_by_equals = refl
 
 -- -A*B is -(A*B)
-sign_over_product : shape_of (codes "I=-A*B") ≡ Some (assignment (codes "I") (signed signs.Minus (binary operators.Multiply (name (codes "A")) (name (codes "B")))))
+sign_over_product : shape_of (codes "I=-A*B") ≡ Some (assignment (codes "I") no_exprs (signed signs.Minus (binary operators.Multiply (name (codes "A")) (name (codes "B")))))
 unfolding all_definitions
 sign_over_product = refl
 
 -- I-J-K groups from the left
-left_grouping : shape_of (codes "I=I-J-K") ≡ Some (assignment (codes "I") (binary operators.Subtract (binary operators.Subtract (name (codes "I")) (name (codes "J"))) (name (codes "K"))))
+left_grouping : shape_of (codes "I=I-J-K") ≡ Some (assignment (codes "I") no_exprs (binary operators.Subtract (binary operators.Subtract (name (codes "I")) (name (codes "J"))) (name (codes "K"))))
 unfolding all_definitions
 left_grouping = refl
 
 -- DO10I=1 is an assignment, and with a comma behind the equals sign it is a DO statement
-assignment_to_do10i : shape_of (codes "DO10I=1") ≡ Some (assignment (codes "DO10I") (number (codes "1")))
+assignment_to_do10i : shape_of (codes "DO10I=1") ≡ Some (assignment (codes "DO10I") no_exprs (number (codes "1")))
 unfolding all_definitions
 assignment_to_do10i = refl
 

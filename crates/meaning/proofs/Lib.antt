@@ -4,4 +4,5 @@ pub mod Running
 pub mod Limits
 pub mod Examples
 pub mod Stores
+pub mod Maps
 pub mod Elements

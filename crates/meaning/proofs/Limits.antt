@@ -4,11 +4,12 @@ use mathlib.Core.Path.{fun_ext}
 use Rattle.meaning.specs.declared.ending.FaultKind.{FaultKind}
 use Rattle.meaning.specs.declared.ending.Value.{Value}
 use Rattle.meaning.specs.Characters.{number_of}
-use Rattle.meaning.specs.Syntax.{ShapeTree, assignment, writing, format, doing, continuing, ending, ItemTree}
+use Rattle.meaning.specs.Syntax.{ExprsTree, ShapeTree, assignment, writing, format, doing, continuing, typing, ending, ItemTree}
+use Rattle.meaning.specs.Rules.{arrays_of}
 use Rattle.meaning.specs.Trees.{Members, none, plain, loop}
 use Rattle.meaning.specs.Trips.{span_of, trips}
 use Rattle.meaning.specs.Maps.{Map, put}
-use Rattle.meaning.specs.Values.{value, values_of, as_integer, integer}
+use Rattle.meaning.specs.Values.{Arrays, value, values_of, subscripts, dimensions_in, as_integer, integer}
 use Rattle.meaning.specs.Records.{edited}
 use Rattle.meaning.specs.Execution.{Outcome, normal, fault, Ran, more, ended, turn, with_ok, format_at, Meaning, Follow, goes_on, goes_on_by, step, added, fold_trips, trips_from, looped, pass_over, fuelled, exec}
 use Rattle.meaning.specs.Turns.{met_limit}
@@ -48,13 +49,16 @@ turn-used line m (suc t) go h = more-used [] 1 (go t) (suc t) (let k = h t in om
 
 module _ (program : List ItemTree) where
   step-used : (s : ShapeTree) (line : ℕ) (m : Map) (t : ℕ) (go : Follow) → Spares go → (step program s line m t go).used ≤ t
-  step-used (assignment target e) line m t go h =
-      turn-used line m t (λ u. with_ok (value e m) line m (λ v. go (put m target [] (as_integer v)) u)) (λ u. with_ok-used (value e m) line m u (λ v. go (put m target [] (as_integer v)) u) (λ v. h (put m target [] (as_integer v)) u))
+  step-used (assignment target es e) line m t go h =
+      let here = subscripts (arrays_of program) (dimensions_in (arrays_of program target)) es m in
+      let right = value (arrays_of program) e m in
+      turn-used line m t (λ u. with_ok here line m (λ ss. with_ok right line m (λ v. go (put m target ss (as_integer v)) u))) (λ u. with_ok-used here line m u (λ ss. with_ok right line m (λ v. go (put m target ss (as_integer v)) u)) (λ ss. with_ok-used right line m u (λ v. go (put m target ss (as_integer v)) u) (λ v. h (put m target ss (as_integer v)) u)))
   step-used (writing unit label es) line m t go h =
       let records : List Value → Result (List ℕ) FaultKind = λ vs. edited (format_at program (number_of label)) vs in
-      turn-used line m t (λ u. with_ok (values_of es m) line m (λ vs. with_ok (records vs) line m (λ r. more (r ∷ []) 0 (go m u)))) (λ u. with_ok-used (values_of es m) line m u (λ vs. with_ok (records vs) line m (λ r. more (r ∷ []) 0 (go m u))) (λ vs. with_ok-used (records vs) line m u (λ r. more (r ∷ []) 0 (go m u)) (λ r. more-used (r ∷ []) 0 (go m u) u (let k = h m u in omega arith))))
+      turn-used line m t (λ u. with_ok (values_of (arrays_of program) es m) line m (λ vs. with_ok (records vs) line m (λ r. more (r ∷ []) 0 (go m u)))) (λ u. with_ok-used (values_of (arrays_of program) es m) line m u (λ vs. with_ok (records vs) line m (λ r. more (r ∷ []) 0 (go m u))) (λ vs. with_ok-used (records vs) line m u (λ r. more (r ∷ []) 0 (go m u)) (λ r. more-used (r ∷ []) 0 (go m u) u (let k = h m u in omega arith))))
   step-used (format text) line m t go h = h m t
   step-used (doing label comma variable limits) line m t go h = h m t
+  step-used (typing ds) line m t go h = h m t
   step-used continuing line m t go h = turn-used line m t (λ u. go m u) (λ u. h m u)
   step-used ending line m t go h = h m t
 
@@ -64,15 +68,16 @@ fold_trips-used f line variable by range all_spared [] m t = omega arith
 fold_trips-used f line variable by range all_spared (i ∷ is) m t =
     goes_on-used (f range range m t) t (λ n u. added line variable by n (λ k. fold_trips f line variable by range is k u)) (all_spared range range m t) (λ n u. with_ok-used (integer (n variable [] +ℤ by)) line n u (λ v. fold_trips f line variable by range is (put n variable [] (as_integer v)) u) (λ v. fold_trips-used f line variable by range all_spared is (put n variable [] (as_integer v)) u))
 
-looped-used : (f : Meaning) → SparesAll f → (s : ShapeTree) (line : ℕ) (range : Members) (m : Map) (t : ℕ) (go : Follow) → Spares go → (looped f s line range m t go).used ≤ t
+looped-used : (arrays : Arrays) (f : Meaning) → SparesAll f → (s : ShapeTree) (line : ℕ) (range : Members) (m : Map) (t : ℕ) (go : Follow) → Spares go → (looped arrays f s line range m t go).used ≤ t
 unfolding looped
-looped-used f all_spared (doing label comma variable limits) line range m t go h =
-    turn-used line m t (λ u. with_ok (span_of limits m) line m (λ s. goes_on (trips_from f line variable range m u s) u go)) (λ u. with_ok-used (span_of limits m) line m u (λ s. goes_on (trips_from f line variable range m u s) u go) (λ s. goes_on-used (trips_from f line variable range m u s) u go (fold_trips-used f line variable s.step range all_spared (trips s.first s.last s.step) (put m variable [] s.first) u) h))
-looped-used f all_spared (assignment target e) line range m t go h = h m t
-looped-used f all_spared (writing unit label es) line range m t go h = h m t
-looped-used f all_spared (format text) line range m t go h = h m t
-looped-used f all_spared continuing line range m t go h = h m t
-looped-used f all_spared ending line range m t go h = h m t
+looped-used arrays f all_spared (doing label comma variable limits) line range m t go h =
+    turn-used line m t (λ u. with_ok (span_of arrays limits m) line m (λ s. goes_on (trips_from f line variable range m u s) u go)) (λ u. with_ok-used (span_of arrays limits m) line m u (λ s. goes_on (trips_from f line variable range m u s) u go) (λ s. goes_on-used (trips_from f line variable range m u s) u go (fold_trips-used f line variable s.step range all_spared (trips s.first s.last s.step) (put m variable [] s.first) u) h))
+looped-used arrays f all_spared (assignment target es e) line range m t go h = h m t
+looped-used arrays f all_spared (writing unit label es) line range m t go h = h m t
+looped-used arrays f all_spared (format text) line range m t go h = h m t
+looped-used arrays f all_spared continuing line range m t go h = h m t
+looped-used arrays f all_spared (typing ds) line range m t go h = h m t
+looped-used arrays f all_spared ending line range m t go h = h m t
 
 pass_over-used : (program : List ItemTree) (f : Meaning) → SparesAll f → (all rest : Members) (m : Map) (t : ℕ) → (pass_over program f all rest m t).used ≤ t
 unfolding pass_over
@@ -80,7 +85,7 @@ pass_over-used program f all_spared all none m t = omega arith
 pass_over-used program f all_spared all (plain x ms) m t =
     step-used program x.shape x.line m t (λ n u. pass_over program f all ms n u) (λ n u. pass_over-used program f all_spared all ms n u)
 pass_over-used program f all_spared all (loop x range ms) m t =
-    looped-used f all_spared x.shape x.line range m t (λ n u. pass_over program f all ms n u) (λ n u. pass_over-used program f all_spared all ms n u)
+    looped-used (arrays_of program) f all_spared x.shape x.line range m t (λ n u. pass_over program f all ms n u) (λ n u. pass_over-used program f all_spared all ms n u)
 
 fuelled-used : (program : List ItemTree) (n : ℕ) → SparesAll (fuelled program n)
 unfolding fuelled
@@ -147,13 +152,16 @@ run_on-steady run go steady follow t u le h =
 
 module _ (program : List ItemTree) where
   step-steady : (s : ShapeTree) (line : ℕ) (m : Map) (go : Follow) → SteadyFollow go → Steady (λ t. step program s line m t go)
-  step-steady (assignment target e) line m go h =
-      turn-steady line m (λ u. with_ok (value e m) line m (λ v. go (put m target [] (as_integer v)) u)) (with_ok-steady (value e m) line m (λ v u. go (put m target [] (as_integer v)) u) (λ v. h (put m target [] (as_integer v))))
+  step-steady (assignment target es e) line m go h =
+      let here = subscripts (arrays_of program) (dimensions_in (arrays_of program target)) es m in
+      let right = value (arrays_of program) e m in
+      turn-steady line m (λ u. with_ok here line m (λ ss. with_ok right line m (λ v. go (put m target ss (as_integer v)) u))) (with_ok-steady here line m (λ ss u. with_ok right line m (λ v. go (put m target ss (as_integer v)) u)) (λ ss. with_ok-steady right line m (λ v u. go (put m target ss (as_integer v)) u) (λ v. h (put m target ss (as_integer v)))))
   step-steady (writing unit label es) line m go h =
       let records : List Value → Result (List ℕ) FaultKind = λ vs. edited (format_at program (number_of label)) vs in
-      turn-steady line m (λ u. with_ok (values_of es m) line m (λ vs. with_ok (records vs) line m (λ r. more (r ∷ []) 0 (go m u)))) (with_ok-steady (values_of es m) line m (λ vs u. with_ok (records vs) line m (λ r. more (r ∷ []) 0 (go m u))) (λ vs. with_ok-steady (records vs) line m (λ r u. more (r ∷ []) 0 (go m u)) (λ r. more-steady (r ∷ []) 0 (λ u. go m u) (h m))))
+      turn-steady line m (λ u. with_ok (values_of (arrays_of program) es m) line m (λ vs. with_ok (records vs) line m (λ r. more (r ∷ []) 0 (go m u)))) (with_ok-steady (values_of (arrays_of program) es m) line m (λ vs u. with_ok (records vs) line m (λ r. more (r ∷ []) 0 (go m u))) (λ vs. with_ok-steady (records vs) line m (λ r u. more (r ∷ []) 0 (go m u)) (λ r. more-steady (r ∷ []) 0 (λ u. go m u) (h m))))
   step-steady (format text) line m go h = h m
   step-steady (doing label comma variable limits) line m go h = h m
+  step-steady (typing ds) line m go h = h m
   step-steady continuing line m go h = turn-steady line m (λ u. go m u) (h m)
   step-steady ending line m go h = h m
 
@@ -163,15 +171,16 @@ fold_trips-steady f line variable by range steady [] m t u le h = refl
 fold_trips-steady f line variable by range steady (i ∷ is) m t u le h =
     run_on-steady (λ t. f range range m t) (λ n u. added line variable by n (λ k. fold_trips f line variable by range is k u)) (steady range range m) (λ n. with_ok-steady (integer (n variable [] +ℤ by)) line n (λ v u. fold_trips f line variable by range is (put n variable [] (as_integer v)) u) (λ v. fold_trips-steady f line variable by range steady is (put n variable [] (as_integer v)))) t u le h
 
-looped-steady : (f : Meaning) → SteadyMeaning f → (s : ShapeTree) (line : ℕ) (range : Members) (m : Map) (go : Follow) → SteadyFollow go → Steady (λ t. looped f s line range m t go)
+looped-steady : (arrays : Arrays) (f : Meaning) → SteadyMeaning f → (s : ShapeTree) (line : ℕ) (range : Members) (m : Map) (go : Follow) → SteadyFollow go → Steady (λ t. looped arrays f s line range m t go)
 unfolding looped
-looped-steady f steady (doing label comma variable limits) line range m go h =
-    turn-steady line m (λ u. with_ok (span_of limits m) line m (λ s. goes_on (trips_from f line variable range m u s) u go)) (with_ok-steady (span_of limits m) line m (λ s u. goes_on (trips_from f line variable range m u s) u go) (λ s. run_on-steady (λ u. trips_from f line variable range m u s) go (fold_trips-steady f line variable s.step range steady (trips s.first s.last s.step) (put m variable [] s.first)) h))
-looped-steady f steady (assignment target e) line range m go h = h m
-looped-steady f steady (writing unit label es) line range m go h = h m
-looped-steady f steady (format text) line range m go h = h m
-looped-steady f steady continuing line range m go h = h m
-looped-steady f steady ending line range m go h = h m
+looped-steady arrays f steady (doing label comma variable limits) line range m go h =
+    turn-steady line m (λ u. with_ok (span_of arrays limits m) line m (λ s. goes_on (trips_from f line variable range m u s) u go)) (with_ok-steady (span_of arrays limits m) line m (λ s u. goes_on (trips_from f line variable range m u s) u go) (λ s. run_on-steady (λ u. trips_from f line variable range m u s) go (fold_trips-steady f line variable s.step range steady (trips s.first s.last s.step) (put m variable [] s.first)) h))
+looped-steady arrays f steady (assignment target es e) line range m go h = h m
+looped-steady arrays f steady (writing unit label es) line range m go h = h m
+looped-steady arrays f steady (format text) line range m go h = h m
+looped-steady arrays f steady continuing line range m go h = h m
+looped-steady arrays f steady (typing ds) line range m go h = h m
+looped-steady arrays f steady ending line range m go h = h m
 
 pass_over-steady : (program : List ItemTree) (f : Meaning) → SteadyMeaning f → SteadyMeaning (pass_over program f)
 unfolding pass_over
@@ -179,7 +188,7 @@ pass_over-steady program f steady all none m t u le h = refl
 pass_over-steady program f steady all (plain x ms) m t u le h =
     step-steady program x.shape x.line m (λ n u. pass_over program f all ms n u) (λ n. pass_over-steady program f steady all ms n) t u le h
 pass_over-steady program f steady all (loop x range ms) m t u le h =
-    looped-steady f steady x.shape x.line range m (λ n u. pass_over program f all ms n u) (λ n. pass_over-steady program f steady all ms n) t u le h
+    looped-steady (arrays_of program) f steady x.shape x.line range m (λ n u. pass_over program f all ms n u) (λ n. pass_over-steady program f steady all ms n) t u le h
 
 fuelled-steady : (program : List ItemTree) (n : ℕ) → SteadyMeaning (fuelled program n)
 unfolding fuelled

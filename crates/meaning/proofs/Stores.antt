@@ -1,7 +1,8 @@
 -- Reading and writing a store: what is known, what is kept, and when other values could have been read.
 use Rattle.std.proofs.Common.{◌≡◌, ℕ, ℤ, ◌==◌, ◌||◌, Bool, true, false, IsTrue, if◌then◌else◌, Option, Some, None, IsSome, unwrap_or, refl, sym, ap, ◌∙◌, subst, inl, inr}
+use Rattle.std.proofs.Math.Path.{fun_ext}
 use Rattle.std.proofs.lemmas.Bool.{eq-eqb, true≢false, false≢true}
-use Rattle.meaning.specs.Stores.{Cells, World, overlay, known, with_exposed, after_read, lose, LeavesRead, after_write, IsLater, Agrees}
+use Rattle.meaning.specs.Stores.{Cells, World, overlay, known, with_exposed, after_read, lose, LeavesRead, after_write, IsLater, Agrees, Reads, Does, with_value}
 
 -- ---- what is known
 
@@ -113,3 +114,73 @@ overlay-read m c before after (inl read) kept agrees =
     overlay-after_read m c before (subst (λ w. Agrees m w) read agrees)
 overlay-read m c before after (inr (none, lost)) kept agrees =
     absurd (true≢false (sym (lost-lose before) ∙ sym (ap (λ (w : World). w.lost) lost) ∙ kept))
+
+-- ---- evaluations
+
+-- what wasn't lost behind it wasn't lost before
+pub kept-earlier : (before after : World) → IsLater before after → after.lost ≡ false → before.lost ≡ false
+kept-earlier before after later kept = kept-by before.lost refl
+  where
+    kept-by : (b : Bool) → before.lost ≡ b → before.lost ≡ false
+    kept-by false e = e
+    kept-by true e = absurd (true≢false (sym (later.lost e) ∙ kept))
+
+written-after_read : (c : ℕ) (w : World) → (after_read c w).written ≡ w.written
+unfolding after_read
+written-after_read c w = refl
+
+written-lose : (w : World) → (lose w).written ≡ w.written
+unfolding lose
+written-lose w = refl
+
+unwritten-read : (c : ℕ) (before after : World) → LeavesRead c before after → after.written ≡ before.written
+unwritten-read c before after (inl read) = ap (λ (w : World). w.written) read ∙ written-after_read c before
+unwritten-read c before after (inr (none, lost)) = ap (λ (w : World). w.written) lost ∙ written-lose before
+
+-- nothing read
+pub reads_nothing : (w : World) (Q : Cells → Type 0) → ((m : Cells) → Q m) → Reads w w Q
+reads_nothing w Q h = record { grows = later-same w; unwritten = refl; means = λ kept m agrees. h (overlay m w.written) }
+
+-- a cell
+pub reads_cell : (c : ℕ) (before after : World) → LeavesRead c before after → Reads before after (λ m. m c ≡ known before c)
+reads_cell c before after read =
+    record { grows = later-read c before after read; unwritten = unwritten-read c before after read; means = λ kept m agrees. overlay-read m c before after read kept agrees }
+
+-- one behind another
+pub reads_then : (u v w : World) (P Q R : Cells → Type 0) → Reads u v P → Reads v w Q → ((m : Cells) → P m → Q m → R m) → Reads u w R
+reads_then u v w P Q R first second both =
+    record { grows = later-later u v w first.grows second.grows; unwritten = second.unwritten ∙ first.unwritten; means = λ kept m agrees. both (overlay m u.written) (first.means (kept-earlier v w second.grows kept) m (agrees-earlier m v w second.grows agrees)) (subst (λ written. Q (overlay m written)) first.unwritten (second.means kept m agrees)) }
+
+-- what follows from it
+pub reads_so : (u v : World) (P Q : Cells → Type 0) → Reads u v P → ((m : Cells) → P m → Q m) → Reads u v Q
+reads_so u v P Q reads so =
+    record { grows = reads.grows; unwritten = reads.unwritten; means = λ kept m agrees. so (overlay m u.written) (reads.means kept m agrees) }
+
+-- reading alone changes no value
+pub does_read : (u v : World) (P : Cells → Type 0) (Q : Cells → Cells → Type 0) → Reads u v P → ((m : Cells) → P m → Q m m) → Does u v Q
+does_read u v P Q reads so =
+    record { grows = reads.grows; means = λ kept m agrees. subst (λ written. Q (overlay m u.written) (overlay m written)) (sym reads.unwritten) (so (overlay m u.written) (reads.means kept m agrees)) }
+
+-- a write
+pub does_write : (c : ℕ) (v : ℤ) (before after : World) → after ≡ after_write c v before → Does before after (λ m n. n ≡ with_value m c v)
+does_write c v before after e =
+    record { grows = subst (λ w. IsLater before w) (sym e) (later-after_write c v before); means = λ kept m agrees. ap (λ (w : World). overlay m w.written) e ∙ fun_ext (λ d. overlay-after_write m c v before d) }
+
+pub does_then : (u v w : World) (P Q R : Cells → Cells → Type 0) → Does u v P → Does v w Q → ((m n k : Cells) → P m n → Q n k → R m k) → Does u w R
+does_then u v w P Q R first second both =
+    record { grows = later-later u v w first.grows second.grows; means = λ kept m agrees. both (overlay m u.written) (overlay m v.written) (overlay m w.written) (first.means (kept-earlier v w second.grows kept) m (agrees-earlier m v w second.grows agrees)) (second.means kept m agrees) }
+
+-- ---- of a store that lost nothing
+
+agrees-base : (w : World) → Agrees w.base w
+agrees-base w c h = refl
+
+pub reads_known : (u v : World) (P : Cells → Type 0) → v.lost ≡ false → Reads u v P → P (known u)
+unfolding known
+reads_known u v P kept reads =
+    subst (λ base. P (overlay base u.written)) reads.grows.base (reads.means kept v.base (agrees-base v))
+
+pub does_known : (u v : World) (P : Cells → Cells → Type 0) → v.lost ≡ false → Does u v P → P (known u) (known v)
+unfolding known
+does_known u v P kept does =
+    subst (λ base. P (overlay base u.written) (overlay v.base v.written)) does.grows.base (does.means kept v.base (agrees-base v))

@@ -1,7 +1,7 @@
 -- Arrays (ANSI X3.9-1978, 5.1 to 5.4): their dimensions, and the places of their elements among the cells of a program.
 use Rattle.std.specs.Prelude.{◌≡◌, ◌<◌, ℕ, ◌+◌, ◌*◌, ℤ, pos, negsuc, ◌+ℤ◌, ◌-ℤ◌, List, [], ◌∷◌, nat_lt, if◌then◌else◌, Option, Some, None, option_map}
 use Rattle.std.specs.Str.{bytes_eq}
-use Rattle.meaning.specs.Trips.{at_least_zero}
+use Rattle.meaning.specs.Characters.{at_least_zero}
 
 -- a dimension by its bounds (5.1.1.1)
 pub record Dimension : Type 0 where

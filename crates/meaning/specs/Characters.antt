@@ -1,5 +1,5 @@
 -- The characters of FORTRAN by their codes (ANSI X3.9-1978, 3.1): letters, digits, the blank and the apostrophe.
-use Rattle.std.specs.Prelude.{ℕ, ◌+◌, ◌-◌, ◌*◌, Bool, ◌&&◌, ◌||◌, List, [], ◌∷◌, nat_le, nat_lt, length, if◌then◌else◌}
+use Rattle.std.specs.Prelude.{ℕ, ℤ, pos, negsuc, ◌+◌, ◌-◌, ◌*◌, Bool, ◌&&◌, ◌||◌, List, [], ◌∷◌, nat_le, nat_lt, length, if◌then◌else◌}
 use Rattle.std.specs.List.{fold, list_all}
 
 abbrev pub blank : ℕ
@@ -39,3 +39,8 @@ is_name (c ∷ cs) = is_letter c && list_all is_alphanumeric cs && nat_le (lengt
 -- the digits of a statement label: one to five, not all zero (3.4)
 abbrev pub is_label : List ℕ → Bool
 is_label digits = is_number digits && nat_le (length digits) 5 && nat_lt 0 (number_of digits)
+
+-- a number, or 0 where it is less
+abbrev pub at_least_zero : ℤ → ℕ
+at_least_zero (pos n) = n
+at_least_zero (negsuc n) = 0

@@ -3,14 +3,14 @@ use Rattle.std.specs.Prelude.{unwrap_or, ℕ, zero, suc, ◌+◌, ◌-◌, ℤ, 
 use Rattle.meaning.specs.declared.ending.FaultKind.{FaultKind}
 use Rattle.meaning.specs.declared.ending.FaultKind.TheVariants.{F4}
 use Rattle.meaning.specs.Characters.{number_of}
-use Rattle.meaning.specs.Syntax.{ShapeTree, assignment, writing, format, doing, continuing, ending, ItemTree}
+use Rattle.meaning.specs.Syntax.{ShapeTree, assignment, writing, format, doing, continuing, typing, ending, ItemTree, ExprsTree}
 use Rattle.meaning.specs.Trees.{Members, none, plain, loop}
 use Rattle.meaning.specs.Trips.{Span, span_of, trips}
 use Rattle.meaning.specs.Formats.{Descriptor, descriptors_of}
 use Rattle.meaning.specs.Records.{edited}
-use Rattle.meaning.specs.Rules.{has_label}
+use Rattle.meaning.specs.Rules.{has_label, arrays_of}
 use Rattle.meaning.specs.Maps.{Map, put}
-use Rattle.meaning.specs.Values.{value, values_of, as_integer, integer}
+use Rattle.meaning.specs.Values.{Arrays, value, values_of, subscripts, dimensions_in, as_integer, integer}
 
 -- how a run ends
 pub data Outcome : Type 0 where
@@ -47,10 +47,11 @@ with_ok (Err k) line m go = failed k line m
 -- the descriptors of a FORMAT statement with the label; the rules leave one
 abbrev pub descriptors_if : Bool → ShapeTree → Option (List Descriptor)
 descriptors_if true (format text) = descriptors_of text
-descriptors_if true (assignment target e) = None
+descriptors_if true (assignment target subscripts e) = None
 descriptors_if true (writing unit label es) = None
 descriptors_if true (doing label comma variable limits) = None
 descriptors_if true continuing = None
+descriptors_if true (typing ds) = None
 descriptors_if true ending = None
 descriptors_if false s = None
 
@@ -84,12 +85,13 @@ goes_on r t go = goes_on_by r.outcome r t go
 -- ---- one statement, and then what follows it
 
 abbrev pub step : List ItemTree → ShapeTree → ℕ → Map → ℕ → Follow → Ran
-step program (assignment target e) line m t go =
-    turn line m t (λ u. with_ok (value e m) line m (λ v. go (put m target [] (as_integer v)) u))
+step program (assignment target es e) line m t go =
+    turn line m t (λ u. with_ok (subscripts (arrays_of program) (dimensions_in (arrays_of program target)) es m) line m (λ ss. with_ok (value (arrays_of program) e m) line m (λ v. go (put m target ss (as_integer v)) u)))
 step program (writing unit label es) line m t go =
-    turn line m t (λ u. with_ok (values_of es m) line m (λ vs. with_ok (edited (format_at program (number_of label)) vs) line m (λ records. more (records ∷ []) 0 (go m u))))
+    turn line m t (λ u. with_ok (values_of (arrays_of program) es m) line m (λ vs. with_ok (edited (format_at program (number_of label)) vs) line m (λ records. more (records ∷ []) 0 (go m u))))
 step program (format text) line m t go = go m t
 step program (doing label comma variable limits) line m t go = go m t
+step program (typing ds) line m t go = go m t
 step program continuing line m t go = turn line m t (λ u. go m u)
 step program ending line m t go = go m t
 
@@ -110,14 +112,15 @@ abbrev pub trips_from : Meaning → ℕ → List ℕ → Members → Map → ℕ
 trips_from rec line variable range m t s =
     fold_trips rec line variable s.step range (trips s.first s.last s.step) (put m variable [] s.first) t
 
-unfoldable pub looped : Meaning → ShapeTree → ℕ → Members → Map → ℕ → Follow → Ran
-looped rec (doing label comma variable limits) line range m t go =
-    turn line m t (λ u. with_ok (span_of limits m) line m (λ s. goes_on (trips_from rec line variable range m u s) u go))
-looped rec (assignment target e) line range m t go = go m t
-looped rec (writing unit label es) line range m t go = go m t
-looped rec (format text) line range m t go = go m t
-looped rec continuing line range m t go = go m t
-looped rec ending line range m t go = go m t
+unfoldable pub looped : Arrays → Meaning → ShapeTree → ℕ → Members → Map → ℕ → Follow → Ran
+looped arrays rec (doing label comma variable limits) line range m t go =
+    turn line m t (λ u. with_ok (span_of arrays limits m) line m (λ s. goes_on (trips_from rec line variable range m u s) u go))
+looped arrays rec (assignment target es e) line range m t go = go m t
+looped arrays rec (writing unit label es) line range m t go = go m t
+looped arrays rec (format text) line range m t go = go m t
+looped arrays rec continuing line range m t go = go m t
+looped arrays rec (typing ds) line range m t go = go m t
+looped arrays rec ending line range m t go = go m t
 
 -- ---- lists
 
@@ -126,7 +129,7 @@ unfoldable pub pass_over : List ItemTree → Meaning → Meaning
 pass_over program rec all none m t = ended m
 pass_over program rec all (plain x ms) m t = step program x.shape x.line m t (λ n u. pass_over program rec all ms n u)
 pass_over program rec all (loop x range ms) m t =
-    looped rec x.shape x.line range m t (λ n u. pass_over program rec all ms n u)
+    looped (arrays_of program) rec x.shape x.line range m t (λ n u. pass_over program rec all ms n u)
 
 abbrev pub never : Meaning
 never all rest m t = ended m

@@ -5,7 +5,7 @@ use Rattle.std.specs.List.{starts_with, list_any}
 use Rattle.meaning.specs.declared.syntax.Kind.{Kind}
 use Rattle.meaning.specs.declared.syntax.Kind.TheVariants as kinds
 use Rattle.meaning.specs.Characters.{apostrophe}
-use Rattle.meaning.specs.Syntax.{ShapeTree, assignment, writing, format, doing, continuing, ending}
+use Rattle.meaning.specs.Syntax.{ShapeTree, assignment, writing, format, doing, continuing, typing, ending}
 use Rattle.std.specs.Prelude.{nat_eq}
 
 -- the equals signs and commas of a text that stand outside parentheses and apostrophes
@@ -34,12 +34,14 @@ kind_of text =
     else (if starts_with nat_eq text (codes "FORMAT(") then kinds.Format
     else (if starts_with nat_eq text (codes "END") then kinds.End
     else (if starts_with nat_eq text (codes "CONTINUE") then kinds.Continue
-    else kinds.Other))))
+    else (if starts_with nat_eq text (codes "INTEGER") then kinds.Integer
+    else kinds.Other)))))
 
 abbrev pub kind_of_shape : ShapeTree → Kind
-kind_of_shape (assignment target e) = kinds.Assignment
+kind_of_shape (assignment target subscripts e) = kinds.Assignment
 kind_of_shape (writing unit label es) = kinds.Write
 kind_of_shape (format text) = kinds.Format
 kind_of_shape (doing label comma variable limits) = kinds.Do
 kind_of_shape continuing = kinds.Continue
+kind_of_shape (typing declarators) = kinds.Integer
 kind_of_shape ending = kinds.End

@@ -1,12 +1,13 @@
--- How statements nest as a program unit: the ranges of DO statements, and END (ANSI X3.9-1978, 3.5 and 11.10).
+-- How statements nest as a program unit: the order of type statements, the ranges of DO statements, and END (ANSI
+-- X3.9-1978, 3.5 and 11.10).
 use Rattle.std.specs.Prelude.{◌≡◌, ℕ, suc, ◌<◌, ◌^◌, Bool, true, false, not, ◌&&◌, ◌||◌, List, [], ◌∷◌, ◌++◌, length, nat_le, min, if◌then◌else◌, Option, Some, None, is_some, Result, IsTrue, IsFalse, ◌⊎◌}
 use Rattle.std.specs.List.{AllByRecursion, fold, list_any}
 use Rattle.meaning.specs.declared.refusal.Broken.{Broken}
 use Rattle.meaning.specs.declared.refusal.Rule.{Rule}
-use Rattle.meaning.specs.declared.refusal.Rule.TheVariants.{N2, N4, N5}
+use Rattle.meaning.specs.declared.refusal.Rule.TheVariants.{N1, N2, N4, N5}
 use Rattle.meaning.specs.Characters.{number_of}
 use Rattle.meaning.specs.Trees.{Members, none, plain, loop, Nested, flat, flatten}
-use Rattle.meaning.specs.Syntax.{ShapeTree, assignment, writing, format, doing, continuing, ending, ItemTree}
+use Rattle.meaning.specs.Syntax.{ShapeTree, assignment, writing, format, doing, continuing, typing, ending, ItemTree}
 use Rattle.meaning.specs.Refusals.{merge, unless, is_less}
 use Rattle.meaning.specs.Rules.{is_label_at, has_label}
 
@@ -14,27 +15,50 @@ use Rattle.meaning.specs.Rules.{is_label_at, has_label}
 
 abbrev pub is_end : ShapeTree → Bool
 is_end ending = true
-is_end (assignment target e) = false
+is_end (assignment target subscripts e) = false
 is_end (writing unit label es) = false
 is_end (format text) = false
 is_end (doing label comma variable limits) = false
 is_end continuing = false
+is_end (typing declarators) = false
+
+-- a statement that is executed (7.1)
+abbrev pub is_executable : ShapeTree → Bool
+is_executable (assignment target subscripts e) = true
+is_executable (writing unit label es) = true
+is_executable (doing label comma variable limits) = true
+is_executable continuing = true
+is_executable ending = true
+is_executable (format text) = false
+is_executable (typing declarators) = false
+
+-- a type statement (8.4)
+abbrev pub is_typing : ShapeTree → Bool
+is_typing (typing declarators) = true
+is_typing (assignment target subscripts e) = false
+is_typing (writing unit label es) = false
+is_typing (format text) = false
+is_typing (doing label comma variable limits) = false
+is_typing continuing = false
+is_typing ending = false
 
 -- the label that a DO statement names (11.10); 4294967296 stands for what is more, which no statement has
 abbrev pub named : ShapeTree → Option ℕ
 named (doing label comma variable limits) = Some (min (number_of label) (2 ^ 32))
-named (assignment target e) = None
+named (assignment target subscripts e) = None
 named (writing unit label es) = None
 named (format text) = None
 named continuing = None
+named (typing declarators) = None
 named ending = None
 
 -- a terminal statement is executable and is neither DO nor END (11.10)
 abbrev pub may_end : ShapeTree → Bool
-may_end (assignment target e) = true
+may_end (assignment target subscripts e) = true
 may_end (writing unit label es) = true
 may_end continuing = true
 may_end (format text) = false
+may_end (typing declarators) = false
 may_end (doing label comma variable limits) = false
 may_end ending = false
 
@@ -73,13 +97,23 @@ IsWell around (plain x ms) = IsPlain x.shape × IsWell around ms
 IsWell around (loop x range ms) =
     (around < 32) × IsRangeOf x.shape (flat range) × IsWell (suc around) range × IsWell around ms
 
--- END is the last statement of the body and stands nowhere else (3.5)
+-- type statements stand before every executable statement (3.5): no statement of a front is executable, and none behind it is
+-- a type statement
+pub record HasTypesFirst (items : List ItemTree) : Type 0 where
+  pub front : List ItemTree
+  pub back : List ItemTree
+  pub parts : items ≡ front ++ back
+  pub unexecuted : AllByRecursion (λ x. IsFalse (is_executable x.shape)) front
+  pub untyped : AllByRecursion (λ x. IsFalse (is_typing x.shape)) back
+
+-- type statements stand first, and END is the last statement of the body and stands nowhere else (3.5)
 pub record IsProgram (t : Nested) : Type 0 where
   pub front : Members
   pub last : ItemTree
   pub parts : t.body ≡ joined front (plain last none)
   pub well : IsWell 0 front
   pub closed : IsTrue (is_end last.shape)
+  pub types : HasTypesFirst (flatten t)
 
 -- the statements nest as the program unit
 pub record NestsAs (items : List ItemTree) (t : Nested) : Type 0 where
@@ -169,14 +203,23 @@ is_crossing names x =
 abbrev pub is_too_deep : List ℕ → ItemTree → Bool
 is_too_deep names x = is_some (named x.shape) && nat_le 32 (length names)
 
--- the least rule that a statement breaks there; N2: nothing stands behind END
-unfoldable pub breaks : Unfinished → ItemTree → Option Rule
-breaks z x =
-    if is_ended z then Some N2
+-- N1: a type statement where an executable statement was read
+abbrev pub is_late : Bool → ItemTree → Bool
+is_late executable x = executable && is_typing x.shape
+
+-- the least rule that a statement breaks there, by whether an executable statement was read; N2: nothing stands behind END
+unfoldable pub breaks : Bool → Unfinished → ItemTree → Option Rule
+breaks executable z x =
+    if is_late executable x then Some N1
+    else (if is_ended z then Some N2
     else (if is_crossing (labels z) x then Some N4
-    else (if is_too_deep (labels z) x then Some N5 else None))
+    else (if is_too_deep (labels z) x then Some N5 else None)))
 
 -- ---- reading
+
+-- some statement is executable
+abbrev pub has_executable : List ItemTree → Bool
+has_executable items = list_any (λ (x : ItemTree). is_executable x.shape) items
 
 -- no statement is END
 abbrev pub lacks_end : List ItemTree → Bool
@@ -195,14 +238,15 @@ abbrev pub told_first : ItemTree → Option Rule → Option Broken → Option Br
 told_first x (Some rule) later = Some (record { line = x.line; rule = rule })
 told_first x None later = later
 
--- the first statement that breaks a rule behind those before it
-abbrev pub first_broken : Unfinished → List ItemTree → Option Broken
-first_broken z [] = None
-first_broken z (x ∷ xs) = told_first x (breaks z x) (first_broken (past z x) xs)
+-- the first statement that breaks a rule behind those before it, by whether one of these is executable
+abbrev pub first_broken : Bool → Unfinished → List ItemTree → Option Broken
+first_broken executable z [] = None
+first_broken executable z (x ∷ xs) =
+    told_first x (breaks executable z x) (first_broken (executable || is_executable x.shape) (past z x) xs)
 
 -- the program unit of the statements, or the least broken pair
 unfoldable pub nest : List ItemTree → Result Nested Broken
-nest items = unless (merge (missing_end items) (first_broken start items)) (record { body = innermost (behind start items) })
+nest items = unless (merge (missing_end items) (first_broken false start items)) (record { body = innermost (behind start items) })
 
 -- ---- refusals
 
@@ -220,7 +264,7 @@ pub record GoesTooFar (items : List ItemTree) (b : Broken) : Type 0 where
   pub viable : IsViable front
   pub over : ¬ IsViable (front ++ member ∷ [])
   pub at : b.line ≡ member.line
-  pub rule_is : breaks (behind start front) member ≡ Some b.rule
+  pub rule_is : breaks (has_executable front) (behind start front) member ≡ Some b.rule
 
 abbrev pub IsBroken : List ItemTree → Broken → Type 0
 IsBroken items b = LacksEnd items b ⊎ GoesTooFar items b

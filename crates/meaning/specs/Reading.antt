@@ -9,7 +9,7 @@ use Rattle.meaning.specs.declared.syntax.Kind.TheVariants as kinds
 use Rattle.meaning.specs.declared.refusal.Rule.{Rule}
 use Rattle.meaning.specs.declared.refusal.Rule.TheVariants.{G1, G2, G3}
 use Rattle.meaning.specs.Characters.{is_digit, is_alphanumeric, is_name, is_label, apostrophe}
-use Rattle.meaning.specs.Syntax.{ExprTree, number, name, signed, binary, paren, UnitTree, star, unit_number, LimitsTree, ShapeTree, assignment, writing, format, doing, continuing, ending}
+use Rattle.meaning.specs.Syntax.{ExprTree, number, name, signed, binary, paren, element, ExprsTree, no_exprs, exprs, BoundsTree, DeclaratorTree, UnitTree, star, unit_number, LimitsTree, ShapeTree, assignment, writing, format, doing, continuing, typing, ending}
 use Rattle.meaning.specs.Spelling.{level, level_of, balanced}
 use Rattle.meaning.specs.Kinds.{kind_of}
 
@@ -75,14 +75,36 @@ unfoldable pub paren_at : (ℕ → Reader ExprTree) → Reader ExprTree
 unfolding ◌>>=◌
 paren_at rec t = rec 0 t >>= λ e. after (41 ∷ []) e.1 >>= λ rest. Some (paren e.0, rest)
 
--- digits, a name, or an expression in parentheses
+-- expressions of the weakest level with commas between, one at least and so many at most
+unfoldable pub exprs_at : (ℕ → Reader ExprTree) → ℕ → Reader ExprsTree
+unfolding ◌>>=◌ either
+exprs_at rec zero t = None
+exprs_at rec (suc n) t =
+    rec 0 t >>= λ e. either (after (44 ∷ []) e.1) (Some (exprs e.0 no_exprs, e.1)) (λ rest. exprs_at rec n rest >>= λ es. Some (exprs e.0 es.0, es.1))
+
+-- subscripts in parentheses, or none
+unfoldable pub subscripts_at : (ℕ → Reader ExprTree) → Reader ExprsTree
+unfolding ◌>>=◌ either
+subscripts_at rec t =
+    either (after (40 ∷ []) t) (Some (no_exprs, t)) (λ rest. exprs_at rec (suc (length rest)) rest >>= λ es. after (41 ∷ []) es.1 >>= λ behind. Some (es.0, behind))
+
+-- a name, or with subscripts an element
+abbrev pub named_by : List ℕ → ExprsTree → ExprTree
+named_by letters no_exprs = name letters
+named_by letters (exprs e es) = element letters (exprs e es)
+
+unfoldable pub name_or_element_at : (ℕ → Reader ExprTree) → Reader ExprTree
+unfolding ◌>>=◌
+name_or_element_at rec t = name_at t >>= λ n. subscripts_at rec n.1 >>= λ es. Some (named_by n.0 es.0, es.1)
+
+-- digits, a name, an element, or an expression in parentheses
 unfoldable pub primary_at : (ℕ → Reader ExprTree) → Reader ExprTree
 unfolding ◌>>=◌
 primary_at rec [] = None
 primary_at rec (c ∷ t) =
     if is_digit c then Some (number (run is_digit (c ∷ t)).0, (run is_digit (c ∷ t)).1)
     else (if c == 40 then paren_at rec t
-    else (name_at (c ∷ t) >>= λ n. Some (name n.0, n.1)))
+    else name_or_element_at rec (c ∷ t))
 
 -- what an expression of a level begins with: a sign and one term, where the level lets a sign stand, or a primary
 unfoldable pub front_at : (ℕ → Reader ExprTree) → ℕ → Reader ExprTree
@@ -148,10 +170,11 @@ unfoldable pub assignment_of : Text → Option ShapeTree
 unfolding ◌>>=◌
 assignment_of t = do
   n ← name_at t
-  rest ← after (61 ∷ []) n.1
+  es ← subscripts_at (λ least rest. whole_expression_at rest) n.1
+  rest ← after (61 ∷ []) es.1
   e ← whole_expression_at rest
   v ← at_end e
-  Some (assignment n.0 v)
+  Some (assignment n.0 es.0 v)
 
 unfoldable pub writing_of : Text → Option ShapeTree
 unfolding ◌>>=◌
@@ -207,6 +230,38 @@ continuing_of t = do
   rest ← after (codes "CONTINUE") t
   at_end (continuing, rest)
 
+-- ---- type statements
+
+-- bounds: an expression, or two with a colon between
+unfoldable pub bounds_at : Reader BoundsTree
+unfolding ◌>>=◌ either
+bounds_at t =
+    whole_expression_at t >>= λ e. either (after (58 ∷ []) e.1) (Some (record { lower = None; upper = e.0 }, e.1)) (λ rest. whole_expression_at rest >>= λ u. Some (record { lower = Some e.0; upper = u.0 }, u.1))
+
+-- some with commas between, one at least and so many at most
+unfoldable pub separated_at : {A : Type 0} → Reader A → ℕ → Reader (List A)
+unfolding ◌>>=◌ either
+separated_at one zero t = None
+separated_at one (suc n) t =
+    one t >>= λ x. either (after (44 ∷ []) x.1) (Some (x.0 ∷ [], x.1)) (λ rest. separated_at one n rest >>= λ xs. Some (x.0 ∷ xs.0, xs.1))
+
+unfoldable pub dimensions_at : Reader (List BoundsTree)
+unfolding ◌>>=◌ either
+dimensions_at t =
+    either (after (40 ∷ []) t) (Some ([], t)) (λ rest. separated_at bounds_at (suc (length rest)) rest >>= λ bs. after (41 ∷ []) bs.1 >>= λ behind. Some (bs.0, behind))
+
+unfoldable pub declarator_at : Reader DeclaratorTree
+unfolding ◌>>=◌
+declarator_at t = name_at t >>= λ n. dimensions_at n.1 >>= λ bs. Some (record { name = n.0; bounds = bs.0 }, bs.1)
+
+unfoldable pub typing_of : Text → Option ShapeTree
+unfolding ◌>>=◌
+typing_of t = do
+  rest ← after (codes "INTEGER") t
+  ds ← separated_at declarator_at (suc (length rest)) rest
+  all ← at_end ds
+  Some (typing all)
+
 -- the form that a bare text reads as
 unfoldable pub shape_of : Text → Option ShapeTree
 shape_of t = elim (kind_of t) [
@@ -215,6 +270,7 @@ shape_of t = elim (kind_of t) [
   | kinds.Format ↦ format_of t
   | kinds.Do ↦ doing_of t
   | kinds.Continue ↦ continuing_of t
+  | kinds.Integer ↦ typing_of t
   | kinds.End ↦ ending_of t
   | kinds.Other ↦ None
 ]

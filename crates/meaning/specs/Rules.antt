@@ -1,75 +1,180 @@
--- The rules on labels, names, constants, DO variables, units and formats (ANSI X3.9-1978, 2.5, 3.4, 4.1.2, 4.3, 11.10.5,
--- 12.3, 12.4 and 13.1).
-use Rattle.std.specs.Prelude.{ℕ, pos, negsuc, Bool, true, false, ◌&&◌, ◌||◌, not, List, [], ◌∷◌, ◌++◌, nat_le, nat_lt, ◌==◌, Option, Some, None, Result, Ok, Err, flat_map, is_none}
+-- The rules on labels, names, constants, arrays, DO variables, units and formats (ANSI X3.9-1978, 2.5, 3.4, 4.1.2, 4.3, 5.1 to
+-- 5.4, 8.4.1, 11.10.5, 12.3, 12.4 and 13.1).
+use Rattle.std.specs.Prelude.{ℕ, suc, ◌+◌, ℤ, pos, negsuc, int_lt, length, map, sum_by, is_some, is_err, if◌then◌else◌, Bool, true, false, ◌&&◌, ◌||◌, not, List, [], ◌∷◌, ◌++◌, nat_le, nat_lt, ◌==◌, Option, Some, None, Result, Ok, Err, flat_map, is_none}
 use Rattle.std.specs.List.{list_any}
 use Rattle.std.specs.Str.{bytes_eq}
 use Rattle.meaning.specs.declared.refusal.Broken.{Broken}
-use Rattle.meaning.specs.declared.refusal.Rule.TheVariants.{K1, K3, K6, K9, K11}
+use Rattle.meaning.specs.declared.refusal.Rule.TheVariants.{K1, K3, K4, K6, K7, K8, K9, K11, K12, K13}
 use Rattle.meaning.specs.declared.ending.Value.TheVariants as values
 use Rattle.meaning.specs.Characters.{number_of}
-use Rattle.meaning.specs.Syntax.{ExprTree, number, name, signed, binary, paren, UnitTree, star, unit_number, LimitsTree, ShapeTree, assignment, writing, format, doing, continuing, ending, ItemTree}
+use Rattle.meaning.specs.Syntax.{listed, ExprTree, number, name, signed, binary, paren, element, ExprsTree, no_exprs, exprs, BoundsTree, DeclaratorTree, UnitTree, star, unit_number, LimitsTree, ShapeTree, assignment, writing, format, doing, continuing, typing, ending, ItemTree}
 use Rattle.meaning.specs.Refusals.{least, unless}
 use Rattle.meaning.specs.Statements.{broken_if}
 use Rattle.meaning.specs.Trees.{Members, none, plain, loop, Nested, flatten}
 use Rattle.meaning.specs.Formats.{descriptors_of}
 use Rattle.meaning.specs.Maps.{start}
-use Rattle.meaning.specs.Values.{Valued, value}
+use Rattle.meaning.specs.Values.{Valued, value, Arrays, as_integer}
+use Rattle.meaning.specs.Arrays.{Dimension, size}
 
 -- ---- what stands in expressions and statements, from the left
 
-abbrev pub names_in : ExprTree → List (List ℕ)
-names_in (number digits) = []
-names_in (name letters) = letters ∷ []
-names_in (signed sign e) = names_in e
-names_in (binary operator a b) = names_in a ++ names_in b
-names_in (paren e) = names_in e
+abbrev pub count : ExprsTree → ℕ
+count no_exprs = 0
+count (exprs e es) = suc (count es)
 
-abbrev pub numbers_in : ExprTree → List (List ℕ)
-numbers_in (number digits) = digits ∷ []
-numbers_in (name letters) = []
-numbers_in (signed sign e) = numbers_in e
-numbers_in (binary operator a b) = numbers_in a ++ numbers_in b
-numbers_in (paren e) = numbers_in e
+-- a use of a name: without subscripts, or with so many
+pub record Use : Type 0 where
+  pub name : List ℕ
+  pub subscripts : Option ℕ
+
+abbrev pub bare_use : List ℕ → Use
+bare_use n = record { name = n; subscripts = None }
+
+abbrev mutual
+  pub uses_in : ExprTree → List Use
+  uses_in (number digits) = []
+  uses_in (name letters) = bare_use letters ∷ []
+  uses_in (signed sign e) = uses_in e
+  uses_in (binary operator a b) = uses_in a ++ uses_in b
+  uses_in (paren e) = uses_in e
+  uses_in (element letters es) = record { name = letters; subscripts = Some (count es) } ∷ uses_in_all es
+
+  pub uses_in_all : ExprsTree → List Use
+  uses_in_all no_exprs = []
+  uses_in_all (exprs e es) = uses_in e ++ uses_in_all es
+
+abbrev mutual
+  pub numbers_in : ExprTree → List (List ℕ)
+  numbers_in (number digits) = digits ∷ []
+  numbers_in (name letters) = []
+  numbers_in (signed sign e) = numbers_in e
+  numbers_in (binary operator a b) = numbers_in a ++ numbers_in b
+  numbers_in (paren e) = numbers_in e
+  numbers_in (element letters es) = numbers_in_all es
+
+  pub numbers_in_all : ExprsTree → List (List ℕ)
+  numbers_in_all no_exprs = []
+  numbers_in_all (exprs e es) = numbers_in e ++ numbers_in_all es
 
 abbrev pub unit_exprs : UnitTree → List ExprTree
 unit_exprs star = []
 unit_exprs (unit_number e) = e ∷ []
 
-abbrev pub step_exprs : Option ExprTree → List ExprTree
-step_exprs None = []
-step_exprs (Some e) = e ∷ []
+abbrev pub option_exprs : Option ExprTree → List ExprTree
+option_exprs None = []
+option_exprs (Some e) = e ∷ []
 
 abbrev pub limit_exprs : LimitsTree → List ExprTree
-limit_exprs l = l.first ∷ (l.last ∷ step_exprs l.step)
+limit_exprs l = l.first ∷ (l.last ∷ option_exprs l.step)
+
+abbrev pub bounds_exprs : BoundsTree → List ExprTree
+bounds_exprs b = option_exprs b.lower ++ b.upper ∷ []
+
+abbrev pub declarator_exprs : DeclaratorTree → List ExprTree
+declarator_exprs d = flat_map bounds_exprs d.bounds
 
 -- the expressions of a statement
 abbrev pub exprs_of : ShapeTree → List ExprTree
-exprs_of (assignment target e) = e ∷ []
+exprs_of (assignment target subscripts e) = listed subscripts ++ e ∷ []
 exprs_of (writing unit label es) = unit_exprs unit ++ es
 exprs_of (format text) = []
 exprs_of (doing label comma variable limits) = limit_exprs limits
 exprs_of continuing = []
+exprs_of (typing ds) = flat_map declarator_exprs ds
 exprs_of ending = []
 
 -- the variable that a statement sets, if it sets one
+abbrev pub target_by : List ℕ → ExprsTree → List (List ℕ)
+target_by target no_exprs = target ∷ []
+target_by target (exprs e es) = []
+
 abbrev pub targets_of : ShapeTree → List (List ℕ)
-targets_of (assignment target e) = target ∷ []
+targets_of (assignment target subscripts e) = target_by target subscripts
 targets_of (writing unit label es) = []
 targets_of (format text) = []
 targets_of (doing label comma variable limits) = variable ∷ []
 targets_of continuing = []
+targets_of (typing ds) = []
 targets_of ending = []
 
--- the variables of a statement
-abbrev pub names_of : ShapeTree → List (List ℕ)
-names_of s = targets_of s ++ flat_map names_in (exprs_of s)
+-- the element that a statement sets, if it sets one
+abbrev pub element_by : List ℕ → ExprsTree → List Use
+element_by target no_exprs = []
+element_by target (exprs e es) = record { name = target; subscripts = Some (count (exprs e es)) } ∷ []
+
+abbrev pub elements_set : ShapeTree → List Use
+elements_set (assignment target subscripts e) = element_by target subscripts
+elements_set (writing unit label es) = []
+elements_set (format text) = []
+elements_set (doing label comma variable limits) = []
+elements_set continuing = []
+elements_set (typing ds) = []
+elements_set ending = []
+
+-- the uses in the expressions of a statement, and all of them
+abbrev pub expression_uses : ShapeTree → List Use
+expression_uses s = flat_map uses_in (exprs_of s)
+
+abbrev pub uses_of : ShapeTree → List Use
+uses_of s = map bare_use (targets_of s) ++ (elements_set s ++ expression_uses s)
+
+-- ---- declarations (8.4.1)
+
+abbrev pub declarators_in : ShapeTree → List DeclaratorTree
+declarators_in (typing ds) = ds
+declarators_in (assignment target subscripts e) = []
+declarators_in (writing unit label es) = []
+declarators_in (format text) = []
+declarators_in (doing label comma variable limits) = []
+declarators_in continuing = []
+declarators_in ending = []
+
+abbrev pub declarators : List ItemTree → List DeclaratorTree
+declarators all = flat_map (λ x. declarators_in x.shape) all
+
+abbrev pub declares : List ℕ → DeclaratorTree → Bool
+declares n d = bytes_eq n d.name
+
+abbrev pub is_declared : List DeclaratorTree → List ℕ → Bool
+is_declared ds n = list_any (declares n) ds
+
+-- how many dimensions a name is given, if it is given bounds
+unfoldable pub dimensions_given : List DeclaratorTree → List ℕ → Option ℕ
+dimensions_given [] n = None
+dimensions_given (d ∷ ds) n =
+    if declares n d && nat_lt 0 (length d.bounds) then Some (length d.bounds) else dimensions_given ds n
+
+abbrev pub is_array : List DeclaratorTree → List ℕ → Bool
+is_array ds n = is_some (dimensions_given ds n)
+
+-- the values of bounds; the rules leave constants that don't fault
+abbrev pub or_zero : Valued → ℤ
+or_zero (Ok v) = as_integer v
+or_zero (Err k) = pos 0
+
+abbrev pub no_arrays : Arrays
+no_arrays n = None
+
+abbrev pub lower_value : Option ExprTree → ℤ
+lower_value None = pos 1
+lower_value (Some e) = or_zero (value no_arrays e start)
+
+abbrev pub dimension_of : BoundsTree → Dimension
+dimension_of b = record { lower = lower_value b.lower; upper = or_zero (value no_arrays b.upper start) }
+
+abbrev pub array_if : Bool → DeclaratorTree → Option (List Dimension) → Option (List Dimension)
+array_if true d o = Some (map dimension_of d.bounds)
+array_if false d o = o
+
+-- the dimensions of the arrays
+unfoldable pub arrays_by : List DeclaratorTree → Arrays
+arrays_by [] n = None
+arrays_by (d ∷ ds) n = array_if (declares n d && nat_lt 0 (length d.bounds)) d (arrays_by ds n)
+
+abbrev pub arrays_of : List ItemTree → Arrays
+arrays_of all = arrays_by (declarators all)
 
 -- ---- the rules
-
--- a name is INTEGER if it begins with I to N, else REAL (4.1.2)
-abbrev pub is_real : List ℕ → Bool
-is_real [] = true
-is_real (c ∷ cs) = not (nat_le 73 c && nat_le c 78)
 
 -- K1: an earlier statement has the label
 abbrev pub is_label_at : Option ℕ → ℕ → Bool
@@ -87,12 +192,49 @@ unfoldable pub repeated_labels : List ItemTree → List ItemTree → List Broken
 repeated_labels before [] = []
 repeated_labels before (m ∷ ms) = broken_if (is_repeated before m.label) m.line K1 ++ repeated_labels (before ++ m ∷ []) ms
 
--- K3: a variable is REAL
-abbrev pub has_real : ShapeTree → Bool
-has_real s = list_any is_real (names_of s)
+-- a name is INTEGER if it begins with I to N, else REAL (4.1.2)
+abbrev pub is_real : List ℕ → Bool
+is_real [] = true
+is_real (c ∷ cs) = not (nat_le 73 c && nat_le c 78)
 
-abbrev pub real_names : ItemTree → List Broken
-real_names m = broken_if (has_real m.shape) m.line K3
+-- K3: a name that no type statement declares is REAL
+abbrev pub is_undeclared_real : List DeclaratorTree → Use → Bool
+is_undeclared_real ds u = is_real u.name && not (is_declared ds u.name)
+
+abbrev pub real_names : List DeclaratorTree → ItemTree → List Broken
+real_names ds x = broken_if (list_any (is_undeclared_real ds) (uses_of x.shape)) x.line K3
+
+-- K4: a name is declared twice; told at the later statement
+unfoldable pub repeats : List DeclaratorTree → List DeclaratorTree → Bool
+repeats before [] = false
+repeats before (d ∷ ds) = is_declared before d.name || repeats (before ++ d ∷ []) ds
+
+-- K4: what is no array is used with parentheses and without, up to this statement
+abbrev pub is_function_use : List DeclaratorTree → Use → Bool
+is_function_use ds u = is_some u.subscripts && not (is_array ds u.name)
+
+abbrev pub is_bare_use_of : List ℕ → Use → Bool
+is_bare_use_of n u = is_none u.subscripts && bytes_eq n u.name
+
+abbrev pub is_function_use_of : List DeclaratorTree → List ℕ → Use → Bool
+is_function_use_of ds n u = is_function_use ds u && bytes_eq n u.name
+
+-- the uses in expressions of statements, and all uses
+abbrev pub all_expression_uses : List ItemTree → List Use
+all_expression_uses xs = flat_map (λ x. expression_uses x.shape) xs
+
+abbrev pub all_uses : List ItemTree → List Use
+all_uses xs = flat_map (λ x. uses_of x.shape) xs
+
+abbrev pub is_both : List DeclaratorTree → List ItemTree → ItemTree → Bool
+is_both ds before x =
+    list_any (λ u. is_function_use ds u && list_any (is_bare_use_of u.name) (all_uses before ++ uses_of x.shape)) (expression_uses x.shape)
+    || list_any (λ u. is_none u.subscripts && list_any (is_function_use_of ds u.name) (all_expression_uses before)) (uses_of x.shape)
+
+unfoldable pub disputed_names : List DeclaratorTree → List ItemTree → List ItemTree → List Broken
+disputed_names ds before [] = []
+disputed_names ds before (x ∷ xs) =
+    broken_if (repeats (declarators before) (declarators_in x.shape) || is_both ds before x) x.line K4 ++ disputed_names ds (before ++ x ∷ []) xs
 
 -- K6: a constant is outside INTEGER
 abbrev pub is_too_great : List ℕ → Bool
@@ -101,8 +243,55 @@ is_too_great digits = nat_lt 2147483647 (number_of digits)
 abbrev pub has_too_great : ShapeTree → Bool
 has_too_great s = list_any is_too_great (flat_map numbers_in (exprs_of s))
 
+-- K6: a bound is no constant expression, or it faults
+abbrev pub is_no_bound : ExprTree → Bool
+is_no_bound e = list_any (λ u. true) (uses_in e) || is_err (value no_arrays e start)
+
+abbrev pub has_no_bound : ShapeTree → Bool
+has_no_bound s = list_any is_no_bound (flat_map declarator_exprs (declarators_in s))
+
 abbrev pub great_constants : ItemTree → List Broken
-great_constants m = broken_if (has_too_great m.shape) m.line K6
+great_constants x = broken_if (has_too_great x.shape || has_no_bound x.shape) x.line K6
+
+-- K7: more than seven dimensions, a lower bound above the upper one, or more than 1,048,576 elements (own)
+abbrev pub is_reversed : Dimension → Bool
+is_reversed d = int_lt d.upper d.lower
+
+abbrev pub elements_of : DeclaratorTree → ℕ
+elements_of d = if nat_lt 0 (length d.bounds) then size (map dimension_of d.bounds) else 0
+
+abbrev pub is_too_large : ℕ → DeclaratorTree → Bool
+is_too_large before d =
+    nat_lt 7 (length d.bounds) || (list_any is_reversed (map dimension_of d.bounds) || (nat_lt 0 (length d.bounds) && nat_lt 1048576 (before + elements_of d)))
+
+unfoldable pub have_too_large : ℕ → List DeclaratorTree → Bool
+have_too_large before [] = false
+have_too_large before (d ∷ ds) = is_too_large before d || have_too_large (before + elements_of d) ds
+
+unfoldable pub large_arrays : ℕ → List ItemTree → List Broken
+large_arrays before [] = []
+large_arrays before (x ∷ xs) =
+    broken_if (have_too_large before (declarators_in x.shape)) x.line K7 ++ large_arrays (before + sum_by elements_of (declarators_in x.shape)) xs
+
+-- K8: an array without subscripts, or with a wrong number of them
+abbrev pub is_other_number : Option ℕ → Option ℕ → Bool
+is_other_number None used = false
+is_other_number (Some n) None = true
+is_other_number (Some n) (Some k) = not (n == k)
+
+abbrev pub is_misused : List DeclaratorTree → Use → Bool
+is_misused ds u = is_other_number (dimensions_given ds u.name) u.subscripts
+
+abbrev pub misused_arrays : List DeclaratorTree → ItemTree → List Broken
+misused_arrays ds x = broken_if (list_any (is_misused ds) (uses_of x.shape)) x.line K8
+
+-- K12: an assignment to an element of what is no array
+abbrev pub no_elements : List DeclaratorTree → ItemTree → List Broken
+no_elements ds x = broken_if (list_any (is_function_use ds) (elements_set x.shape)) x.line K12
+
+-- K13: a use of a function
+abbrev pub functions : List DeclaratorTree → ItemTree → List Broken
+functions ds x = broken_if (list_any (is_function_use ds) (expression_uses x.shape)) x.line K13
 
 -- K9: a statement sets the variable of a DO around it
 abbrev pub sets_one_of : List (List ℕ) → ShapeTree → Bool
@@ -126,15 +315,16 @@ is_six (Err k) = false
 
 abbrev pub is_unit : UnitTree → Bool
 is_unit star = true
-is_unit (unit_number e) = not (list_any (λ n. true) (names_in e)) && is_six (value e start)
+is_unit (unit_number e) = not (list_any (λ u. true) (uses_in e)) && is_six (value no_arrays e start)
 
 -- K11: no FORMAT statement has the label
 abbrev pub is_format : ShapeTree → Bool
 is_format (format text) = true
-is_format (assignment target e) = false
+is_format (assignment target subscripts e) = false
 is_format (writing unit label es) = false
 is_format (doing label comma variable limits) = false
 is_format continuing = false
+is_format (typing ds) = false
 is_format ending = false
 
 abbrev pub is_format_at : ℕ → ItemTree → Bool
@@ -145,11 +335,12 @@ has_format all label = list_any (is_format_at label) all
 
 -- K11
 abbrev pub is_misformed : List ItemTree → Option ℕ → ShapeTree → Bool
-is_misformed all at (assignment target e) = false
+is_misformed all at (assignment target subscripts e) = false
 is_misformed all at (writing unit label es) = not (is_unit unit) || not (has_format all (number_of label))
 is_misformed all at (format text) = is_none at || is_none (descriptors_of text)
 is_misformed all at (doing label comma variable limits) = false
 is_misformed all at continuing = false
+is_misformed all at (typing ds) = false
 is_misformed all at ending = false
 
 abbrev pub misformed : List ItemTree → ItemTree → List Broken
@@ -157,10 +348,14 @@ misformed all m = broken_if (is_misformed all m.label m.shape) m.line K11
 
 -- ---- all of them
 
--- those on the statements by themselves
+-- those on the statements by themselves, with the declarators of all
+abbrev pub broken_names : List DeclaratorTree → List ItemTree → List Broken
+broken_names ds all =
+    flat_map (real_names ds) all ++ (disputed_names ds [] all ++ (large_arrays 0 all ++ (flat_map (misused_arrays ds) all ++ (flat_map (no_elements ds) all ++ flat_map (functions ds) all))))
+
 abbrev pub broken_items : List ItemTree → List Broken
 broken_items all =
-    repeated_labels [] all ++ (flat_map real_names all ++ (flat_map great_constants all ++ flat_map (misformed all) all))
+    repeated_labels [] all ++ (broken_names (declarators all) all ++ (flat_map great_constants all ++ flat_map (misformed all) all))
 
 abbrev pub broken_rules : Nested → List Broken
 broken_rules t = broken_items (flatten t) ++ reset_variables [] t.body

@@ -17,6 +17,8 @@ pub enum Value {
 pub enum FaultKind {
     /// A result outside the range of INTEGER.
     F2,
+    /// A subscript outside its bounds.
+    F3,
     /// The turn limit.
     F4,
     /// A DO increment of zero.
@@ -31,6 +33,7 @@ impl fmt::Display for FaultKind {
     fn fmt<W: fmt::Write>(&self, f: &mut fmt::Formatter<W>) -> fmt::Result {
         let name = match self {
             FaultKind::F2 => "F2",
+            FaultKind::F3 => "F3",
             FaultKind::F4 => "F4",
             FaultKind::F5 => "F5",
             FaultKind::F7 => "F7",

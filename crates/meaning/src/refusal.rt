@@ -27,6 +27,8 @@ pub enum Rule {
     G2,
     /// More than 64 parentheses open at once.
     G3,
+    /// A type statement behind an executable statement.
+    N1,
     /// The END statement is missing, or a statement follows it.
     N2,
     /// A DO range that crosses another, a terminal statement that isn't allowed, or END inside a DO range.
@@ -37,12 +39,22 @@ pub enum Rule {
     K1,
     /// A variable of type REAL.
     K3,
+    /// A name that is given a type or bounds twice, or that is a variable and a function.
+    K4,
     /// An integer constant outside the range of INTEGER.
     K6,
+    /// Too many dimensions or elements, or a lower bound above the upper one.
+    K7,
+    /// A wrong number of subscripts, or an array without subscripts.
+    K8,
     /// A statement that sets the variable of a DO around it.
     K9,
     /// A unit, a format label or a format that isn't allowed.
     K11,
+    /// An assignment to an element of what is no array.
+    K12,
+    /// A use of a function.
+    K13,
 }
 
 impl Rule {
@@ -51,15 +63,18 @@ impl Rule {
         ensures { result ≡ rank_of self }
     {
         match self {
-            Rule::C1 | Rule::G1 | Rule::K1 => 1,
+            Rule::C1 | Rule::G1 | Rule::N1 | Rule::K1 => 1,
             Rule::C2 | Rule::G2 | Rule::N2 => 2,
             Rule::G3 | Rule::K3 => 3,
-            Rule::C4 | Rule::N4 => 4,
+            Rule::C4 | Rule::N4 | Rule::K4 => 4,
             Rule::N5 => 5,
             Rule::C6 | Rule::K6 => 6,
-            Rule::C7 => 7,
+            Rule::C7 | Rule::K7 => 7,
+            Rule::K8 => 8,
             Rule::K9 => 9,
             Rule::K11 => 11,
+            Rule::K12 => 12,
+            Rule::K13 => 13,
         }
     }
 }
@@ -75,14 +90,20 @@ impl fmt::Display for Rule {
             Rule::G1 => "G1",
             Rule::G2 => "G2",
             Rule::G3 => "G3",
+            Rule::N1 => "N1",
             Rule::N2 => "N2",
             Rule::N4 => "N4",
             Rule::N5 => "N5",
             Rule::K1 => "K1",
             Rule::K3 => "K3",
+            Rule::K4 => "K4",
             Rule::K6 => "K6",
+            Rule::K7 => "K7",
+            Rule::K8 => "K8",
             Rule::K9 => "K9",
             Rule::K11 => "K11",
+            Rule::K12 => "K12",
+            Rule::K13 => "K13",
         };
         write!(f, "{name}")
     }

@@ -21,6 +21,7 @@ pub enum Operator {
 
 /// An expression (ANSI X3.9-1978, chapter 6), with all that was written.
 #[derive(Drop)]
+#[cycle(expression)]
 pub enum Expr {
     /// The digits of an integer constant.
     Number(Vec<u8>),
@@ -32,10 +33,13 @@ pub enum Expr {
     Binary(Operator, Box<Expr>, Box<Expr>),
     /// An expression in parentheses.
     Paren(Box<Expr>),
+    /// A name and subscripts in parentheses, one at least.
+    Element(Vec<u8>, Box<Exprs>),
 }
 
 /// Expressions with commas between, first to last.
 #[derive(Drop)]
+#[cycle(expression)]
 pub enum Exprs {
     Empty,
     More(Expr, Box<Exprs>),
@@ -58,12 +62,27 @@ pub struct Limits {
     pub step: Option<Expr>,
 }
 
+/// The bounds of a dimension (ANSI X3.9-1978, 5.1.1); the lower one is 1 when not written.
+#[derive(Drop)]
+pub struct Bounds {
+    pub lower: Option<Expr>,
+    pub upper: Expr,
+}
+
+/// A name in a type statement, and the bounds of an array (ANSI X3.9-1978, 5.1 and 8.4.1).
+#[derive(Drop)]
+pub struct Declarator {
+    pub name: Vec<u8>,
+    pub bounds: Vec<Bounds>,
+}
+
 /// What a form says.
 #[derive(Drop)]
 pub enum Shape {
-    /// `name=value`
+    /// `name=value` or `name(subscripts)=value`
     Assignment {
         name: Vec<u8>,
+        subscripts: Exprs,
         value: Expr,
     },
     /// `WRITE(unit,label)list`, the label as its digits stand there.
@@ -83,6 +102,8 @@ pub enum Shape {
     },
     /// `CONTINUE`
     Continue,
+    /// `INTEGER`, and names and arrays with commas between.
+    Integer(Vec<Declarator>),
     /// `END`
     End,
 }
@@ -133,6 +154,7 @@ pub enum Kind {
     Format,
     Do,
     Continue,
+    Integer,
     End,
     /// None that is read.
     Other,

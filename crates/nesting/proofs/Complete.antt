@@ -11,9 +11,10 @@ use Rattle.meaning.specs.Trees.{Members, none, plain, loop, Nested, flat, flatte
 use Rattle.meaning.specs.Nesting.{Unfinished, ended, body, range, start, labels, is_ended, is_named, is_hidden, is_end, named, joined, IsRangeOf, IsPlain, IsWell, IsProgram, NestsAs, add, innermost, missing_end, nest}
 use Rattle.nesting.proofs.Joined.{joined_none, flat_joined}
 use Rattle.nesting.proofs.Names.{none_hidden, same_label, label_is}
-use Rattle.nesting.proofs.Clear.{MayClose, IsClear, clear_is}
+use Rattle.nesting.proofs.Clear.{MayClose, IsClear}
 use Rattle.nesting.proofs.Sound.{add_closing}
 use Rattle.nesting.proofs.Passed.{do_is_end, end_named, past_do, past_end, past_plain}
+use Rattle.nesting.proofs.Order.{unbroken_is, types_first_is}
 use Rattle.nesting.proofs.Fits.{Fits, last_label, before_closes, fits_left, fits_right, last_fresh, last_label_push, last_label_append, fits_body, last_closes, fits_range}
 use Rattle.nesting.proofs.Goes.{Goes, goes_one, goes_both, add_fresh, add_labels, add_goes_on, add_nothing, add_add}
 use Rattle.nesting.proofs.Read.{read_is}
@@ -62,7 +63,7 @@ clear_plain z x o p c = record {
     and_left false b e = refl
 
 goes_plain : (x : ItemTree) (z : Unfinished) → is_ended z ≡ false → IsPlain x.shape → MayClose (labels z) x → Goes z (x ∷ []) (add x.label (plain x none) z)
-goes_plain x z o p c = goes_one z x (add x.label (plain x none) z) (clear_is z x (clear_plain z x o p c)) (past_plain z x p.no_do p.no_end)
+goes_plain x z o p c = goes_one z x (add x.label (plain x none) z) (clear_plain z x o p c) (past_plain z x p.no_do p.no_end)
 
 -- ---- a DO statement and its range
 
@@ -101,7 +102,7 @@ goes_loop h r z o room k w rec fits =
     let last : MayClose names k.ends.last = last_closes names k.ends.front k.ends.last [] (rw (append-nil (k.ends.front ++ k.ends.last ∷ [])) in_range) in
     let shown : is_hidden (Some s) names ≡ false = sym (ap (λ l. is_hidden l names) (label_is k.ends.last.label s k.ends.labelled)) ∙ last.unhidden in
     let clear : IsClear z h = clear_do z h s o k.names (before_closes names h (flat r) fits.0) shown room in
-    let opens : Goes z (h ∷ []) z1 = goes_one z h z1 (clear_is z h clear) (past_do z h s k.names) in
+    let opens : Goes z (h ∷ []) z1 = goes_one z h z1 clear (past_do z h s k.names) in
     let fit : Fits (s ∷ names) (flat r) = subst (Fits (s ∷ names)) (sym parts) (fits_range s names k.ends.front k.ends.last k.ends.unlabelled k.ends.labelled k.ends.terminal in_range) in
     let inside : Goes z1 (flat r) (add (last_label (flat r)) r z1) = rec z1 refl w fit in
     let closed : add (last_label (flat r)) r z1 ≡ add (last_label (flat r)) (loop h r none) z = ap (λ l. add l r z1) label ∙ add_range s r h z ∙ ap (λ l. add l (loop h r none) z) (sym label) in
@@ -118,7 +119,7 @@ last_label_cons h r k = by_parts (flat r) k.ends.front k.ends.parts
 -- ---- all members
 
 pub goes_members : (ms : Members) → GoesOn ms
-goes_members none z o w fits = record { unbroken = refl; reached = sym (add_nothing z) }
+goes_members none z o w fits = record { unbroken = tt; reached = sym (add_nothing z) }
 goes_members (plain x ms) z o w fits =
     followed_any (plain x none) ms x [] z o refl (goes_plain x z o w.0 (before_closes (labels z) x (flat ms) fits.0)) (goes_members ms) w.1 fits
 goes_members (loop h r ms) z o w fits = by_range (goes_members r) (goes_members ms)
@@ -152,7 +153,7 @@ pub goes_unit : (t : Nested) → IsProgram t → Goes start (flatten t) (ended t
 goes_unit t p =
     let inner : Goes start (flat p.front) (body p.front) = goes_members p.front start refl p.well (fits_body (flat p.front)) in
     let last : Goes (body p.front) (p.last ∷ []) (ended (joined p.front (plain p.last none))) =
-    goes_one (body p.front) p.last (ended (joined p.front (plain p.last none))) (clear_is (body p.front) p.last (clear_end p.front p.last p.closed)) (past_end (body p.front) p.last p.closed) in
+    goes_one (body p.front) p.last (ended (joined p.front (plain p.last none))) (clear_end p.front p.last p.closed) (past_end (body p.front) p.last p.closed) in
     let whole : Goes start (flat p.front ++ p.last ∷ []) (ended (joined p.front (plain p.last none))) = goes_both start (flat p.front) (p.last ∷ []) (body p.front) (ended (joined p.front (plain p.last none))) inner last in
     let all : flat p.front ++ p.last ∷ [] ≡ flatten t = sym (flat_joined p.front (plain p.last none)) ∙ ap flat (sym p.parts) in
     subst (λ (ms : Members). Goes start (flatten t) (ended ms)) (sym p.parts) (subst (λ (xs : List ItemTree). Goes start xs (ended (joined p.front (plain p.last none)))) all whole)
@@ -174,7 +175,7 @@ nests_read items t n =
     let g = goes_unit t n.well in
     let whole : nest (flatten t) ≡ Ok t = read_is (flatten t) t (record {
       has_end = unit_has_end t n.well;
-      unbroken = g.unbroken;
+      unbroken = unbroken_is false start (flatten t) (types_first_is (flatten t) n.well.types) g.unbroken;
       unit_is = ap (λ (z : Unfinished). record { body = innermost z }) g.reached;
     }) in
     subst (λ (xs : List ItemTree). nest xs ≡ Ok t) n.order whole

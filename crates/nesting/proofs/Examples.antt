@@ -1,8 +1,8 @@
 -- Worked examples: the definitions compute what the rules say.
 use Rattle.std.proofs.Common.{◌≡◌, ℕ, zero, suc, List, [], ◌∷◌, Some, None, Ok, Err, false, refl}
 use Rattle.std.specs.Prelude.{codes}
-use Rattle.meaning.specs.declared.refusal.Rule.TheVariants.{N2, N4, N5}
-use Rattle.meaning.specs.Syntax.{ItemTree, ShapeTree, number, format, doing, continuing, ending}
+use Rattle.meaning.specs.declared.refusal.Rule.TheVariants.{N1, N2, N4, N5}
+use Rattle.meaning.specs.Syntax.{ItemTree, ShapeTree, number, format, doing, continuing, typing, ending}
 use Rattle.meaning.specs.Trees.{none, plain, loop}
 use Rattle.meaning.specs.Nesting.{nest, past, breaks, missing_end, start, first_broken}
 
@@ -41,6 +41,20 @@ own_label : nest (labelled 1 10 (do_to (codes "10")) ∷ at 2 ending ∷ []) ≡
 unfolding nest past breaks missing_end
 own_label = refl
 
+-- a type statement behind FORMAT, and one behind an executable statement
+typed : nest (at 1 (format []) ∷ at 2 (typing []) ∷ at 3 ending ∷ []) ≡ Ok (record { body = plain (at 1 (format [])) (plain (at 2 (typing [])) (plain (at 3 ending) none)) })
+unfolding nest past breaks missing_end
+typed = refl
+
+typed_late : nest (at 1 (do_to (codes "10")) ∷ labelled 2 10 (typing []) ∷ at 3 ending ∷ []) ≡ Err (record { line = 2; rule = N1 })
+unfolding nest past breaks missing_end
+typed_late = refl
+
+-- behind END, the lesser rule
+typed_behind_end : nest (at 1 ending ∷ at 2 (typing []) ∷ []) ≡ Err (record { line = 2; rule = N1 })
+unfolding nest past breaks missing_end
+typed_behind_end = refl
+
 -- one statement behind END
 behind_end : nest (at 1 ending ∷ at 2 continuing ∷ at 3 ending ∷ []) ≡ Err (record { line = 2; rule = N2 })
 unfolding nest past breaks missing_end
@@ -51,7 +65,7 @@ opened zero xs = xs
 opened (suc n) xs = at 1 (do_to (codes "10")) ∷ opened n xs
 
 -- 32 open DO statements, and one more
-thirty_two : first_broken start (opened 32 (labelled 2 10 continuing ∷ at 3 ending ∷ [])) ≡ None
+thirty_two : first_broken false start (opened 32 (labelled 2 10 continuing ∷ at 3 ending ∷ [])) ≡ None
 unfolding nest past breaks missing_end
 thirty_two = refl
 

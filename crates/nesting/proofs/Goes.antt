@@ -1,29 +1,25 @@
 -- Statements that break no rule one behind the other, and what is open behind them.
-use Rattle.std.proofs.Common.{◌≡◌, ℕ, false, List, [], ◌∷◌, ◌++◌, Option, None, refl, ap, ◌∙◌}
+use Rattle.std.proofs.Common.{◌≡◌, ℕ, false, List, [], ◌∷◌, ◌++◌, Option, None, refl, sym, ap, subst, ◌∙◌}
 use Rattle.meaning.specs.Rules.{is_label_at}
 use Rattle.meaning.specs.Syntax.{ItemTree}
 use Rattle.meaning.specs.Trees.{Members, none}
-use Rattle.meaning.specs.Nesting.{Unfinished, ended, body, range, labels, is_ended, is_named, joined, add, past, behind, breaks, told_first, first_broken}
+use Rattle.meaning.specs.Nesting.{Unfinished, ended, body, range, labels, is_ended, is_named, joined, add, past, behind}
 use Rattle.nesting.proofs.Joined.{joined_none, joined_joined}
 use Rattle.nesting.proofs.Names.{or_left}
 use Rattle.nesting.proofs.Sound.{add_longer}
-use Rattle.nesting.proofs.Passed.{unbroken_parts}
+use Rattle.nesting.proofs.Clear.{IsClear}
+use Rattle.nesting.proofs.Passed.{IsUnbroken}
 
 pub record Goes (z : Unfinished) (xs : List ItemTree) (y : Unfinished) : Type 0 where
-  pub unbroken : first_broken z xs ≡ None
+  pub unbroken : IsUnbroken z xs
   pub reached : behind z xs ≡ y
 
-pub goes_first : (z : Unfinished) (x : ItemTree) (xs : List ItemTree) → breaks z x ≡ None → first_broken z (x ∷ xs) ≡ first_broken (past z x) xs
-goes_first z x xs h = ap (λ o. told_first x o (first_broken (past z x) xs)) h
+pub goes_one : (z : Unfinished) (x : ItemTree) (y : Unfinished) → IsClear z x → past z x ≡ y → Goes z (x ∷ []) y
+goes_one z x y k e = record { unbroken = (k, tt); reached = e }
 
-pub goes_one : (z : Unfinished) (x : ItemTree) (y : Unfinished) → breaks z x ≡ None → past z x ≡ y → Goes z (x ∷ []) y
-goes_one z x y h e = record { unbroken = goes_first z x [] h; reached = e }
-
-pub broken_append : (z : Unfinished) (xs ys : List ItemTree) → first_broken z xs ≡ None → first_broken z (xs ++ ys) ≡ first_broken (behind z xs) ys
-broken_append z [] ys h = refl
-broken_append z (x ∷ xs) ys h =
-    let p = unbroken_parts z x xs h in
-    goes_first z x (xs ++ ys) p.0 ∙ broken_append (past z x) xs ys p.1
+unbroken_append : (z : Unfinished) (xs ys : List ItemTree) → IsUnbroken z xs → IsUnbroken (behind z xs) ys → IsUnbroken z (xs ++ ys)
+unbroken_append z [] ys u w = w
+unbroken_append z (x ∷ xs) ys u w = (u.0, unbroken_append (past z x) xs ys u.1 w)
 
 pub behind_append : (z : Unfinished) (xs ys : List ItemTree) → behind z (xs ++ ys) ≡ behind (behind z xs) ys
 behind_append z [] ys = refl
@@ -31,15 +27,13 @@ behind_append z (x ∷ xs) ys = behind_append (past z x) xs ys
 
 pub goes_both : (z : Unfinished) (xs ys : List ItemTree) (y w : Unfinished) → Goes z xs y → Goes y ys w → Goes z (xs ++ ys) w
 goes_both z xs ys y w g h = record {
-  unbroken = broken_append z xs ys g.unbroken ∙ ap (λ u. first_broken u ys) g.reached ∙ h.unbroken;
+  unbroken = unbroken_append z xs ys g.unbroken (subst (λ (u : Unfinished). IsUnbroken u ys) (sym g.reached) h.unbroken);
   reached = behind_append z xs ys ∙ ap (λ u. behind u ys) g.reached ∙ h.reached;
 }
 
-pub front_unbroken : (z : Unfinished) (xs ys : List ItemTree) → first_broken z (xs ++ ys) ≡ None → first_broken z xs ≡ None
-front_unbroken z [] ys h = refl
-front_unbroken z (x ∷ xs) ys h =
-    let p = unbroken_parts z x (xs ++ ys) h in
-    goes_first z x xs p.0 ∙ front_unbroken (past z x) xs ys p.1
+pub front_unbroken : (z : Unfinished) (xs ys : List ItemTree) → IsUnbroken z (xs ++ ys) → IsUnbroken z xs
+front_unbroken z [] ys h = tt
+front_unbroken z (x ∷ xs) ys h = (h.0, front_unbroken (past z x) xs ys h.1)
 
 -- ---- a member whose last label no open DO statement names
 

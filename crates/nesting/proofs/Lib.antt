@@ -7,6 +7,7 @@ pub mod Names
 pub mod Clear
 pub mod Sound
 pub mod Passed
+pub mod Order
 pub mod Read
 pub mod Fits
 pub mod Goes

@@ -4,40 +4,41 @@ use Rattle.std.specs.Prelude.{◌&&◌, not, is_some}
 use Rattle.std.specs.List.{list_any}
 use Rattle.std.proofs.lemmas.List.{append-nil}
 use Rattle.std.proofs.lemmas.Bool.{leb-false}
-use Rattle.meaning.specs.declared.refusal.Broken.{Broken}
-use Rattle.meaning.specs.declared.refusal.Rule.{Rule}
-use Rattle.meaning.specs.Syntax.{ItemTree, ShapeTree, assignment, writing, format, doing, continuing, ending}
+use Rattle.meaning.specs.Syntax.{ItemTree, ShapeTree, assignment, writing, format, doing, continuing, typing, ending}
 use Rattle.meaning.specs.Trees.{none, plain, flat}
-use Rattle.meaning.specs.Nesting.{Unfinished, ended, body, range, labels, is_ended, is_named, is_hidden, is_end, named, may_end, joined, IsProgram, add, past, past_by, behind, innermost, breaks, is_too_deep, told_first, first_broken}
+use Rattle.meaning.specs.Nesting.{Unfinished, ended, body, range, labels, is_ended, is_named, is_hidden, is_end, named, may_end, joined, add, past, past_by, behind, innermost, is_too_deep}
 use Rattle.nesting.proofs.Joined.{flat_joined}
 use Rattle.nesting.proofs.Names.{and_right}
-use Rattle.nesting.proofs.Clear.{IsClear, clear_of}
-use Rattle.nesting.proofs.Sound.{IsOpenRange, IsSound, text, add_sound, add_text, add_ended}
+use Rattle.nesting.proofs.Clear.{IsClear}
+use Rattle.nesting.proofs.Sound.{IsOpenRange, IsClosed, IsSound, text, add_sound, add_text, add_ended}
 
 -- ---- what a statement is
 
 pub do_may_end : (shape : ShapeTree) (s : ℕ) → named shape ≡ Some s → may_end shape ≡ false
 do_may_end (doing label comma variable limits) s e = refl
-do_may_end (assignment target value) s e = absurd cc
+do_may_end (assignment target subscripts value) s e = absurd cc
 do_may_end (writing unit label es) s e = absurd cc
 do_may_end (format letters) s e = absurd cc
 do_may_end continuing s e = absurd cc
+do_may_end (typing declarators) s e = absurd cc
 do_may_end ending s e = absurd cc
 
 pub do_is_end : (shape : ShapeTree) (s : ℕ) → named shape ≡ Some s → is_end shape ≡ false
 do_is_end (doing label comma variable limits) s e = refl
-do_is_end (assignment target value) s e = absurd cc
+do_is_end (assignment target subscripts value) s e = absurd cc
 do_is_end (writing unit label es) s e = absurd cc
 do_is_end (format letters) s e = absurd cc
 do_is_end continuing s e = absurd cc
+do_is_end (typing declarators) s e = absurd cc
 do_is_end ending s e = absurd cc
 
 pub end_named : (shape : ShapeTree) → is_end shape ≡ true → named shape ≡ None
 end_named (doing label comma variable limits) e = absurd cc
-end_named (assignment target value) e = refl
+end_named (assignment target subscripts value) e = refl
 end_named (writing unit label es) e = refl
 end_named (format letters) e = refl
 end_named continuing e = refl
+end_named (typing declarators) e = refl
 end_named ending e = refl
 
 -- ---- the three ways on
@@ -90,7 +91,7 @@ opened z x s e k = record {
     not_both false b e h = refl
 
 -- END stands in the body
-ends_body : (z : Unfinished) (x : ItemTree) → IsSound z → is_end x.shape ≡ true → IsClear z x → IsProgram (record { body = joined (innermost z) (plain x none) })
+ends_body : (z : Unfinished) (x : ItemTree) → IsSound z → is_end x.shape ≡ true → IsClear z x → IsClosed (joined (innermost z) (plain x none))
 ends_body (ended ms) x h e k = absurd (clash k.goes_on)
   where
     clash : true ≡ false → ⊥
@@ -137,42 +138,32 @@ past_ended z x h k = by_way (way x)
 
 -- ---- some statements more
 
--- the first statement breaks nothing, nor do those behind it
-told_none : (x : ItemTree) (o : Option Rule) (later : Option Broken) → told_first x o later ≡ None → (o ≡ None) × (later ≡ None)
-told_none x (Some rule) later h = absurd cc
-told_none x None later h = (refl, h)
+-- none breaks a rule on ranges or END behind those before it
+abbrev pub IsUnbroken : Unfinished → List ItemTree → Type 0
+IsUnbroken z [] = Unit {0}
+IsUnbroken z (x ∷ xs) = IsClear z x × IsUnbroken (past z x) xs
 
-pub unbroken_parts : (z : Unfinished) (x : ItemTree) (xs : List ItemTree) → first_broken z (x ∷ xs) ≡ None → (breaks z x ≡ None) × (first_broken (past z x) xs ≡ None)
-unbroken_parts z x xs h = told_none x (breaks z x) (first_broken (past z x) xs) h
+pub behind_sound : (z : Unfinished) (xs : List ItemTree) → IsSound z → IsUnbroken z xs → IsSound (behind z xs)
+behind_sound z [] h u = h
+behind_sound z (x ∷ xs) h u = behind_sound (past z x) xs (past_sound z x h u.0) u.1
 
-pub behind_sound : (z : Unfinished) (xs : List ItemTree) → IsSound z → first_broken z xs ≡ None → IsSound (behind z xs)
-behind_sound z [] h e = h
-behind_sound z (x ∷ xs) h e =
-    let p = unbroken_parts z x xs e in
-    behind_sound (past z x) xs (past_sound z x h (clear_of z x p.0)) p.1
-
-pub behind_text : (z : Unfinished) (xs : List ItemTree) → first_broken z xs ≡ None → text (behind z xs) ≡ text z ++ xs
-behind_text z [] e = sym (append-nil (text z))
-behind_text z (x ∷ xs) e =
-    let p = unbroken_parts z x xs e in
-    behind_text (past z x) xs p.1 ∙ ap (λ (ys : List ItemTree). ys ++ xs) (past_text z x (clear_of z x p.0)) ∙ append_assoc (text z) (x ∷ []) xs
+pub behind_text : (z : Unfinished) (xs : List ItemTree) → IsUnbroken z xs → text (behind z xs) ≡ text z ++ xs
+behind_text z [] u = sym (append-nil (text z))
+behind_text z (x ∷ xs) u = behind_text (past z x) xs u.1 ∙ ap (λ (ys : List ItemTree). ys ++ xs) (past_text z x u.0) ∙ append_assoc (text z) (x ∷ []) xs
 
 -- nothing stands behind END
-pub over_at_end : (z : Unfinished) (xs : List ItemTree) → is_ended z ≡ true → first_broken z xs ≡ None → xs ≡ []
-over_at_end z [] h e = refl
-over_at_end z (x ∷ xs) h e = absurd (clash (clear_of z x (unbroken_parts z x xs e).0).goes_on h)
+pub over_at_end : (z : Unfinished) (xs : List ItemTree) → is_ended z ≡ true → IsUnbroken z xs → xs ≡ []
+over_at_end z [] h u = refl
+over_at_end z (x ∷ xs) h u = absurd (clash u.0.goes_on h)
   where
     clash : is_ended z ≡ false → is_ended z ≡ true → ⊥
     clash f g = cc
 
-pub behind_ended : (z : Unfinished) (xs : List ItemTree) → IsSound z → first_broken z xs ≡ None → list_any (λ (x : ItemTree). is_end x.shape) xs ≡ true → is_ended (behind z xs) ≡ true
-behind_ended z [] h e a = absurd cc
-behind_ended z (x ∷ xs) h e a =
-    let p = unbroken_parts z x xs e in
-    let k = clear_of z x p.0 in
-    by_test (is_end x.shape) refl p.1 (past_ended z x h k) (behind_ended (past z x) xs (past_sound z x h k) p.1)
+pub behind_ended : (z : Unfinished) (xs : List ItemTree) → IsSound z → IsUnbroken z xs → list_any (λ (x : ItemTree). is_end x.shape) xs ≡ true → is_ended (behind z xs) ≡ true
+behind_ended z [] h u a = absurd cc
+behind_ended z (x ∷ xs) h u a = by_test (is_end x.shape) refl u.1 (past_ended z x h u.0) (behind_ended (past z x) xs (past_sound z x h u.0) u.1)
   where
-    by_test : (b : Bool) → is_end x.shape ≡ b → first_broken (past z x) xs ≡ None → is_ended (past z x) ≡ is_end x.shape
+    by_test : (b : Bool) → is_end x.shape ≡ b → IsUnbroken (past z x) xs → is_ended (past z x) ≡ is_end x.shape
         → (list_any (λ (y : ItemTree). is_end y.shape) xs ≡ true → is_ended (behind (past z x) xs) ≡ true) → is_ended (behind (past z x) xs) ≡ true
     by_test true f unbroken e rec = rw (over_at_end (past z x) xs (e ∙ f) unbroken) (e ∙ f)
     by_test false f unbroken e rec = rec (rw f at a)

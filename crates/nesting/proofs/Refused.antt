@@ -1,17 +1,17 @@
 -- Statements are refused exactly with the least pair that is broken.
 use Rattle.std.proofs.Common.{◌≡◌, ℕ, Bool, true, false, List, [], ◌∷◌, ◌++◌, Option, Some, None, Err, refl, sym, ap, ◌∙◌, inl, inr, arith}
-use Rattle.std.specs.Prelude.{◌⊎◌, not, if◌then◌else◌, IsFalse}
+use Rattle.std.specs.Prelude.{◌⊎◌, ◌||◌, not, if◌then◌else◌, IsFalse}
 use Rattle.std.specs.List.{AllByRecursion, list_any}
 use Rattle.meaning.specs.declared.refusal.Broken.{Broken}
 use Rattle.meaning.specs.declared.refusal.Rule.{Rule}
-use Rattle.meaning.specs.declared.refusal.Rule.TheVariants.{N2, N4, N5}
+use Rattle.meaning.specs.declared.refusal.Rule.TheVariants.{N1, N2, N4, N5}
 use Rattle.meaning.specs.Ranks.{rank_of}
 use Rattle.meaning.specs.Refusals.{merge, unless}
 use Rattle.meaning.specs.Syntax.{ItemTree}
 use Rattle.meaning.specs.Trees.{Nested}
-use Rattle.meaning.specs.Nesting.{Unfinished, start, labels, innermost, is_ended, is_end, is_crossing, is_too_deep, past, behind, breaks, told_first, first_broken, lacks_end, last_line, missing_end, nest, IsViable, LacksEnd, GoesTooFar, IsBroken, IsRefusedAt}
+use Rattle.meaning.specs.Nesting.{Unfinished, start, labels, innermost, is_ended, is_end, is_executable, is_late, is_crossing, is_too_deep, past, behind, breaks, has_executable, told_first, first_broken, lacks_end, last_line, missing_end, nest, IsViable, LacksEnd, GoesTooFar, IsBroken, IsRefusedAt}
 use Rattle.nesting.proofs.Names.{or_left, or_right}
-use Rattle.nesting.proofs.Goes.{goes_first, broken_append}
+use Rattle.nesting.proofs.Order.{or_none, or_or, goes_first, broken_append}
 use Rattle.nesting.proofs.Read.{if_missing}
 use Rattle.nesting.proofs.Viable.{unbroken_viable, viable_unbroken}
 use Rattle.nesting.proofs.Least.{IsOneOf, IsLeastOf, IsTold, merge_least, least_merge}
@@ -53,51 +53,66 @@ missing_rule items b h = ap (λ (x : Broken). x.rule) (lacks_of items b h).pair
 
 -- ---- a statement that breaks a rule behind those before it
 
-record IsFirst (z : Unfinished) (xs : List ItemTree) (b : Broken) : Type 0 where
+record IsFirst (executable : Bool) (z : Unfinished) (xs : List ItemTree) (b : Broken) : Type 0 where
   front : List ItemTree
   member : ItemTree
   back : List ItemTree
   parts : xs ≡ front ++ member ∷ back
-  unbroken : first_broken z front ≡ None
+  unbroken : first_broken executable z front ≡ None
   at : b.line ≡ member.line
-  rule_is : breaks (behind z front) member ≡ Some b.rule
+  rule_is : breaks (executable || has_executable front) (behind z front) member ≡ Some b.rule
 
 pair_of : (x : ItemTree) (rule : Rule) (b : Broken) → record { line = x.line; rule = rule } ≡ b → (b.line ≡ x.line) × (b.rule ≡ rule)
 pair_of x rule b e = (sym (ap (λ (c : Broken). c.line) e), sym (ap (λ (c : Broken). c.rule) e))
 
-first_of : (z : Unfinished) (xs : List ItemTree) (b : Broken) → first_broken z xs ≡ Some b → IsFirst z xs b
-first_of z [] b h = absurd cc
-first_of z (x ∷ xs) b h = by_rule (breaks z x) refl h (first_of (past z x) xs b)
+first_of : (executable : Bool) (z : Unfinished) (xs : List ItemTree) (b : Broken) → first_broken executable z xs ≡ Some b → IsFirst executable z xs b
+first_of executable z [] b h = absurd cc
+first_of executable z (x ∷ xs) b h = by_rule (breaks executable z x) refl h (first_of (executable || is_executable x.shape) (past z x) xs b)
   where
-    by_rule : (o : Option Rule) → breaks z x ≡ o → told_first x (breaks z x) (first_broken (past z x) xs) ≡ Some b → (first_broken (past z x) xs ≡ Some b → IsFirst (past z x) xs b) → IsFirst z (x ∷ xs) b
+    after : Bool
+    after = executable || is_executable x.shape
+
+    by_rule : (o : Option Rule) → breaks executable z x ≡ o → told_first x (breaks executable z x) (first_broken after (past z x) xs) ≡ Some b
+        → (first_broken after (past z x) xs ≡ Some b → IsFirst after (past z x) xs b) → IsFirst executable z (x ∷ xs) b
     by_rule (Some rule) e f rec =
-        let same : record { line = x.line; rule = rule } ≡ b = some_is (record { line = x.line; rule = rule }) b (ap (λ o. told_first x o (first_broken (past z x) xs)) (sym e) ∙ f) in
+        let same : record { line = x.line; rule = rule } ≡ b = some_is (record { line = x.line; rule = rule }) b (ap (λ o. told_first x o (first_broken after (past z x) xs)) (sym e) ∙ f) in
         let p = pair_of x rule b same in
-        record { front = []; member = x; back = xs; parts = refl; unbroken = refl; at = p.0; rule_is = e ∙ ap (λ (r : Rule). Some r) (sym p.1) }
+        record {
+          front = [];
+          member = x;
+          back = xs;
+          parts = refl;
+          unbroken = refl;
+          at = p.0;
+          rule_is = ap (λ before. breaks before z x) (or_none executable) ∙ e ∙ ap (λ (r : Rule). Some r) (sym p.1);
+        }
     by_rule None e f rec =
-        let r = rec (ap (λ o. told_first x o (first_broken (past z x) xs)) (sym e) ∙ f) in
+        let r = rec (ap (λ o. told_first x o (first_broken after (past z x) xs)) (sym e) ∙ f) in
         record {
           front = x ∷ r.front;
           member = r.member;
           back = r.back;
           parts = ap (λ (ys : List ItemTree). x ∷ ys) r.parts;
-          unbroken = goes_first z x r.front e ∙ r.unbroken;
+          unbroken = goes_first executable z x r.front e ∙ r.unbroken;
           at = r.at;
-          rule_is = r.rule_is;
+          rule_is = ap (λ before. breaks before (behind (past z x) r.front) r.member) (sym (or_or executable (is_executable x.shape) (has_executable r.front))) ∙ r.rule_is;
         }
 
-first_is : (front : List ItemTree) (x : ItemTree) (back : List ItemTree) (b : Broken) → first_broken start front ≡ None → b.line ≡ x.line → breaks (behind start front) x ≡ Some b.rule
-    → first_broken start (front ++ x ∷ back) ≡ Some b
+first_is : (front : List ItemTree) (x : ItemTree) (back : List ItemTree) (b : Broken) → first_broken false start front ≡ None → b.line ≡ x.line
+    → breaks (has_executable front) (behind start front) x ≡ Some b.rule → first_broken false start (front ++ x ∷ back) ≡ Some b
 first_is front x back b h at e =
-    broken_append start front (x ∷ back) h ∙ ap (λ o. told_first x o (first_broken (past (behind start front) x) back)) e ∙ ap (λ (k : ℕ). Some (record { line = k; rule = b.rule })) (sym at)
+    let before = has_executable front in
+    broken_append false start front (x ∷ back) h ∙ ap (λ o. told_first x o (first_broken (before || is_executable x.shape) (past (behind start front) x) back)) e
+    ∙ ap (λ (k : ℕ). Some (record { line = k; rule = b.rule })) (sym at)
 
 -- no program unit goes on behind it
-is_over : (front : List ItemTree) (x : ItemTree) (b : Broken) → first_broken start front ≡ None → b.line ≡ x.line → breaks (behind start front) x ≡ Some b.rule → IsViable (front ++ x ∷ []) → ⊥
+is_over : (front : List ItemTree) (x : ItemTree) (b : Broken) → first_broken false start front ≡ None → b.line ≡ x.line
+    → breaks (has_executable front) (behind start front) x ≡ Some b.rule → IsViable (front ++ x ∷ []) → ⊥
 is_over front x b h at e v = let f : None ≡ Some b = sym (viable_unbroken (front ++ x ∷ []) v) ∙ first_is front x [] b h at e in cc
 
-pub too_far_of : (items : List ItemTree) (b : Broken) → first_broken start items ≡ Some b → GoesTooFar items b
+pub too_far_of : (items : List ItemTree) (b : Broken) → first_broken false start items ≡ Some b → GoesTooFar items b
 too_far_of items b h =
-    let f = first_of start items b h in
+    let f = first_of false start items b h in
     record {
       front = f.front;
       member = f.member;
@@ -109,41 +124,43 @@ too_far_of items b h =
       rule_is = f.rule_is;
     }
 
-pub too_far_is : (items : List ItemTree) (b : Broken) → GoesTooFar items b → first_broken start items ≡ Some b
-too_far_is items b g = ap (first_broken start) g.parts ∙ first_is g.front g.member g.back b (viable_unbroken g.front g.viable) g.at g.rule_is
+pub too_far_is : (items : List ItemTree) (b : Broken) → GoesTooFar items b → first_broken false start items ≡ Some b
+too_far_is items b g = ap (first_broken false start) g.parts ∙ first_is g.front g.member g.back b (viable_unbroken g.front g.viable) g.at g.rule_is
 
 -- ---- the least of both
 
-broken_of : (items : List ItemTree) (b : Broken) → IsOneOf (missing_end items) (first_broken start items) b → IsBroken items b
+broken_of : (items : List ItemTree) (b : Broken) → IsOneOf (missing_end items) (first_broken false start items) b → IsBroken items b
 broken_of items b (inl h) = inl (lacks_of items b h)
 broken_of items b (inr h) = inr (too_far_of items b h)
 
-broken_is : (items : List ItemTree) (b : Broken) → IsBroken items b → IsOneOf (missing_end items) (first_broken start items) b
+broken_is : (items : List ItemTree) (b : Broken) → IsBroken items b → IsOneOf (missing_end items) (first_broken false start items) b
 broken_is items b (inl h) = inl (lacks_is items b h)
 broken_is items b (inr h) = inr (too_far_is items b h)
 
-abbrev told : Bool → Bool → Bool → Option Rule
-told a b c = if a then Some N2 else (if b then Some N4 else (if c then Some N5 else None))
+abbrev told : Bool → Bool → Bool → Bool → Option Rule
+told late a b c = if late then Some N1 else (if a then Some N2 else (if b then Some N4 else (if c then Some N5 else None)))
 
-apart : (n : ℕ) → n ≡ 4 ⊎ n ≡ 5 → n ≡ 2 → ⊥
+apart : (n : ℕ) → n ≡ 1 ⊎ (n ≡ 4 ⊎ n ≡ 5) → n ≡ 2 → ⊥
 apart n (inl e) f = omega arith
-apart n (inr e) f = omega arith
+apart n (inr (inl e)) f = omega arith
+apart n (inr (inr e)) f = omega arith
 
 rule_is : (r s : Rule) → Some r ≡ Some s → r ≡ s
 rule_is r s e = cc
 
-told_rank : (a b c : Bool) (rule : Rule) → told a b c ≡ Some rule → rank_of rule ≡ 2 → rule ≡ N2
-told_rank true b c rule h e = sym (rule_is N2 rule h)
-told_rank false true c rule h e = absurd (apart (rank_of rule) (inl (sym (ap rank_of (rule_is N4 rule h)))) e)
-told_rank false false true rule h e = absurd (apart (rank_of rule) (inr (sym (ap rank_of (rule_is N5 rule h)))) e)
-told_rank false false false rule h e = absurd cc
+told_rank : (late a b c : Bool) (rule : Rule) → told late a b c ≡ Some rule → rank_of rule ≡ 2 → rule ≡ N2
+told_rank true a b c rule h e = absurd (apart (rank_of rule) (inl (sym (ap rank_of (rule_is N1 rule h)))) e)
+told_rank false true b c rule h e = sym (rule_is N2 rule h)
+told_rank false false true c rule h e = absurd (apart (rank_of rule) (inr (inl (sym (ap rank_of (rule_is N4 rule h))))) e)
+told_rank false false false true rule h e = absurd (apart (rank_of rule) (inr (inr (sym (ap rank_of (rule_is N5 rule h))))) e)
+told_rank false false false false rule h e = absurd cc
 
-breaks_rank : (z : Unfinished) (x : ItemTree) (rule : Rule) → breaks z x ≡ Some rule → rank_of rule ≡ 2 → rule ≡ N2
+breaks_rank : (executable : Bool) (z : Unfinished) (x : ItemTree) (rule : Rule) → breaks executable z x ≡ Some rule → rank_of rule ≡ 2 → rule ≡ N2
 unfolding breaks
-breaks_rank z x rule h e = told_rank (is_ended z) (is_crossing (labels z) x) (is_too_deep (labels z) x) rule h e
+breaks_rank executable z x rule h e = told_rank (is_late executable x) (is_ended z) (is_crossing (labels z) x) (is_too_deep (labels z) x) rule h e
 
-first_rank : (items : List ItemTree) → IsTold (first_broken start items)
-first_rank items b h e = let f = first_of start items b h in breaks_rank (behind start f.front) f.member b.rule f.rule_is e
+first_rank : (items : List ItemTree) → IsTold (first_broken false start items)
+first_rank items b h e = let f = first_of false start items b h in breaks_rank (has_executable f.front) (behind start f.front) f.member b.rule f.rule_is e
 
 unless_err : (o : Option Broken) (t : Nested) (b : Broken) → unless o t ≡ Err b → o ≡ Some b
 unless_err None t b h = absurd cc
@@ -155,12 +172,12 @@ err_unless o t b h = rw h refl
 pub refused_of : (items : List ItemTree) (b : Broken) → nest items ≡ Err b → IsRefusedAt items b
 unfolding nest
 refused_of items b h =
-    let m = merge_least (missing_end items) (first_broken start items) b (unless_err (merge (missing_end items) (first_broken start items)) (record { body = innermost (behind start items) }) b h) in
+    let m = merge_least (missing_end items) (first_broken false start items) b (unless_err (merge (missing_end items) (first_broken false start items)) (record { body = innermost (behind start items) }) b h) in
     record { broken = broken_of items b m.one; least = λ c k. m.least c (broken_is items c k) }
 
 pub refused_is : (items : List ItemTree) (b : Broken) → IsRefusedAt items b → nest items ≡ Err b
 unfolding nest
 refused_is items b r =
-    let m : IsLeastOf (missing_end items) (first_broken start items) b = record { one = broken_is items b r.broken; least = λ c k. r.least c (broken_of items c k) } in
-    err_unless (merge (missing_end items) (first_broken start items)) (record { body = innermost (behind start items) }) b
-    (least_merge (missing_end items) (first_broken start items) b (missing_rule items) (first_rank items) m)
+    let m : IsLeastOf (missing_end items) (first_broken false start items) b = record { one = broken_is items b r.broken; least = λ c k. r.least c (broken_of items c k) } in
+    err_unless (merge (missing_end items) (first_broken false start items)) (record { body = innermost (behind start items) }) b
+    (least_merge (missing_end items) (first_broken false start items) b (missing_rule items) (first_rank items) m)

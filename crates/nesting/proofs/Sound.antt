@@ -1,12 +1,12 @@
 -- What was read so far is well nested, as far as it goes, and holds the statements that were read.
 use Rattle.std.proofs.Common.{◌≡◌, ℕ, suc, ◌<◌, Bool, true, false, List, [], ◌∷◌, ◌++◌, length, Option, Some, refl, sym, ap, subst, ◌∙◌, append_assoc}
-use Rattle.std.specs.Prelude.{◌&&◌, not, IsFalse}
+use Rattle.std.specs.Prelude.{◌&&◌, not, IsTrue, IsFalse}
 use Rattle.std.specs.List.{AllByRecursion}
 use Rattle.std.proofs.lemmas.List.{append-nil}
 use Rattle.meaning.specs.Rules.{is_label_at, has_label}
 use Rattle.meaning.specs.Syntax.{ItemTree}
-use Rattle.meaning.specs.Trees.{Members, none, loop, flat}
-use Rattle.meaning.specs.Nesting.{Unfinished, ended, body, range, labels, is_ended, is_named, is_hidden, named, may_end, joined, IsRange, IsWell, IsProgram, add}
+use Rattle.meaning.specs.Trees.{Members, none, plain, loop, flat}
+use Rattle.meaning.specs.Nesting.{Unfinished, ended, body, range, labels, is_ended, is_named, is_hidden, named, may_end, joined, is_end, IsRange, IsWell, add}
 use Rattle.nesting.proofs.Joined.{flat_joined, well_joined}
 use Rattle.nesting.proofs.Names.{IsFresh, and_right, not_false, hidden_behind_same, hidden_behind_other, named_behind_other, all_append, all_follow, fresh_around, fresh_other}
 use Rattle.nesting.proofs.Clear.{MayClose}
@@ -20,8 +20,16 @@ pub record IsOpenRange (head : ItemTree) (s : ℕ) (ms : Members) (around : Unfi
   pub unhidden : is_hidden (Some s) (labels around) ≡ false
   pub goes_on : is_ended around ≡ false
 
+-- members up to END
+pub record IsClosed (ms : Members) : Type 0 where
+  pub front : Members
+  pub last : ItemTree
+  pub parts : ms ≡ joined front (plain last none)
+  pub well : IsWell 0 front
+  pub closed : IsTrue (is_end last.shape)
+
 abbrev pub IsSound : Unfinished → Type 0
-IsSound (ended ms) = IsProgram (record { body = ms })
+IsSound (ended ms) = IsClosed ms
 IsSound (body ms) = IsWell 0 ms
 IsSound (range head s ms around) = IsOpenRange head s ms around × IsSound around
 

@@ -7,7 +7,7 @@ ghost use Rattle.meaning.specs.Trees.{item_tree, nested};
 ghost use Rattle.meaning.specs.Refusals.{unless};
 ghost use Rattle.nesting.specs.Open.{unfinished};
 
-use crate::unfinished::{Open, broken_rule, into_innermost, is_end_item, past};
+use crate::unfinished::{Open, broken_rule, into_innermost, is_end_item, is_executable_item, past};
 use meaning::refusal::{Broken, Refusal, Rule, lesser};
 use meaning::syntax::{Item, Tree};
 use std::alloc::Global;
@@ -78,19 +78,22 @@ fn told(broken: Option<Broken>, so_far: Open) -> Result<Tree, Refusal>
 /// # Errors
 ///
 /// `Refusal::Rule` with the least of two pairs: N2 at the last statement if none is END, or at line 1 if there is no
-/// statement; and, at the first statement up to which no program unit begins so, N2 if it stands behind END, N4 if
-/// ranges cross, a terminal statement isn't allowed or END stands in a range, or N5 if it is the 33rd open DO.
+/// statement; and, at the first statement up to which no program unit begins so, N1 if it is a type statement behind an
+/// executable one, N2 if it stands behind END, N4 if ranges cross, a terminal statement isn't allowed or END stands in a
+/// range, or N5 if it is the 33rd open DO.
 /// `Refusal::Memory` where a growth was refused.
 pub fn tree(alloc: Global, items: Vec<Item>) -> Result<Tree, Refusal>
     ensures exact { Gives nested result (nest (map item_tree items.items)) }
 {
     let missing = missing_end(&items);
+    let mut executable = false;
     let mut so_far = Open::Body(Vec::new(alloc));
     for item in items {
-        if let Some(rule) = broken_rule(&so_far, &item) {
+        if let Some(rule) = broken_rule(executable, &so_far, &item) {
             let here = broken_at(item, rule);
             return told(lesser(missing, Some(here)), so_far);
         }
+        executable = executable || is_executable_item(&item);
         so_far = past(alloc, so_far, item)?;
     }
     told(missing, so_far)

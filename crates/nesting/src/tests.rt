@@ -4,7 +4,7 @@ ghost use Rattle.meaning.specs.Syntax.{expr_tree};
 
 use super::{nests_exactly, one_nesting, refuses_exactly, tree};
 use meaning::refusal::{Refusal, Rule};
-use meaning::syntax::{Expr, Exprs, Form, Item, Limits, Member, Shape, Unit};
+use meaning::syntax::{Declarator, Expr, Exprs, Form, Item, Limits, Member, Shape, Unit};
 use std::alloc::{AllocError, Global};
 use std::process::Abort;
 use std::test::*;
@@ -17,10 +17,11 @@ enum Says {
     Format,
     Do(&'static [u8]),
     Continue,
+    Type,
     End,
 }
 
-use Says::{Continue, Do, End, Format, Set, Write};
+use Says::{Continue, Do, End, Format, Set, Type, Write};
 
 /// A program: labels, 0 for none, and statements, which stand on lines 1, 2 and so on.
 type Program = &'static [(u32, Says)];
@@ -36,7 +37,11 @@ fn assignment(alloc: Global) -> Result<Form, AllocError> {
     let name = Vec::from_slice(alloc, b"I")?;
     let value = zero(alloc)?;
     Ok(Form {
-        shape: Shape::Assignment { name, value },
+        shape: Shape::Assignment {
+            name,
+            subscripts: Exprs::Empty,
+            value,
+        },
     })
 }
 
@@ -72,6 +77,19 @@ fn do_form(rt: &impl Abort, alloc: Global, label: Vec<u8>) -> Result<Form, Alloc
     })
 }
 
+/// `INTEGERI`
+fn typing(alloc: Global) -> Result<Form, AllocError> {
+    let name = Vec::from_slice(alloc, b"I")?;
+    let mut declarators = Vec::new(alloc);
+    declarators.push(Declarator {
+        name,
+        bounds: Vec::new(alloc),
+    })?;
+    Ok(Form {
+        shape: Shape::Integer(declarators),
+    })
+}
+
 fn form(rt: &impl Abort, alloc: Global, says: Says) -> Result<Form, AllocError> {
     match says {
         Set => assignment(alloc),
@@ -83,6 +101,7 @@ fn form(rt: &impl Abort, alloc: Global, says: Says) -> Result<Form, AllocError> 
         Continue => Ok(Form {
             shape: Shape::Continue,
         }),
+        Type => typing(alloc),
         End => Ok(Form { shape: Shape::End }),
     }
 }
@@ -109,6 +128,7 @@ fn write_shape(members: &[Member], text: &mut Vec<u8>) -> Result<(), AllocError>
                 Shape::Format(_) => b'f',
                 Shape::Do { .. } => b'd',
                 Shape::Continue => b'c',
+                Shape::Integer(_) => b'i',
                 Shape::End => b'e',
             })?,
             Member::Loop(found) => {
@@ -122,8 +142,27 @@ fn write_shape(members: &[Member], text: &mut Vec<u8>) -> Result<(), AllocError>
 }
 
 /// Programs that nest, and the shapes of their trees.
-const NESTED: [(Program, &[u8]); 15] = [
+const NESTED: [(Program, &[u8]); 18] = [
     (&[(0, End)], b"e"),
+    // Type statements stand first, and FORMAT may stand before them and between.
+    (&[(0, Type), (0, End)], b"ie"),
+    (
+        &[
+            (10, Format),
+            (0, Type),
+            (20, Format),
+            (30, Type),
+            (0, Set),
+            (40, Format),
+            (0, End),
+        ],
+        b"fifisfe",
+    ),
+    // A label that a later DO names ends nothing.
+    (
+        &[(10, Type), (0, Do(b"10")), (10, Continue), (0, End)],
+        b"i(c)e",
+    ),
     (&[(0, Set), (10, Format), (0, Write), (0, End)], b"sfwe"),
     // Each statement that may end a range does.
     (&[(0, Do(b"10")), (10, Set), (0, End)], b"(s)e"),
@@ -246,7 +285,51 @@ fn nests(rt: HostRuntime) -> Result<(), Fail> {
 }
 
 /// Programs that don't nest, and the rule and the line that are told.
-const REFUSED: [(Program, Rule, u32); 28] = [
+const REFUSED: [(Program, Rule, u32); 44] = [
+    // A type statement behind each executable statement, in a range and as its terminal statement.
+    (&[(0, Set), (0, Type), (0, End)], Rule::N1, 2),
+    (&[(0, Write), (0, Type), (0, End)], Rule::N1, 2),
+    (&[(0, Continue), (0, Type), (0, End)], Rule::N1, 2),
+    (
+        &[(0, Do(b"10")), (0, Type), (10, Continue), (0, End)],
+        Rule::N1,
+        2,
+    ),
+    (&[(0, Do(b"10")), (10, Type), (0, End)], Rule::N1, 2),
+    (
+        &[(0, Do(b"10")), (10, Set), (0, Type), (0, End)],
+        Rule::N1,
+        3,
+    ),
+    (&[(0, End), (0, Type)], Rule::N1, 2),
+    // The first one, whatever stands between and before.
+    (
+        &[
+            (0, Type),
+            (10, Format),
+            (0, Set),
+            (20, Format),
+            (0, Type),
+            (0, Type),
+            (0, End),
+        ],
+        Rule::N1,
+        5,
+    ),
+    (&[(0, Type), (0, End), (10, Format), (0, Type)], Rule::N2, 3),
+    // At one line the lesser rule, and else the lesser line.
+    (&[(0, Set), (0, Type)], Rule::N1, 2),
+    (&[(0, Set), (0, Type), (0, Set)], Rule::N1, 2),
+    (&[(0, Set), (0, Type), (0, End), (0, Set)], Rule::N1, 2),
+    (
+        &[(0, Do(b"10")), (10, Format), (0, Type), (0, End)],
+        Rule::N4,
+        2,
+    ),
+    (&[(0, Do(b"10")), (0, End), (0, Type)], Rule::N4, 2),
+    // No executable statement.
+    (&[(10, Type)], Rule::N2, 1),
+    (&[(10, Format), (0, Type)], Rule::N2, 2),
     // END is missing: the last statement, or line 1.
     (&[], Rule::N2, 1),
     (&[(0, Set)], Rule::N2, 1),

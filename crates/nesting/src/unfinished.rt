@@ -1,7 +1,7 @@
 //! A program unit as far as it was read, and what may stand behind it.
 
 ghost use Rattle.std.specs.Prelude.{◌≡◌, nat_le, length, option_map, IfOk};
-ghost use Rattle.meaning.specs.Nesting.{is_end, may_end, named, labels, innermost, is_named as named_by, is_hidden as hidden_by, is_crossing, is_too_deep, breaks, add as added, past as past_of};
+ghost use Rattle.meaning.specs.Nesting.{is_end, is_executable, is_typing, may_end, named, labels, innermost, is_named as named_by, is_hidden as hidden_by, is_crossing, is_too_deep, breaks, add as added, past as past_of};
 ghost use Rattle.meaning.specs.Rules.{is_label_at};
 ghost use Rattle.meaning.specs.Syntax.{shape_tree};
 ghost use Rattle.meaning.specs.Trees.{item_tree, member_before, members_tree, none};
@@ -41,7 +41,37 @@ pub fn is_end_item(item: &Item) -> bool
         | Shape::Write { .. }
         | Shape::Format(_)
         | Shape::Do { .. }
-        | Shape::Continue => false,
+        | Shape::Continue
+        | Shape::Integer(_) => false,
+    }
+}
+
+/// Whether a statement is executable (ANSI X3.9-1978, 7.1).
+pub fn is_executable_item(item: &Item) -> bool
+    ensures { result ≡ is_executable (item_tree item.now).shape }
+{
+    match item.form.shape {
+        Shape::Format(_) | Shape::Integer(_) => false,
+        Shape::Assignment { .. }
+        | Shape::Write { .. }
+        | Shape::Do { .. }
+        | Shape::Continue
+        | Shape::End => true,
+    }
+}
+
+/// Whether a statement is a type statement.
+fn is_typing_item(item: &Item) -> bool
+    ensures { result ≡ is_typing (item_tree item.now).shape }
+{
+    match item.form.shape {
+        Shape::Integer(_) => true,
+        Shape::Assignment { .. }
+        | Shape::Write { .. }
+        | Shape::Format(_)
+        | Shape::Do { .. }
+        | Shape::Continue
+        | Shape::End => false,
     }
 }
 
@@ -51,7 +81,7 @@ fn may_end_range(item: &Item) -> bool
 {
     match item.form.shape {
         Shape::Assignment { .. } | Shape::Write { .. } | Shape::Continue => true,
-        Shape::Format(_) | Shape::Do { .. } | Shape::End => false,
+        Shape::Format(_) | Shape::Do { .. } | Shape::Integer(_) | Shape::End => false,
     }
 }
 
@@ -65,6 +95,7 @@ fn label_named(item: &Item) -> Option<u64>
         | Shape::Write { .. }
         | Shape::Format(_)
         | Shape::Continue
+        | Shape::Integer(_)
         | Shape::End => None,
     }
 }
@@ -153,11 +184,15 @@ fn is_one_too_many(so_far: &Open, item: &Item) -> bool
     label_named(item).is_some() && holds(so_far, MOST_OPEN)
 }
 
-/// The least rule that a statement breaks there, if it breaks one.
+/// The least rule that a statement breaks there, if it breaks one; `executable` says whether an executable statement was
+/// read.
 #[tactic(auto, unfolding(meaning::specs::Nesting::breaks))]
-pub fn broken_rule(so_far: &Open, item: &Item) -> Option<Rule>
-    ensures { result ≡ breaks (unfinished so_far.now) (item_tree item.now) }
+pub fn broken_rule(executable: bool, so_far: &Open, item: &Item) -> Option<Rule>
+    ensures { result ≡ breaks executable (unfinished so_far.now) (item_tree item.now) }
 {
+    if executable && is_typing_item(item) {
+        return Some(Rule::N1);
+    }
     if let Open::Ended(_) = so_far {
         return Some(Rule::N2);
     }

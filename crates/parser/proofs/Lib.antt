@@ -1,6 +1,8 @@
 pub mod Scans
 pub mod Words
 pub mod Turns
+pub mod Separated
+pub mod Joined
 pub mod Sound
 pub mod Marks
 pub mod Complete

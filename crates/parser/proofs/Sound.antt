@@ -1,6 +1,7 @@
 -- What is read is spelled so, and well formed.
 use Rattle.std.proofs.Common.{◌≡◌, ℕ, zero, suc, ◌+◌, ◌≤◌, true, false, leb, eqb, Bool, List, [], ◌∷◌, ◌++◌, length, Option, Some, None, inl, inr, refl, sym, ap, subst, ◌∙◌, append_assoc, arith}
-use Rattle.std.specs.Prelude.{IsTrue, codes}
+use Rattle.std.specs.Prelude.{IsTrue, codes, nat_lt}
+use Rattle.std.specs.List.{AllByRecursion}
 use Rattle.std.proofs.lemmas.Bool.{cases_Bool, and_parts, eqb-true, leb-true, le-leb}
 use Rattle.std.proofs.lemmas.Bool.Decides.{nat_tests}
 use Rattle.std.proofs.lemmas.Option.{cond_some, same_Some}
@@ -10,12 +11,13 @@ use Rattle.meaning.specs.declared.syntax.Sign.TheVariants as signs
 use Rattle.meaning.specs.declared.syntax.Operator.{Operator}
 use Rattle.meaning.specs.declared.syntax.Operator.TheVariants as operators
 use Rattle.meaning.specs.Characters.{is_digit, is_alphanumeric, is_name, is_number, is_label}
-use Rattle.meaning.specs.Syntax.{ExprTree, number, name, signed, binary, paren, UnitTree, star, unit_number, LimitsTree, ShapeTree, assignment, writing, format, doing, continuing, ending}
-use Rattle.meaning.specs.Spelling.{sign_byte, operator_text, spell_expr, level, level_of, IsWellExpr, spell_more, spell_list, AreWellExprs, spell_unit, IsWellUnit, spell_limits, IsWellLimits, spell_comma, Reads}
+use Rattle.meaning.specs.Syntax.{ExprTree, number, signed, binary, paren, ExprsTree, no_exprs, exprs, BoundsTree, DeclaratorTree, UnitTree, star, unit_number, LimitsTree, ShapeTree, assignment, writing, format, doing, continuing, typing, ending}
+use Rattle.meaning.specs.Spelling.{sign_byte, operator_text, spell_expr, spell_exprs, spell_behind, level, level_of, IsWellExpr, AreWellSubscripts, spell_more, spell_list, AreWellExprs, spell_unit, IsWellUnit, spell_limits, IsWellLimits, spell_comma, spell_subscripts, spell_bounds, spell_dimensions, spell_declarator, spell_declarators, IsWellBounds, IsWellDeclarator, Reads}
 use Rattle.meaning.specs.declared.syntax.Kind.{Kind}
 use Rattle.meaning.specs.declared.syntax.Kind.TheVariants as kinds
 use Rattle.meaning.specs.Kinds.{kind_of}
-use Rattle.meaning.specs.Reading.{Text, Reader, ◌>>=◌, either, run, sign_at, operator_at, name_at, label_at, paren_at, primary_at, front_at, may_follow, operations_at, expression_at, whole_expression_at, expressions_at, list_of, unit_at, at_end, after, assignment_of, writing_of, format_of, limits_at, comma_at, doing_of, continuing_of, ending_of, shape_of}
+use Rattle.meaning.specs.Reading.{Text, Reader, ◌>>=◌, either, run, sign_at, operator_at, name_at, label_at, paren_at, exprs_at, subscripts_at, named_by, name_or_element_at, primary_at, front_at, may_follow, operations_at, expression_at, whole_expression_at, expressions_at, list_of, unit_at, at_end, after, assignment_of, writing_of, format_of, limits_at, comma_at, doing_of, continuing_of, bounds_at, separated_at, dimensions_at, declarator_at, typing_of, ending_of, shape_of}
+use Rattle.parser.proofs.Joined.{joined_more, joined, has_some, joined_bounds, joined_declarators}
 use Rattle.parser.proofs.Words.{after_takes, before_takes, bind_some, when_some, made_is, run_takes, run_passes}
 
 -- ---- tokens
@@ -77,6 +79,76 @@ digits_are c t digit = rw (digit, digit, run_passes is_digit t) (grind (arith, n
 abbrev pub ReadsWell : (ℕ → Reader ExprTree) → Type 0
 ReadsWell rec = (least : ℕ) (t : Text) (x : ExprTree × Text) → least ≤ 8 → rec least t ≡ Some x → Begins least t x
 
+-- and what is read at the weakest level
+abbrev pub ReadsWhole : (ℕ → Reader ExprTree) → Type 0
+ReadsWhole rec = (t : Text) (x : ExprTree × Text) → rec 0 t ≡ Some x → Begins 0 t x
+
+-- ---- subscripts
+
+-- the text begins with the spelling of expressions, one at least
+pub record BeginsExprs (t : Text) (x : ExprsTree × Text) : Type 0 where
+  pub whole : t ≡ spell_exprs x.0 ++ x.1
+  pub well : AreWellSubscripts x.0
+  pub has_one : spell_behind x.0 ≡ 44 ∷ spell_exprs x.0
+  pub enclosed : spell_subscripts x.0 ≡ 40 ∷ (spell_exprs x.0 ++ 41 ∷ [])
+
+pub record BeginsSubscripts (t : Text) (x : ExprsTree × Text) : Type 0 where
+  pub whole : t ≡ spell_subscripts x.0 ++ x.1
+  pub well : AreWellSubscripts x.0
+
+module _ (rec : ℕ → Reader ExprTree) (reads_whole : ReadsWhole rec) where
+  exprs_take : (n : ℕ) (t : Text) (x : ExprsTree × Text) → exprs_at rec n t ≡ Some x → BeginsExprs t x
+  unfolding exprs_at either ◌>>=◌
+  exprs_take zero t x e = absurd cc
+  exprs_take (suc n) t x e =
+      bind_some (rec 0 t) (λ e. either (after (44 ∷ []) e.1) (Some (exprs e.0 no_exprs, e.1)) (λ rest. exprs_at rec n rest >>= λ es. Some (exprs e.0 es.0, es.1))) x e (λ y e1 e2.
+      at_comma n t y x (reads_whole t y e1) (after (44 ∷ []) y.1) refl e2 (λ u z e. exprs_take n u z e))
+    where
+      at_comma : (n : ℕ) (t : Text) (y : ExprTree × Text) (x : ExprsTree × Text) → Begins 0 t y → (o : Option Text) → after (44 ∷ []) y.1 ≡ o
+          → either o (Some (exprs y.0 no_exprs, y.1)) (λ rest. exprs_at rec n rest >>= λ es. Some (exprs y.0 es.0, es.1)) ≡ Some x
+          → ((u : Text) (z : ExprsTree × Text) → exprs_at rec n u ≡ Some z → BeginsExprs u z) → BeginsExprs t x
+      at_comma n t y x b None is e again =
+          made_is (BeginsExprs t) (exprs y.0 no_exprs, y.1) x e (record { whole = rw append-nil b.whole; well = (b.well, tt); has_one = refl; enclosed = refl })
+      at_comma n t y x b (Some u) is e again =
+          bind_some (exprs_at rec n u) (λ es. Some (exprs y.0 es.0, es.1)) x e (λ z e1 e2.
+          let m = again u z e1 in
+          made_is (BeginsExprs t) (exprs y.0 z.0, z.1) x e2 (record {
+            whole = b.whole ∙ ap (λ v. spell_expr y.0 ++ v) (after_takes (44 ∷ []) y.1 u is ∙ ap (λ v. 44 ∷ v) m.whole ∙ ap (λ v. v ++ z.1) (sym m.has_one)) ∙ sym (append_assoc (spell_expr y.0) (spell_behind z.0) z.1);
+            well = (b.well, m.well);
+            has_one = refl;
+            enclosed = refl;
+          }))
+
+  pub subscripts_take : (t : Text) (x : ExprsTree × Text) → subscripts_at rec t ≡ Some x → BeginsSubscripts t x
+  unfolding subscripts_at either ◌>>=◌
+  subscripts_take t x e = at_parenthesis (after (40 ∷ []) t) refl e
+    where
+      at_parenthesis : (o : Option Text) → after (40 ∷ []) t ≡ o
+          → either o (Some (no_exprs, t)) (λ rest. exprs_at rec (suc (length rest)) rest >>= λ es. after (41 ∷ []) es.1 >>= λ behind. Some (es.0, behind)) ≡ Some x → BeginsSubscripts t x
+      at_parenthesis None is e = made_is (BeginsSubscripts t) (no_exprs, t) x e (record { whole = refl; well = tt })
+      at_parenthesis (Some u) is e =
+          bind_some (exprs_at rec (suc (length u)) u) (λ es. after (41 ∷ []) es.1 >>= λ behind. Some (es.0, behind)) x e (λ es e1 e2.
+          bind_some (after (41 ∷ []) es.1) (λ behind. Some (es.0, behind)) x e2 (λ behind e3 e4.
+          let b = exprs_take (suc (length u)) u es e1 in
+          let opens : t ≡ 40 ∷ u = after_takes (40 ∷ []) t u is in
+          let closes : es.1 ≡ 41 ∷ behind = after_takes (41 ∷ []) es.1 behind e3 in
+          made_is (BeginsSubscripts t) (es.0, behind) x e4 (record {
+            whole = opens ∙ ap (λ v. 40 ∷ v) (b.whole ∙ ap (λ v. spell_exprs es.0 ++ v) closes ∙ sym (append_assoc (spell_exprs es.0) (41 ∷ []) behind)) ∙ ap (λ v. v ++ behind) (sym b.enclosed);
+            well = b.well;
+          })))
+
+named_spelled : (letters : Text) (es : ExprsTree) → spell_expr (named_by letters es) ≡ letters ++ spell_subscripts es
+named_spelled letters no_exprs = sym (append-nil letters)
+named_spelled letters (exprs e es) = refl
+
+named_well : (letters : Text) (es : ExprsTree) → IsTrue (is_name letters) → AreWellSubscripts es → IsWellExpr (named_by letters es)
+named_well letters no_exprs well all = well
+named_well letters (exprs e es) well all = (well, (refl, all))
+
+named_strong : (letters : Text) (es : ExprsTree) → level_of (named_by letters es) ≡ 8
+named_strong letters no_exprs = refl
+named_strong letters (exprs e es) = refl
+
 -- no operator binds so strongly that nothing could stand on its right
 pub level_below : (o : Operator) → level o + 1 ≤ 8
 level_below operators.Add = omega arith
@@ -97,6 +169,20 @@ module _ (rec : ℕ → Reader ExprTree) (reads_well : ReadsWell rec) where
         strong = low;
       })))
 
+  named_takes : (least : ℕ) (t : Text) (x : ExprTree × Text) → least ≤ 8 → name_or_element_at rec t ≡ Some x → Begins least t x
+  unfolding name_or_element_at ◌>>=◌
+  named_takes least t x low e =
+      bind_some (name_at t) (λ n. subscripts_at rec n.1 >>= λ es. Some (named_by n.0 es.0, es.1)) x e (λ n e1 e2.
+      bind_some (subscripts_at rec n.1) (λ es. Some (named_by n.0 es.0, es.1)) x e2 (λ es e3 e4.
+      let m = name_takes t n e1 in
+      let b = subscripts_take rec (λ t x e. reads_well 0 t x (omega arith) e) n.1 es e3 in
+      let strong : level_of (named_by n.0 es.0) ≡ 8 = named_strong n.0 es.0 in
+      made_is (Begins least t) (named_by n.0 es.0, es.1) x e4 (record {
+        whole = m.0 ∙ ap (λ u. n.0 ++ u) b.whole ∙ sym (append_assoc n.0 (spell_subscripts es.0) es.1) ∙ ap (λ u. u ++ es.1) (sym (named_spelled n.0 es.0));
+        well = named_well n.0 es.0 m.1 b.well;
+        strong = subst (λ (n : ℕ). least ≤ n) (sym strong) low;
+      })))
+
   pub primary_takes : (least : ℕ) (t : Text) (x : ExprTree × Text) → least ≤ 8 → primary_at rec t ≡ Some x → Begins least t x
   unfolding primary_at ◌>>=◌
   primary_takes least [] x low e = absurd cc
@@ -106,9 +192,7 @@ module _ (rec : ℕ → Reader ExprTree) (reads_well : ReadsWell rec) where
             (record { whole = run_takes is_digit (c ∷ t); well = digits_are c t digit; strong = low })
         | inr other ↦ elim (cases_Bool (eqb c 40)) [
           | inl opens ↦ subst (λ d. Begins least (d ∷ t) x) (sym (eqb-true c 40 opens)) (paren_takes least t x low (rw (other, opens) at e))
-          | inr named ↦ bind_some (name_at (c ∷ t)) (λ n. Some (name n.0, n.1)) x (rw (other, named) at e) (λ n e1 e2.
-              let m = name_takes (c ∷ t) n e1 in
-              made_is (Begins least (c ∷ t)) (name n.0, n.1) x e2 (record { whole = m.0; well = m.1; strong = low }))
+          | inr named ↦ named_takes least (c ∷ t) x low (rw (other, named) at e)
         ]
       ]
 
@@ -265,15 +349,19 @@ comma_takes t = at_comma (after (44 ∷ []) t) refl
 assignment_takes : (t : Text) (s : ShapeTree) → assignment_of t ≡ Some s → Reads t s
 unfolding assignment_of
 assignment_takes t s e =
-    bind_some _ _ s e (λ n e1 e. bind_some _ _ s e (λ rest e2 e. bind_some _ _ s e (λ x e3 e. bind_some _ _ s e (λ v e4 e.
+    bind_some _ _ s e (λ n e1 e. bind_some _ _ s e (λ es e2 e. bind_some _ _ s e (λ rest e3 e. bind_some _ _ s e (λ x e4 e. bind_some _ _ s e (λ v e5 e.
     let a = name_takes t n e1 in
-    let b = after_takes (61 ∷ []) n.1 rest e2 in
-    let c = whole_takes rest x e3 in
-    let d = ends_takes x v e4 in
-    made_is (Reads t) (assignment n.0 v) s e (record {
-      well = (a.1, subst IsWellExpr d.0 c.well);
-      spelled = rw (a.0, b, c.whole, d.0, d.1, append-nil) refl;
-    })))))
+    let f = subscripts_take (λ least rest. whole_expression_at rest) (λ t x e. whole_takes t x e) n.1 es e2 in
+    let b = after_takes (61 ∷ []) es.1 rest e3 in
+    let c = whole_takes rest x e4 in
+    let d = ends_takes x v e5 in
+    made_is (Reads t) (assignment n.0 es.0 v) s e (record {
+      well = (a.1, (f.well, subst IsWellExpr d.0 c.well));
+      spelled = assignment_whole t n.0 n.1 (spell_subscripts es.0) es.1 rest (spell_expr x.0) x.1 (spell_expr v) a.0 f.whole b c.whole (ap spell_expr d.0) d.1;
+    }))))))
+  where
+    assignment_whole : (t n n1 es es1 rest x x1 v : Text) → t ≡ n ++ n1 → n1 ≡ es ++ es1 → es1 ≡ 61 ∷ rest → rest ≡ x ++ x1 → x ≡ v → x1 ≡ [] → n ++ (es ++ (61 ∷ v)) ≡ t
+    assignment_whole t n n1 es es1 rest x x1 v a b c d f g = rw (a, b, c, d, f, g, append-nil) refl
 
 writing_takes : (t : Text) (s : ShapeTree) → writing_of t ≡ Some s → Reads t s
 unfolding writing_of
@@ -326,6 +414,110 @@ continuing_takes t s e =
     let b = ends_takes (continuing, rest) s e in
     subst (Reads t) b.0 (record { well = tt; spelled = rw (a, b.1) refl }))
 
+-- ---- type statements
+
+pub record BeginsBounds (t : Text) (x : BoundsTree × Text) : Type 0 where
+  pub whole : t ≡ spell_bounds x.0 ++ x.1
+  pub well : IsWellBounds x.0
+
+bounds_whole : (t y y1 rest u u1 : Text) → t ≡ y ++ y1 → y1 ≡ 58 ∷ rest → rest ≡ u ++ u1 → t ≡ ((y ++ 58 ∷ []) ++ u) ++ u1
+bounds_whole t y y1 rest u u1 a b c = rw (a, b, c, append_assoc (y ++ 58 ∷ []) u u1, append_assoc y (58 ∷ []) (u ++ u1)) refl
+
+bounds_take : (t : Text) (x : BoundsTree × Text) → bounds_at t ≡ Some x → BeginsBounds t x
+unfolding bounds_at either
+bounds_take t x e = bind_some _ _ x e (λ y e1 e. at_colon y (whole_takes t y e1) (after (58 ∷ []) y.1) refl e)
+  where
+    at_colon : (y : ExprTree × Text) → Begins 0 t y → (o : Option Text) → after (58 ∷ []) y.1 ≡ o
+        → either o (Some (record { lower = None; upper = y.0 }, y.1)) (λ rest. whole_expression_at rest >>= λ u. Some (record { lower = Some y.0; upper = u.0 }, u.1)) ≡ Some x → BeginsBounds t x
+    at_colon y b None is e = made_is (BeginsBounds t) (record { lower = None; upper = y.0 }, y.1) x e (record { whole = b.whole; well = (tt, b.well) })
+    at_colon y b (Some rest) is e =
+        bind_some (whole_expression_at rest) (λ u. Some (record { lower = Some y.0; upper = u.0 }, u.1)) x e (λ u e1 e2.
+        let c = whole_takes rest u e1 in
+        let d = after_takes (58 ∷ []) y.1 rest is in
+        made_is (BeginsBounds t) (record { lower = Some y.0; upper = u.0 }, u.1) x e2 (record {
+          whole = bounds_whole t (spell_expr y.0) y.1 rest (spell_expr u.0) u.1 b.whole d c.whole;
+          well = (b.well, c.well);
+        }))
+
+-- the text begins with such spellings, one at least, with commas between
+pub record BeginsMany (A : Type 0) (spelling : A → Text) (IsWellOne : A → Type 0) (t : Text) (x : List A × Text) : Type 0 where
+  pub whole : t ≡ joined spelling x.0 ++ x.1
+  pub well : AllByRecursion IsWellOne x.0
+  pub has_one : joined_more spelling x.0 ≡ 44 ∷ joined spelling x.0
+  pub some : IsTrue (nat_lt 0 (length x.0))
+
+module _ (A : Type 0) (one : Reader A) (spelling : A → Text) (IsWellOne : A → Type 0) where
+  pub separated_take : ((t : Text) (x : A × Text) → one t ≡ Some x → (t ≡ spelling x.0 ++ x.1) × IsWellOne x.0) → (n : ℕ) (t : Text) (x : List A × Text) → separated_at one n t ≡ Some x → BeginsMany A spelling IsWellOne t x
+  unfolding separated_at either ◌>>=◌
+  separated_take takes zero t x e = absurd cc
+  separated_take takes (suc n) t x e =
+      bind_some (one t) (λ y. either (after (44 ∷ []) y.1) (Some (y.0 ∷ [], y.1)) (λ rest. separated_at one n rest >>= λ ys. Some (y.0 ∷ ys.0, ys.1))) x e (λ y e1 e2.
+      at_comma n t y x (takes t y e1) (after (44 ∷ []) y.1) refl e2 (λ u z e. separated_take takes n u z e))
+    where
+      at_comma : (n : ℕ) (t : Text) (y : A × Text) (x : List A × Text) → (t ≡ spelling y.0 ++ y.1) × IsWellOne y.0 → (o : Option Text) → after (44 ∷ []) y.1 ≡ o
+          → either o (Some (y.0 ∷ [], y.1)) (λ rest. separated_at one n rest >>= λ ys. Some (y.0 ∷ ys.0, ys.1)) ≡ Some x
+          → ((u : Text) (z : List A × Text) → separated_at one n u ≡ Some z → BeginsMany A spelling IsWellOne u z) → BeginsMany A spelling IsWellOne t x
+      at_comma n t y x b None is e again =
+          made_is (BeginsMany A spelling IsWellOne t) (y.0 ∷ [], y.1) x e (record { whole = rw append-nil b.0; well = (b.1, tt); has_one = refl; some = has_some y.0 [] })
+      at_comma n t y x b (Some u) is e again =
+          bind_some (separated_at one n u) (λ ys. Some (y.0 ∷ ys.0, ys.1)) x e (λ z e1 e2.
+          let m = again u z e1 in
+          made_is (BeginsMany A spelling IsWellOne t) (y.0 ∷ z.0, z.1) x e2 (record {
+            whole = b.0 ∙ ap (λ v. spelling y.0 ++ v) (after_takes (44 ∷ []) y.1 u is ∙ ap (λ v. 44 ∷ v) m.whole ∙ ap (λ v. v ++ z.1) (sym m.has_one)) ∙ sym (append_assoc (spelling y.0) (joined_more spelling z.0) z.1);
+            well = (b.1, m.well);
+            has_one = refl;
+            some = has_some y.0 z.0;
+          }))
+
+pub record BeginsDimensions (t : Text) (x : List BoundsTree × Text) : Type 0 where
+  pub whole : t ≡ spell_dimensions x.0 ++ x.1
+  pub well : AllByRecursion IsWellBounds x.0
+
+dimensions_take : (t : Text) (x : List BoundsTree × Text) → dimensions_at t ≡ Some x → BeginsDimensions t x
+unfolding dimensions_at either
+dimensions_take t x e = at_parenthesis (after (40 ∷ []) t) refl e
+  where
+    dimensions_whole : (t u bs bs1 behind : Text) → t ≡ 40 ∷ u → u ≡ bs ++ bs1 → bs1 ≡ 41 ∷ behind → t ≡ (40 ∷ (bs ++ 41 ∷ [])) ++ behind
+    dimensions_whole t u bs bs1 behind a b c = rw (a, b, c, append_assoc bs (41 ∷ []) behind) refl
+
+    at_parenthesis : (o : Option Text) → after (40 ∷ []) t ≡ o
+        → either o (Some ([], t)) (λ rest. separated_at bounds_at (suc (length rest)) rest >>= λ bs. after (41 ∷ []) bs.1 >>= λ behind. Some (bs.0, behind)) ≡ Some x → BeginsDimensions t x
+    at_parenthesis None is e = made_is (BeginsDimensions t) ([], t) x e (record { whole = refl; well = tt })
+    at_parenthesis (Some u) is e =
+        bind_some (separated_at bounds_at (suc (length u)) u) (λ bs. after (41 ∷ []) bs.1 >>= λ behind. Some (bs.0, behind)) x e (λ bs e1 e2.
+        bind_some (after (41 ∷ []) bs.1) (λ behind. Some (bs.0, behind)) x e2 (λ behind e3 e4.
+        let b = separated_take BoundsTree bounds_at spell_bounds IsWellBounds (λ t x e. let m = bounds_take t x e in (m.whole, m.well)) (suc (length u)) u bs e1 in
+        let opens = after_takes (40 ∷ []) t u is in
+        let closes = after_takes (41 ∷ []) bs.1 behind e3 in
+        made_is (BeginsDimensions t) (bs.0, behind) x e4 (record {
+          whole = dimensions_whole t u (joined spell_bounds bs.0) bs.1 behind opens b.whole closes ∙ ap (λ v. v ++ behind) (sym (joined_bounds bs.0 b.some));
+          well = b.well;
+        })))
+
+declarator_takes : (t : Text) (x : DeclaratorTree × Text) → declarator_at t ≡ Some x → (t ≡ spell_declarator x.0 ++ x.1) × IsWellDeclarator x.0
+unfolding declarator_at
+declarator_takes t x e =
+    bind_some _ _ x e (λ n e1 e. bind_some _ _ x e (λ bs e2 e.
+    let a = name_takes t n e1 in
+    let b = dimensions_take n.1 bs e2 in
+    made_is (λ x. (t ≡ spell_declarator x.0 ++ x.1) × IsWellDeclarator x.0) (record { name = n.0; bounds = bs.0 }, bs.1) x e
+    (a.0 ∙ ap (λ u. n.0 ++ u) b.whole ∙ sym (append_assoc n.0 (spell_dimensions bs.0) bs.1), (a.1, b.well))))
+
+typing_takes : (t : Text) (s : ShapeTree) → typing_of t ≡ Some s → Reads t s
+unfolding typing_of
+typing_takes t s e =
+    bind_some _ _ s e (λ rest e1 e. bind_some _ _ s e (λ ds e2 e. bind_some _ _ s e (λ all e3 e.
+    let a = after_takes (codes "INTEGER") t rest e1 in
+    let b = separated_take DeclaratorTree declarator_at spell_declarator IsWellDeclarator declarator_takes (suc (length rest)) rest ds e2 in
+    let d = ends_takes ds all e3 in
+    made_is (Reads t) (typing all) s e (subst (λ all. Reads t (typing all)) d.0 (record {
+      well = (b.some, b.well);
+      spelled = typing_whole t rest (joined spell_declarator ds.0) ds.1 (spell_declarators ds.0) a b.whole d.1 (joined_declarators ds.0);
+    })))))
+  where
+    typing_whole : (t rest ds ds1 spelled : Text) → t ≡ codes "INTEGER" ++ rest → rest ≡ ds ++ ds1 → ds1 ≡ [] → spelled ≡ ds → codes "INTEGER" ++ spelled ≡ t
+    typing_whole t rest ds ds1 spelled a b c d = rw (a, b, c, d, append-nil) refl
+
 ending_takes : (t : Text) (s : ShapeTree) → ending_of t ≡ Some s → Reads t s
 unfolding ending_of
 ending_takes t s e =
@@ -344,5 +536,6 @@ shape_takes t s e = at_kind (kind_of t) refl
     at_kind kinds.Format is = format_takes t s (rw (is, shape_of) at e)
     at_kind kinds.Do is = doing_takes t s (rw (is, shape_of) at e)
     at_kind kinds.Continue is = continuing_takes t s (rw (is, shape_of) at e)
+    at_kind kinds.Integer is = typing_takes t s (rw (is, shape_of) at e)
     at_kind kinds.End is = ending_takes t s (rw (is, shape_of) at e)
     at_kind kinds.Other is = let no : None ≡ Some s = rw (is, shape_of) at e in absurd cc

@@ -2,13 +2,13 @@
 
 ghost use Rattle.std.specs.Prelude.{◌≡◌, ◌+◌, length, IfOk};
 ghost use Rattle.meaning.specs.Spelling.{level, level_of};
-ghost use Rattle.meaning.specs.Syntax.{binary, expr_tree};
-ghost use Rattle.meaning.specs.Reading.{paren_at, primary_at, front_at, may_follow, operations_at, expression_at, whole_expression_at};
+ghost use Rattle.meaning.specs.Syntax.{binary, exprs, expr_tree, exprs_tree};
+ghost use Rattle.meaning.specs.Reading.{paren_at, exprs_at, subscripts_at, named_by, name_or_element_at, primary_at, front_at, may_follow, operations_at, expression_at, whole_expression_at};
 ghost use Rattle.parser.specs.Reports.{Agrees};
 
 use crate::read_error::ReadError;
-use crate::token::{expect, read_name, read_operator, read_sign, split_digits};
-use meaning::syntax::{Expr, Operator};
+use crate::token::{behind, expect, read_name, read_operator, read_sign, split_digits};
+use meaning::syntax::{Expr, Exprs, Operator};
 use std::alloc::{AllocError, Global};
 
 /// The level of a whole expression.
@@ -20,7 +20,7 @@ const SIGNED: u8 = 5;
 /// The level of the term that a sign takes.
 const TERM: u8 = 6;
 
-/// The level of digits, names and expressions in parentheses.
+/// The level of digits, names, elements and expressions in parentheses.
 const PRIMARY: u8 = 8;
 
 /// How strongly an operator binds (ANSI X3.9-1978, 6.1.3 and 6.5).
@@ -38,7 +38,7 @@ fn level_of_expression(expression: &Expr) -> u8
     ensures { result ≡ level_of (expr_tree expression.now) }
 {
     match expression {
-        Expr::Number(_) | Expr::Name(_) | Expr::Paren(_) => PRIMARY,
+        Expr::Number(_) | Expr::Name(_) | Expr::Paren(_) | Expr::Element(_, _) => PRIMARY,
         Expr::Signed(_, _) => SIGNED,
         Expr::Binary(operator, _, _) => level_of_operator(*operator),
     }
@@ -68,6 +68,26 @@ fn join(alloc: Global, operator: Operator, left: Expr, right: Expr) -> Result<Ex
     Ok(Expr::Binary(operator, left, right))
 }
 
+/// An expression before others.
+pub fn list_with(alloc: Global, first: Expr, others: Exprs) -> Result<Exprs, AllocError>
+    ensures { IfOk result (λ es. exprs_tree es ≡ exprs (expr_tree first) (exprs_tree others)) }
+{
+    Ok(Exprs::More(first, Box::new(alloc, others)?))
+}
+
+/// A name, or with subscripts an element.
+fn name_with(alloc: Global, name: Vec<u8>, subscripts: Exprs) -> Result<Expr, AllocError>
+    ensures { IfOk result (λ e. expr_tree e ≡ named_by name.items (exprs_tree subscripts)) }
+{
+    match subscripts {
+        Exprs::Empty => Ok(Expr::Name(name)),
+        Exprs::More(first, others) => {
+            let subscripts = Box::new(alloc, Exprs::More(first, others))?;
+            Ok(Expr::Element(name, subscripts))
+        }
+    }
+}
+
 /// An expression of the weakest level behind an opening parenthesis, and the closing one.
 #[cycle(expression)]
 #[tactic(auto, unfolding(meaning::specs::Reading::paren_at))]
@@ -79,9 +99,67 @@ fn read_parenthesis(alloc: Global, depth: usize, text: &[u8]) -> Result<(Expr, &
     Ok((Expr::Paren(Box::new(alloc, inner)?), rest))
 }
 
-/// Digits, a name, or an expression in parentheses.
+/// Expressions of the weakest level with commas between, one at least and so many at most.
 #[cycle(expression)]
-#[tactic(auto, unfolding(meaning::specs::Reading::primary_at, meaning::specs::Reading::name_at))]
+#[tactic(auto, unfolding(meaning::specs::Reading::exprs_at, meaning::specs::Reading::either))]
+fn read_inner_expressions(
+    alloc: Global,
+    depth: usize,
+    most: usize,
+    text: &[u8],
+) -> Result<(Exprs, &[u8]), ReadError>
+    ensures { Agrees (λ x. (exprs_tree x.0, x.1.now)) result (exprs_at (expression_at depth) most text.now) }
+{
+    if most == 0 {
+        return Err(ReadError::NoReading);
+    }
+    let (first, rest) = read_expression(alloc, depth, WEAKEST, text)?;
+    match behind(b",", rest) {
+        None => Ok((list_with(alloc, first, Exprs::Empty)?, rest)),
+        Some(rest) => {
+            let (others, rest) = read_inner_expressions(alloc, depth, most - 1, rest)?;
+            Ok((list_with(alloc, first, others)?, rest))
+        }
+    }
+}
+
+/// Subscripts in parentheses (ANSI X3.9-1978, 5.4), or none.
+#[cycle(expression)]
+#[tactic(auto, unfolding(meaning::specs::Reading::subscripts_at, meaning::specs::Reading::either))]
+fn read_inner_subscripts(
+    alloc: Global,
+    depth: usize,
+    text: &[u8],
+) -> Result<(Exprs, &[u8]), ReadError>
+    ensures { Agrees (λ x. (exprs_tree x.0, x.1.now)) result (subscripts_at (expression_at depth) text.now) }
+{
+    match behind(b"(", text) {
+        None => Ok((Exprs::Empty, text)),
+        Some(rest) => {
+            let (list, rest) = read_inner_expressions(alloc, depth, rest.len() + 1, rest)?;
+            Ok((list, expect(b")", rest)?))
+        }
+    }
+}
+
+/// A name, or with subscripts an element.
+#[cycle(expression)]
+#[tactic(auto, unfolding(meaning::specs::Reading::name_or_element_at))]
+fn read_name_or_element(
+    alloc: Global,
+    depth: usize,
+    text: &[u8],
+) -> Result<(Expr, &[u8]), ReadError>
+    ensures { Agrees (λ x. (expr_tree x.0, x.1.now)) result (name_or_element_at (expression_at depth) text.now) }
+{
+    let (name, rest) = read_name(alloc, text)?;
+    let (subscripts, rest) = read_inner_subscripts(alloc, depth, rest)?;
+    Ok((name_with(alloc, name, subscripts)?, rest))
+}
+
+/// Digits, a name, an element, or an expression in parentheses.
+#[cycle(expression)]
+#[tactic(auto, unfolding(meaning::specs::Reading::primary_at))]
 fn read_primary(alloc: Global, depth: usize, text: &[u8]) -> Result<(Expr, &[u8]), ReadError>
     ensures { Agrees (λ x. (expr_tree x.0, x.1.now)) result (primary_at (expression_at depth) text.now) }
 {
@@ -93,8 +171,7 @@ fn read_primary(alloc: Global, depth: usize, text: &[u8]) -> Result<(Expr, &[u8]
     if *first == b'(' {
         return read_parenthesis(alloc, depth, behind);
     }
-    let (name, rest) = read_name(alloc, text)?;
-    Ok((Expr::Name(name), rest))
+    read_name_or_element(alloc, depth, text)
 }
 
 /// What an expression of a level begins with: a sign and one term, where the level lets a sign stand, or a primary.

@@ -56,6 +56,8 @@ pub fn kind(bare: &Bare) -> Kind
         Kind::End
     } else if begins(text, b"CONTINUE") {
         Kind::Continue
+    } else if begins(text, b"INTEGER") {
+        Kind::Integer
     } else {
         Kind::Other
     }

@@ -1,6 +1,7 @@
 //! Statements' texts as forms: the bare text, its kind, and the form that it reads as.
 #![tactic(auto)]
 
+mod declarators;
 mod expression;
 mod laws;
 mod lexer;

@@ -1,33 +1,28 @@
 //! Statements: a text as the form that it reads as.
 
-ghost use Rattle.std.specs.Prelude.{◌≡◌, ◌∷◌, IfOk};
-ghost use Rattle.meaning.specs.Syntax.{expr_tree, exprs_trees, unit_tree, limits_tree, shape_tree};
-ghost use Rattle.meaning.specs.Reading.{at_end as ends, expressions_at, list_of, unit_at, assignment_of, writing_of, format_of, ending_of, limits_at, comma_at, doing_of, continuing_of, shape_of, read_shape};
+ghost use Rattle.std.specs.Prelude.{◌≡◌};
+ghost use Rattle.meaning.specs.Syntax.{exprs_tree, exprs_trees, unit_tree, limits_tree, shape_tree};
+ghost use Rattle.meaning.specs.Reading.{at_end as ends, whole_expression_at, exprs_at, subscripts_at, expressions_at, list_of, unit_at, assignment_of, writing_of, format_of, ending_of, limits_at, comma_at, doing_of, continuing_of, typing_of, shape_of, read_shape};
 ghost use Rattle.meaning.specs.Answers.{at_line};
 ghost use Rattle.meaning.specs.Reports.{Gives};
 ghost use Rattle.parser.specs.Reports.{Agrees};
 
-use crate::expression::read_whole_expression;
+use crate::declarators::read_declarators;
+use crate::expression::{list_with, read_whole_expression};
 use crate::lexer::kind;
 use crate::read_error::ReadError;
 use crate::scan::{begins_left_out, is_balanced, is_too_deep};
 use crate::token::{before_parenthesis, behind, expect, read_label, read_name};
 use meaning::refusal::{Refusal, Rule};
 use meaning::statement::Bare;
-use meaning::syntax::{Expr, Exprs, Form, Kind, Limits, Shape, Unit};
-use std::alloc::{AllocError, Global};
-
-/// An expression before others.
-fn list_with(alloc: Global, first: Expr, others: Exprs) -> Result<Exprs, AllocError>
-    ensures { IfOk result (λ es. exprs_trees es ≡ expr_tree first ∷ exprs_trees others) }
-{
-    Ok(Exprs::More(first, Box::new(alloc, others)?))
-}
+use meaning::syntax::{Exprs, Form, Kind, Limits, Shape, Unit};
+use std::alloc::Global;
 
 /// Expressions with commas between, one at least.
-#[tactic(auto, unfolding(meaning::specs::Reading::expressions_at, meaning::specs::Reading::either))]
+#[tactic(auto, unfolding(meaning::specs::Reading::exprs_at, meaning::specs::Reading::expressions_at, meaning::specs::Reading::either))]
 fn read_expressions(alloc: Global, most: usize, text: &[u8]) -> Result<(Exprs, &[u8]), ReadError>
-    ensures { Agrees (λ x. (exprs_trees x.0, x.1.now)) result (expressions_at most text.now) }
+    ensures tree { Agrees (λ x. (exprs_tree x.0, x.1.now)) result (exprs_at (λ _ t. whole_expression_at t) most text.now) }
+    ensures list { Agrees (λ x. (exprs_trees x.0, x.1.now)) result (expressions_at most text.now) }
 {
     if most == 0 {
         return Err(ReadError::NoReading);
@@ -81,15 +76,37 @@ fn at_end(shape: Shape, rest: &[u8]) -> Result<Shape, ReadError>
     Ok(shape)
 }
 
+/// Subscripts in parentheses (ANSI X3.9-1978, 5.4), or none.
+#[tactic(auto, unfolding(meaning::specs::Reading::subscripts_at, meaning::specs::Reading::either))]
+fn read_subscripts(alloc: Global, text: &[u8]) -> Result<(Exprs, &[u8]), ReadError>
+    ensures { Agrees (λ x. (exprs_tree x.0, x.1.now)) result (subscripts_at (λ _ t. whole_expression_at t) text.now) }
+{
+    match behind(b"(", text) {
+        None => Ok((Exprs::Empty, text)),
+        Some(rest) => {
+            let (list, rest) = read_expressions(alloc, rest.len() + 1, rest)?;
+            Ok((list, expect(b")", rest)?))
+        }
+    }
+}
+
 /// An assignment (ANSI X3.9-1978, 10.1).
 #[tactic(auto, unfolding(meaning::specs::Reading::assignment_of))]
 fn read_assignment(alloc: Global, text: &[u8]) -> Result<Shape, ReadError>
     ensures { Agrees (λ x. shape_tree x) result (assignment_of text.now) }
 {
     let (name, rest) = read_name(alloc, text)?;
+    let (subscripts, rest) = read_subscripts(alloc, rest)?;
     let rest = expect(b"=", rest)?;
     let (value, rest) = read_whole_expression(alloc, rest)?;
-    at_end(Shape::Assignment { name, value }, rest)
+    at_end(
+        Shape::Assignment {
+            name,
+            subscripts,
+            value,
+        },
+        rest,
+    )
 }
 
 /// A WRITE statement (ANSI X3.9-1978, 12.8).
@@ -201,6 +218,19 @@ fn read_continue(text: &[u8]) -> Result<Shape, ReadError>
     at_end(Shape::Continue, rest)
 }
 
+/// An INTEGER statement (ANSI X3.9-1978, 8.4.1).
+#[tactic(auto, unfolding(meaning::specs::Reading::typing_of))]
+fn read_integer(alloc: Global, text: &[u8]) -> Result<Shape, ReadError>
+    ensures { Agrees (λ x. shape_tree x) result (typing_of text.now) }
+{
+    let rest = expect(b"INTEGER", text)?;
+    let (declarators, rest) = read_declarators(alloc, rest)?;
+    if !rest.is_empty() {
+        return Err(ReadError::NoReading);
+    }
+    Ok(Shape::Integer(declarators))
+}
+
 /// The form that a bare text reads as.
 #[tactic(auto, unfolding(meaning::specs::Reading::shape_of))]
 fn read_shape_of(alloc: Global, bare: &Bare) -> Result<Shape, ReadError>
@@ -212,6 +242,7 @@ fn read_shape_of(alloc: Global, bare: &Bare) -> Result<Shape, ReadError>
         Kind::Format => read_format(alloc, &bare.text),
         Kind::Do => read_do(alloc, &bare.text),
         Kind::Continue => read_continue(&bare.text),
+        Kind::Integer => read_integer(alloc, &bare.text),
         Kind::End => read_end(&bare.text),
         Kind::Other => Err(ReadError::NoReading),
     }

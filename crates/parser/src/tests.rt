@@ -1,7 +1,9 @@
 use super::*;
 use meaning::refusal::Refusal;
 use meaning::statement::{Bare, Statement};
-use meaning::syntax::{Expr, Exprs, Form, Kind, Limits, Operator, Shape, Sign, Unit};
+use meaning::syntax::{
+    Bounds, Declarator, Expr, Exprs, Form, Kind, Limits, Operator, Shape, Sign, Unit,
+};
 use std::alloc::{AllocError, Global};
 use std::test::*;
 
@@ -16,8 +18,9 @@ fn bare_of(alloc: Global, text: &[u8]) -> Result<Option<Bare>, AllocError> {
     }))
 }
 
-/// An expression with parentheses round each sign and each operator with its operands, and with brackets in place of
-/// the parentheses that were written.
+/// An expression with parentheses round each sign and each operator with its operands, with brackets in place of the
+/// parentheses that were written, and with braces round subscripts.
+#[cycle(expression)]
 fn write_expression(out: &mut Vec<u8>, expression: &Expr) -> Result<(), AllocError> {
     match expression {
         Expr::Number(digits) => out.extend_from_slice(digits)?,
@@ -47,11 +50,18 @@ fn write_expression(out: &mut Vec<u8>, expression: &Expr) -> Result<(), AllocErr
             write_expression(out, inner)?;
             out.push(b']')?;
         }
+        Expr::Element(name, subscripts) => {
+            out.extend_from_slice(name)?;
+            out.push(b'{')?;
+            write_list(out, subscripts)?;
+            out.push(b'}')?;
+        }
     }
     Ok(())
 }
 
 /// Expressions, each with a semicolon before it.
+#[cycle(expression)]
 fn write_list(out: &mut Vec<u8>, list: &Exprs) -> Result<(), AllocError> {
     match list {
         Exprs::Empty => Ok(()),
@@ -75,11 +85,40 @@ fn write_limits(out: &mut Vec<u8>, limits: &Limits) -> Result<(), AllocError> {
     Ok(())
 }
 
+/// A dimension, with a semicolon before it.
+fn write_bounds(out: &mut Vec<u8>, bounds: &Bounds) -> Result<(), AllocError> {
+    out.push(b';')?;
+    if let Some(lower) = &bounds.lower {
+        write_expression(out, lower)?;
+        out.push(b':')?;
+    }
+    write_expression(out, &bounds.upper)
+}
+
+/// A name, and in braces its dimensions.
+fn write_declarator(out: &mut Vec<u8>, declarator: &Declarator) -> Result<(), AllocError> {
+    out.push(b' ')?;
+    out.extend_from_slice(&declarator.name)?;
+    if !declarator.bounds.is_empty() {
+        out.push(b'{')?;
+        for bounds in &declarator.bounds {
+            write_bounds(out, bounds)?;
+        }
+        out.push(b'}')?;
+    }
+    Ok(())
+}
+
 fn write_shape(out: &mut Vec<u8>, shape: &Shape) -> Result<(), AllocError> {
     match shape {
-        Shape::Assignment { name, value } => {
+        Shape::Assignment {
+            name,
+            subscripts,
+            value,
+        } => {
             out.extend_from_slice(b"assign ")?;
             out.extend_from_slice(name)?;
+            write_list(out, subscripts)?;
             out.push(b' ')?;
             write_expression(out, value)?;
         }
@@ -111,6 +150,12 @@ fn write_shape(out: &mut Vec<u8>, shape: &Shape) -> Result<(), AllocError> {
             write_limits(out, limits)?;
         }
         Shape::Continue => out.extend_from_slice(b"continue")?,
+        Shape::Integer(declarators) => {
+            out.extend_from_slice(b"integer")?;
+            for declarator in declarators {
+                write_declarator(out, declarator)?;
+            }
+        }
         Shape::End => out.extend_from_slice(b"end")?,
     }
     Ok(())
@@ -173,6 +218,41 @@ fn forms(rt: HostRuntime) -> Result<(), Fail> {
         ("DO10DO10=1,5", "do 10 DO10 1;5"),
         ("DO=1", "assign DO 1"),
         ("CONTINUE", "continue"),
+        ("I=A(1)", "assign I A{;1}"),
+        ("A(I)=1", "assign A;I 1"),
+        ("A(I)=B(J,K+1)", "assign A;I B{;J;(K+1)}"),
+        ("A(I,J+1)=B(A(I))", "assign A;I;(J+1) B{;A{;I}}"),
+        ("A(I(J))=1", "assign A;I{;J} 1"),
+        (
+            "A(-I*2,(J))=-B(1)*C(2)",
+            "assign A;(-(I*2));[J] (-(B{;1}*C{;2}))",
+        ),
+        ("A(1,2,3,4,5,6,7,8)=1", "assign A;1;2;3;4;5;6;7;8 1"),
+        ("INTEGE=5", "assign INTEGE 5"),
+        ("INTEGE(5)=5", "assign INTEGE;5 5"),
+        ("WRITE(5)=5", "assign WRITE;5 5"),
+        ("END(5)=5", "assign END;5 5"),
+        (
+            "WRITE(U(1),10)A(I),(B(1,2))",
+            "write U{;1} 10;A{;I};[B{;1;2}]",
+        ),
+        ("DO10I=A(1,2),B(3)", "do 10 I A{;1;2};B{;3}"),
+        ("INTEGERI", "integer I"),
+        ("INTEGERI,J,K", "integer I J K"),
+        ("INTEGERA(10),B(0:4,2)", "integer A{;10} B{;0:4;2}"),
+        ("INTEGERA(-5:-1)", "integer A{;(-5):(-1)}"),
+        (
+            "INTEGERI,J(3),K(-1:1,N,2*3)",
+            "integer I J{;3} K{;(-1):1;N;(2*3)}",
+        ),
+        ("INTEGERA(B(1):C(2,3))", "integer A{;B{;1}:C{;2;3}}"),
+        ("INTEGERA(1,2,3,4,5,6,7)", "integer A{;1;2;3;4;5;6;7}"),
+        (
+            "INTEGERA(0:1,2,3:4,5,6:7,8,9:10)",
+            "integer A{;0:1;2;3:4;5;6:7;8;9:10}",
+        ),
+        ("INTEGERA(1,2,3,4,5,6,7,8)", "integer A{;1;2;3;4;5;6;7;8}"),
+        ("INTEGERINTEGE", "integer INTEGE"),
     ];
     for (text, wanted) in table {
         assert_eq!(rt; reading(rt.alloc(), text.as_bytes())?.as_str(), wanted);
@@ -222,7 +302,50 @@ fn refusals(rt: HostRuntime) -> Result<(), Fail> {
         "I=(1))",
         "I=(1)2",
         "I=(1)(2)",
-        "I=A(1)",
+        "I=A()",
+        "I=A(1,)",
+        "I=A(,1)",
+        "I=A(1",
+        "I=A(1)(2)",
+        "I=A(1)2",
+        "I=2(1)",
+        "I=A(1:2)",
+        "A()=1",
+        "A(1,)=2",
+        "A(I)(J)=3",
+        "A(1))=1",
+        "A(1=2",
+        "A1)=2",
+        "A((1)(2))=3",
+        "2(1)=3",
+        "(A)=3",
+        "DO10I(1)=1,2",
+        "INTEGER",
+        "INTEGERI(",
+        "INTEGERI()",
+        "INTEGERI,",
+        "INTEGERI,,J",
+        "INTEGER,I",
+        "INTEGER*4I",
+        "INTEGER=5",
+        "INTEGERI=5",
+        "INTEGERI(3)=5",
+        "INTEGER(5)",
+        "INTEGERI(1)(2)",
+        "INTEGERI(1)J(2)",
+        "INTEGERI(1)J",
+        "INTEGERI1)",
+        "INTEGERI(1(2))",
+        "INTEGERI(1=2)",
+        "INTEGERI(1:)",
+        "INTEGERI(:1)",
+        "INTEGERI(1:2:3)",
+        "INTEGERI(1,)",
+        "INTEGERI(*)",
+        "INTEGERI(1",
+        "INTEGERI(1))",
+        "INTEGERI:2",
+        "INTEGERABCDEFG",
         "I=(A)=3",
         "I=(A,B)",
         "I=(A,)",
@@ -321,10 +444,10 @@ fn nested(alloc: Global, front: &[u8], count: usize) -> Result<Vec<u8>, AllocErr
     Ok(text)
 }
 
-/// As many parentheses are read as may be open at once, each with a sign and operators before it too.
+/// As many parentheses are read as may be open at once, each with a sign and operators before it too, or a name.
 #[test]
 fn nested_parentheses(rt: HostRuntime) -> Result<(), Fail> {
-    for front in ["", "-J+K*"] {
+    for front in ["", "-J+K*", "A", "-J+A(2)*B"] {
         let most = nested(rt.alloc(), front.as_bytes(), 64)?;
         let read = bare_of(rt.alloc(), &most)?.ok_or("the text is too long")?;
         assert!(rt; form(rt.alloc(), &read).is_ok(), "{front}");
@@ -337,11 +460,20 @@ fn nested_parentheses(rt: HostRuntime) -> Result<(), Fail> {
 /// The longest texts are read within the stack.
 #[test]
 fn long_texts(rt: HostRuntime) -> Result<(), Fail> {
-    for (front, more) in [("I=1", "-1"), ("WRITE(6,10)I", ",I")] {
+    let table = [
+        ("I=1", "-1", ""),
+        ("WRITE(6,10)I", ",I", ""),
+        ("I=A(1", ",1", ")"),
+        ("A(1", ",1", ")=1"),
+        ("INTEGERI", ",I", ""),
+        ("INTEGERI(1", ",1", ")"),
+    ];
+    for (front, more, end) in table {
         let mut text = Vec::from_slice(rt.alloc(), front.as_bytes())?;
         for _ in 0..650 {
             text.extend_from_slice(more.as_bytes())?;
         }
+        text.extend_from_slice(end.as_bytes())?;
         let read = bare_of(rt.alloc(), &text)?.ok_or("the text is too long")?;
         assert!(rt; form(rt.alloc(), &read).is_ok());
     }
@@ -398,6 +530,13 @@ fn kinds(rt: HostRuntime) -> Result<(), Fail> {
         ("CONTINUE", Kind::Continue),
         ("CONTINUE1", Kind::Continue),
         ("CONTINUE=1", Kind::Assignment),
+        ("INTEGERI", Kind::Integer),
+        ("INTEGER", Kind::Integer),
+        ("INTEGER=1", Kind::Assignment),
+        ("INTEGERI(1)=1,2", Kind::Do),
+        ("INTEGERI(1=2)", Kind::Integer),
+        ("INTEGE", Kind::Other),
+        ("A(1,2)=1", Kind::Assignment),
     ];
     for (text, wanted) in table {
         let read = bare_of(rt.alloc(), text.as_bytes())?.ok_or("the text is too long")?;

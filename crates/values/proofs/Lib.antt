@@ -1,2 +1,6 @@
 pub mod Exact
 pub mod Lists
+pub mod Naturals
+pub mod Places
+pub mod Reading
+pub mod Spares

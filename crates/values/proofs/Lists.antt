@@ -7,37 +7,68 @@ use Rattle.meaning.specs.declared.syntax.Expr.{Expr}
 use Rattle.meaning.specs.declared.syntax.Exprs.{Exprs}
 use Rattle.meaning.specs.declared.syntax.Exprs.TheVariants.{Empty, More'}
 use Rattle.meaning.specs.Syntax.{ExprTree, expr_tree, exprs_trees}
-use Rattle.meaning.specs.Maps.{Map}
-use Rattle.meaning.specs.Values.{value, values_of, ◌>>=◌}
+use Rattle.meaning.specs.Maps.{Map, CellNumbers, map_by}
+use Rattle.meaning.specs.Stores.{Cells, World, Reads}
+use Rattle.meaning.proofs.Stores.{reads_nothing, reads_so, reads_then}
+use Rattle.values.proofs.Reading.{Values}
+use Rattle.meaning.specs.Values.{Arrays, value, values_of, ◌>>=◌}
 
 -- values in front of others
 abbrev pub with_front : List Value → Result (List Value) FaultKind → Result (List Value) FaultKind
 with_front front (Ok xs) = Ok (front ++ xs)
 with_front front (Err k) = Err k
 
-module _ (m : Map) (front : List Value) (total : Result (List Value) FaultKind) where
-  behind_value : (e : ExprTree) (es : List ExprTree) (x : Value) → value e m ≡ Ok x → with_front (front ++ x ∷ []) (values_of es m) ≡ with_front front (values_of (e ∷ es) m)
+module _ (arrays : Arrays) (m : Map) (front : List Value) (total : Result (List Value) FaultKind) where
+  behind_value : (e : ExprTree) (es : List ExprTree) (x : Value) → value arrays e m ≡ Ok x → with_front (front ++ x ∷ []) (values_of arrays es m) ≡ with_front front (values_of arrays (e ∷ es) m)
   unfolding values_of
-  behind_value e es x h = rw h (regrouped (values_of es m) x)
+  behind_value e es x h = rw h (regrouped (values_of arrays es m) x)
     where
       regrouped : (r : Result (List Value) FaultKind) (x : Value) → with_front (front ++ x ∷ []) r ≡ with_front front (r >>= λ xs. Ok (x ∷ xs))
       regrouped (Ok xs) x = ap Ok (append_assoc front (x ∷ []) xs)
       regrouped (Err k) x = refl
 
-  behind_fault : (e : ExprTree) (es : List ExprTree) (k : FaultKind) → value e m ≡ Err k → with_front front (values_of (e ∷ es) m) ≡ Err k
+  behind_fault : (e : ExprTree) (es : List ExprTree) (k : FaultKind) → value arrays e m ≡ Err k → with_front front (values_of arrays (e ∷ es) m) ≡ Err k
   unfolding values_of
   behind_fault e es k h = rw h refl
 
   -- a turn of the loop over a list, a fault in it and its end
-  pub list_more : (l : Exprs) (e : Expr) (p : _) (es : Exprs) (x : Value) → l ≡ More' e p es → value (expr_tree e) m ≡ Ok x → with_front front (values_of (exprs_trees l) m) ≡ total → with_front (front ++ x ∷ []) (values_of (exprs_trees es) m) ≡ total
+  pub list_more : (l : Exprs) (e : Expr) (p : _) (es : Exprs) (x : Value) → l ≡ More' e p es → value arrays (expr_tree e) m ≡ Ok x → with_front front (values_of arrays (exprs_trees l) m) ≡ total → with_front (front ++ x ∷ []) (values_of arrays (exprs_trees es) m) ≡ total
   list_more l e p es x is h so_far =
-      behind_value (expr_tree e) (exprs_trees es) x h ∙ ap (λ r. with_front front (values_of (exprs_trees r) m)) (sym is) ∙ so_far
+      behind_value (expr_tree e) (exprs_trees es) x h ∙ ap (λ r. with_front front (values_of arrays (exprs_trees r) m)) (sym is) ∙ so_far
 
-  pub list_fails : (l : Exprs) (e : Expr) (p : _) (es : Exprs) (k : FaultKind) → l ≡ More' e p es → value (expr_tree e) m ≡ Err k → with_front front (values_of (exprs_trees l) m) ≡ total → total ≡ Err k
+  pub list_fails : (l : Exprs) (e : Expr) (p : _) (es : Exprs) (k : FaultKind) → l ≡ More' e p es → value arrays (expr_tree e) m ≡ Err k → with_front front (values_of arrays (exprs_trees l) m) ≡ total → total ≡ Err k
   list_fails l e p es k is h so_far =
-      sym so_far ∙ ap (λ r. with_front front (values_of (exprs_trees r) m)) is ∙ behind_fault (expr_tree e) (exprs_trees es) k h
+      sym so_far ∙ ap (λ r. with_front front (values_of arrays (exprs_trees r) m)) is ∙ behind_fault (expr_tree e) (exprs_trees es) k h
 
-  pub list_ends : (l : Exprs) → l ≡ Empty → with_front front (values_of (exprs_trees l) m) ≡ total → total ≡ Ok front
+  pub list_ends : (l : Exprs) → l ≡ Empty → with_front front (values_of arrays (exprs_trees l) m) ≡ total → total ≡ Ok front
   unfolding values_of
   list_ends l is so_far =
-      sym so_far ∙ ap (λ r. with_front front (values_of (exprs_trees r) m)) is ∙ ap Ok (append-nil front)
+      sym so_far ∙ ap (λ r. with_front front (values_of arrays (exprs_trees r) m)) is ∙ ap Ok (append-nil front)
+
+-- ---- read from a store
+
+module _ (arrays : Arrays) (numbers : CellNumbers) (list : Exprs) where
+  -- the values that were found, before those of what is left, are those of the list
+  abbrev pub Listing : List Value → Exprs → Cells → Type 0
+  Listing front rest m =
+      with_front front (values_of arrays (exprs_trees rest) (map_by numbers m)) ≡ values_of arrays (exprs_trees list) (map_by numbers m)
+
+  pub listing_starts : (w : World) → Reads w w (Listing [] list)
+  listing_starts w = reads_nothing w (Listing [] list) (λ m. nothing (values_of arrays (exprs_trees list) (map_by numbers m)))
+    where
+      nothing : (r : Result (List Value) FaultKind) → with_front [] r ≡ r
+      nothing (Ok xs) = refl
+      nothing (Err k) = refl
+
+  module _ (u v w : World) (front : List Value) (l : Exprs) (e : Expr) (p : _) (es : Exprs) (is : l ≡ More' e p es) (so_far : Reads u v (Listing front l)) where
+    pub listing_more : (x : Value) → Reads v w (Values arrays numbers (expr_tree e) (Ok x)) → Reads u w (Listing (front ++ x ∷ []) es)
+    listing_more x reads =
+        reads_then u v w (Listing front l) (Values arrays numbers (expr_tree e) (Ok x)) (Listing (front ++ x ∷ []) es) so_far reads (λ m before h. list_more arrays (map_by numbers m) front (values_of arrays (exprs_trees list) (map_by numbers m)) l e p es x is h before)
+
+    pub listing_fails : (k : FaultKind) → Reads v w (Values arrays numbers (expr_tree e) (Err k)) → Reads u w (λ m. values_of arrays (exprs_trees list) (map_by numbers m) ≡ Err k)
+    listing_fails k reads =
+        reads_then u v w (Listing front l) (Values arrays numbers (expr_tree e) (Err k)) (λ m. values_of arrays (exprs_trees list) (map_by numbers m) ≡ Err k) so_far reads (λ m before h. list_fails arrays (map_by numbers m) front (values_of arrays (exprs_trees list) (map_by numbers m)) l e p es k is h before)
+
+  pub listing_ends : (u v : World) (front : List Value) (l : Exprs) → l ≡ Empty → Reads u v (Listing front l) → Reads u v (λ m. values_of arrays (exprs_trees list) (map_by numbers m) ≡ Ok front)
+  listing_ends u v front l is so_far =
+      reads_so u v (Listing front l) (λ m. values_of arrays (exprs_trees list) (map_by numbers m) ≡ Ok front) so_far (λ m before. list_ends arrays (map_by numbers m) front (values_of arrays (exprs_trees list) (map_by numbers m)) l is before)

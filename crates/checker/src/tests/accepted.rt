@@ -4,7 +4,7 @@ use super::building::Says::{Ends, Formats, Sets, Writes};
 use super::building::{Row, binary, of_two, operand, plain, signed, tree};
 use crate::check;
 use format_edit::Descriptor;
-use meaning::syntax::{Operator, Shape, Sign, Tree};
+use meaning::syntax::{Exprs, Operator, Shape, Sign, Tree};
 use std::test::Fail;
 
 /// Formats behind and before the statements that name them, labels with leading zeros, and the greatest constant.
@@ -73,6 +73,7 @@ fn names_in_expressions(rt: HostRuntime) -> Result<(), Fail> {
     let difference = of_two(alloc, b"L", Operator::Subtract, b"J")?;
     let set = Shape::Assignment {
         name: Vec::from_slice(alloc, b"L")?,
+        subscripts: Exprs::Empty,
         value: binary(alloc, minus, Operator::Add, difference)?,
     };
     let mut body = Vec::new(alloc);

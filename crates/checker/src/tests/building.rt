@@ -1,11 +1,12 @@
 // Program units built by hand.
 
-ghost use Rattle.std.specs.Prelude.{◌≤◌, length, option_map};
-ghost use Rattle.meaning.specs.Spelling.{spell, spell_expr, spell_limits, spell_list, spell_more, spell_step, spell_unit};
-ghost use Rattle.meaning.specs.Syntax.{expr_tree, exprs_trees, limits_tree, shape_tree, unit_tree};
+ghost use Rattle.std.specs.Prelude.{◌≤◌, length, map, option_map};
+ghost use Rattle.meaning.specs.Spelling.{spell, spell_behind, spell_bounds, spell_declarator, spell_expr, spell_exprs, spell_limits, spell_list, spell_lower, spell_more, spell_more_bounds, spell_more_declarators, spell_step, spell_unit};
+ghost use Rattle.meaning.specs.Syntax.{bounds_tree, declarator_tree, expr_tree, exprs_tree, exprs_trees, limits_tree, shape_tree, unit_tree};
 
 use meaning::syntax::{
-    Expr, Exprs, Form, Item, Limits, Loop, Member, Operator, Shape, Sign, Tree, Unit,
+    Bounds, Declarator, Expr, Exprs, Form, Item, Limits, Loop, Member, Operator, Shape, Sign, Tree,
+    Unit,
 };
 use std::alloc::{AllocError, Global};
 use std::process::Abort;
@@ -15,12 +16,20 @@ use std::process::Abort;
 pub enum Says {
     /// `name=operand`
     Sets(&'static [u8], &'static [u8]),
+    /// `name(operands)=operand`
+    Stores(&'static [u8], &'static [&'static [u8]], &'static [u8]),
+    /// `name=name(operands)`
+    Loads(&'static [u8], &'static [u8], &'static [&'static [u8]]),
+    /// `name(operands)=name(operands)`
+    Moves(&'static [u8], &'static [&'static [u8]], &'static [u8], &'static [&'static [u8]]),
+    /// `INTEGER` and names with bounds.
+    Types(&'static [Named]),
     /// `WRITE(operand,label)operand`, or an asterisk as the unit.
     Writes(&'static [u8], &'static [u8], &'static [u8]),
     /// `FORMAT(text)`
     Formats(&'static [u8]),
     /// `DO 50 variable=first,last,step`, without the step where it is empty, and its range.
-    Does(&'static [u8], Bounds, &'static [Row]),
+    Does(&'static [u8], Range, &'static [Row]),
     /// `CONTINUE`
     Goes,
     /// `END`
@@ -28,12 +37,16 @@ pub enum Says {
 }
 
 /// The limits of a DO statement, the step empty where it isn't written.
-pub type Bounds = (&'static [u8], &'static [u8], &'static [u8]);
+pub type Range = (&'static [u8], &'static [u8], &'static [u8]);
+
+/// A name and the bounds of its dimensions, a lower bound empty where it isn't written.
+pub type Named = (&'static [u8], &'static [(&'static [u8], &'static [u8])]);
 
 /// A statement of a table: its line, its label and what it says.
 pub type Row = (u32, Option<u32>, Says);
 
 // At least the length of a spelling that has room in a statement.
+#[cycle(length)]
 fn expression_length(expression: &Expr) -> usize
     ensures { result ≤ 1320 → length (spell_expr (expr_tree expression.now)) ≤ result }
 {
@@ -45,6 +58,34 @@ fn expression_length(expression: &Expr) -> usize
             .saturating_add(1)
             .saturating_add(expression_length(right)),
         Expr::Paren(operand) => expression_length(operand).saturating_add(2),
+        Expr::Element(letters, subscripts) => letters
+            .len()
+            .saturating_add(2)
+            .saturating_add(subscripts_length(subscripts)),
+    }
+}
+
+// With a comma between each and the next.
+#[cycle(length)]
+fn subscripts_length(list: &Exprs) -> usize
+    ensures { result ≤ 1320 → length (spell_exprs (exprs_tree list.now)) ≤ result }
+{
+    match list {
+        Exprs::Empty => 0,
+        Exprs::More(first, rest) => { expression_length(first).saturating_add(behind_length(rest)) }
+    }
+}
+
+// Each with a comma before it.
+#[cycle(length)]
+fn behind_length(list: &Exprs) -> usize
+    ensures { result ≤ 1320 → length (spell_behind (exprs_tree list.now)) ≤ result }
+{
+    match list {
+        Exprs::Empty => 0,
+        Exprs::More(first, rest) => expression_length(first)
+            .saturating_add(1)
+            .saturating_add(behind_length(rest)),
     }
 }
 
@@ -88,13 +129,68 @@ fn limits_length(limits: &Limits) -> usize
         .saturating_add(step_length(&limits.step))
 }
 
+// The lower bound with its colon.
+fn lower_length(lower: &Option<Expr>) -> usize
+    ensures { result ≤ 1320 → length (spell_lower (option_map expr_tree lower.now)) ≤ result }
+{
+    match lower {
+        None => 0,
+        Some(lower) => expression_length(lower).saturating_add(1),
+    }
+}
+
+fn one_bounds_length(bounds: &Bounds) -> usize
+    ensures { result ≤ 1320 → length (spell_bounds (bounds_tree bounds.now)) ≤ result }
+{
+    lower_length(&bounds.lower).saturating_add(expression_length(&bounds.upper))
+}
+
+// Each dimension with a comma.
+fn bounds_length(bounds: &[Bounds]) -> usize
+    ensures { result ≤ 1320 → length (spell_more_bounds (map bounds_tree bounds.now)) ≤ result }
+{
+    match bounds.split_first() {
+        None => 0,
+        Some((first, rest)) => one_bounds_length(first)
+            .saturating_add(1)
+            .saturating_add(bounds_length(rest)),
+    }
+}
+
+fn declarator_length(declarator: &Declarator) -> usize
+    ensures { result ≤ 1320 → length (spell_declarator (declarator_tree declarator.now)) ≤ result }
+{
+    declarator
+        .name
+        .len()
+        .saturating_add(1)
+        .saturating_add(bounds_length(&declarator.bounds))
+}
+
+// Each declarator with a comma.
+fn declarators_length(declarators: &[Declarator]) -> usize
+    ensures { result ≤ 1320 → length (spell_more_declarators (map declarator_tree declarators.now)) ≤ result }
+{
+    match declarators.split_first() {
+        None => 0,
+        Some((first, rest)) => declarator_length(first)
+            .saturating_add(1)
+            .saturating_add(declarators_length(rest)),
+    }
+}
+
 fn shape_length(shape: &Shape) -> usize
     ensures { result ≤ 1320 → length (spell (shape_tree shape.now)) ≤ result }
 {
     match shape {
-        Shape::Assignment { name, value } => name
+        Shape::Assignment {
+            name,
+            subscripts,
+            value,
+        } => name
             .len()
-            .saturating_add(1)
+            .saturating_add(3)
+            .saturating_add(subscripts_length(subscripts))
             .saturating_add(expression_length(value)),
         Shape::Write { unit, label, list } => unit_length(unit)
             .saturating_add(8)
@@ -112,6 +208,7 @@ fn shape_length(shape: &Shape) -> usize
             .saturating_add(variable.len())
             .saturating_add(limits_length(limits)),
         Shape::Continue => 8,
+        Shape::Integer(declarators) => declarators_length(declarators).saturating_add(7),
         Shape::End => 3,
     }
 }
@@ -179,6 +276,46 @@ pub fn one(alloc: Global, item: Expr) -> Result<Exprs, AllocError> {
     Ok(Exprs::More(item, Box::new(alloc, Exprs::Empty)?))
 }
 
+/// A list of operands.
+pub fn operands(alloc: Global, texts: &[&[u8]]) -> Result<Exprs, AllocError> {
+    let mut list = Exprs::Empty;
+    for text in texts.iter().rev() {
+        list = Exprs::More(operand(alloc, text)?, Box::new(alloc, list)?);
+    }
+    Ok(list)
+}
+
+/// A name with operands as its subscripts.
+pub fn element(alloc: Global, name: &[u8], subscripts: &[&[u8]]) -> Result<Expr, AllocError> {
+    let own = Vec::from_slice(alloc, name)?;
+    let list = operands(alloc, subscripts)?;
+    Ok(Expr::Element(own, Box::new(alloc, list)?))
+}
+
+fn bounds_of(alloc: Global, lower: &[u8], upper: &[u8]) -> Result<Bounds, AllocError> {
+    Ok(Bounds {
+        lower: if lower.is_empty() {
+            None
+        } else {
+            Some(operand(alloc, lower)?)
+        },
+        upper: operand(alloc, upper)?,
+    })
+}
+
+fn declared(alloc: Global, declarators: &[Named]) -> Result<Vec<Declarator>, AllocError> {
+    let mut found = Vec::new(alloc);
+    for (name, dimensions) in declarators {
+        let mut bounds = Vec::new(alloc);
+        for (lower, upper) in *dimensions {
+            bounds.push(bounds_of(alloc, lower, upper)?)?;
+        }
+        let name = Vec::from_slice(alloc, name)?;
+        found.push(Declarator { name, bounds })?;
+    }
+    Ok(found)
+}
+
 fn unit(alloc: Global, text: &[u8]) -> Result<Unit, AllocError> {
     if text == b"*".as_slice() {
         Ok(Unit::Star)
@@ -187,7 +324,7 @@ fn unit(alloc: Global, text: &[u8]) -> Result<Unit, AllocError> {
     }
 }
 
-fn limits_of(alloc: Global, limits: Bounds) -> Result<Limits, AllocError> {
+fn limits_of(alloc: Global, limits: Range) -> Result<Limits, AllocError> {
     let (first, last, step) = limits;
     Ok(Limits {
         first: operand(alloc, first)?,
@@ -204,8 +341,25 @@ fn shape(alloc: Global, says: Says) -> Result<Shape, AllocError> {
     match says {
         Says::Sets(name, value) => Ok(Shape::Assignment {
             name: Vec::from_slice(alloc, name)?,
+            subscripts: Exprs::Empty,
             value: operand(alloc, value)?,
         }),
+        Says::Stores(name, subscripts, value) => Ok(Shape::Assignment {
+            name: Vec::from_slice(alloc, name)?,
+            subscripts: operands(alloc, subscripts)?,
+            value: operand(alloc, value)?,
+        }),
+        Says::Loads(name, from, subscripts) => Ok(Shape::Assignment {
+            name: Vec::from_slice(alloc, name)?,
+            subscripts: Exprs::Empty,
+            value: element(alloc, from, subscripts)?,
+        }),
+        Says::Moves(name, subscripts, from, others) => Ok(Shape::Assignment {
+            name: Vec::from_slice(alloc, name)?,
+            subscripts: operands(alloc, subscripts)?,
+            value: element(alloc, from, others)?,
+        }),
+        Says::Types(declarators) => Ok(Shape::Integer(declared(alloc, declarators)?)),
         Says::Writes(to, label, item) => Ok(Shape::Write {
             unit: unit(alloc, to)?,
             label: Vec::from_slice(alloc, label)?,

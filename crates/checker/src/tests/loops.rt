@@ -1,7 +1,7 @@
 // Programs with DO statements.
 
 use super::building::Says::{Does, Ends, Formats, Goes, Sets, Writes};
-use super::building::{Bounds, Row, item, of_two, operand, paren, plain, tree};
+use super::building::{Range, Row, item, of_two, operand, paren, plain, tree};
 use crate::check;
 use meaning::refusal::{Refusal, Rule};
 use meaning::syntax::{Limits, Loop, Member, Operator, Shape, Tree};
@@ -14,7 +14,7 @@ const END: Row = (99, None, Ends);
 /// The terminal statement of a DO.
 const TERMINAL: Row = (50, Some(50), Goes);
 
-const ONE_TO_NINE: Bounds = (b"1", b"9", b"");
+const ONE_TO_NINE: Range = (b"1", b"9", b"");
 
 /// Programs, and the rule and the line that are told.
 const REFUSED: [(&[Row], Rule, u32); 26] = [

@@ -4,7 +4,7 @@ use super::building::Says::{Ends, Formats, Sets, Writes};
 use super::building::{Row, binary, operand, plain, signed, tree};
 use crate::check;
 use meaning::refusal::{Refusal, Rule};
-use meaning::syntax::{Expr, Operator, Shape, Sign, Tree};
+use meaning::syntax::{Expr, Exprs, Operator, Shape, Sign, Tree};
 use std::alloc::{AllocError, Global};
 use std::process::Abort;
 use std::test::Fail;
@@ -176,7 +176,16 @@ fn refused(rt: HostRuntime) -> Result<(), Fail> {
 fn told(rt: &impl Abort, alloc: Global, value: Expr) -> Result<Option<Refusal>, AllocError> {
     let name = Vec::from_slice(alloc, b"I")?;
     let mut body = Vec::new(alloc);
-    body.push(plain(rt, 1, None, Shape::Assignment { name, value }))?;
+    body.push(plain(
+        rt,
+        1,
+        None,
+        Shape::Assignment {
+            name,
+            subscripts: Exprs::Empty,
+            value,
+        },
+    ))?;
     body.push(plain(rt, 2, None, Shape::End))?;
     Ok(check(alloc, Tree { body }).err())
 }

@@ -1,14 +1,41 @@
-use Rattle.std.proofs.Common.{sym, ◌∙◌}
-use Rattle.values.proofs.Lists.{list_more, list_fails, list_ends}
+use Rattle.std.proofs.Common.{[], ◌++◌, ◌∷◌, sym, subst, ◌∙◌}
+use Rattle.meaning.specs.Stores.{Reads}
+use Rattle.meaning.proofs.Stores.{later-later}
+use Rattle.values.proofs.Lists.{Listing, listing_starts, listing_more, listing_fails, listing_ends}
 use Rattle.values.proofs.values.Goals as goal
 
-pub returns-in-Err : goal.returns-in-Err
-returns-in-Err g c =
-    list_fails (g.V.Variables.map c.args.variables.now) c.loop-rest.found.items _ c.loop-rest.rest.now c.in-More.first _ c.in-More.next.value c.in-Err.kind c.in-More.is (sym c.value.ensures ∙ c.in-Err.is) c.loop-rest.invariant
+pub loop-rest-init : goal.loop-rest-init
+loop-rest-init g c =
+    let u = g.S.Store.world c.args.store.now in
+    subst (λ items. Reads u u (Listing (g.N.Numbering.arrays c.args.numbering.now) (g.N.Numbering.numbers c.args.numbering.now) c.args.list.now items c.args.list.now)) (sym c.new-found.ensures.items) (listing_starts (g.N.Numbering.arrays c.args.numbering.now) (g.N.Numbering.numbers c.args.numbering.now) c.args.list.now u)
+
+pub value-requires-clause-sized : goal.value-requires-clause-sized
+value-requires-clause-sized g c = c.loop-rest.invariant.grows.cells ∙ c.requires.sized
+
+pub returns-in_err-push-in-Ok-clause-later : goal.returns-in_err-push-in-Ok-clause-later
+returns-in_err-push-in-Ok-clause-later g c =
+    later-later _ (g.S.Store.world c.loop-rest.store) _ c.loop-rest.invariant.grows c.value.ensures.reads.grows
+
+pub returns-in-Err-clause-reads : goal.returns-in-Err-clause-reads
+returns-in-Err-clause-reads g c =
+    listing_fails (g.N.Numbering.arrays c.args.numbering.now) (g.N.Numbering.numbers c.args.numbering.now) c.args.list.now (g.S.Store.world c.args.store.now) (g.S.Store.world c.loop-rest.store) (g.S.Store.world c.value.new.store) c.loop-rest.found.items c.loop-rest.rest.now c.in-More.first _ c.in-More.next.value c.in-More.is c.loop-rest.invariant c.in-Err.kind c.in-Err.ensures.reads
+
+pub returns-in-Err-clause-later : goal.returns-in-Err-clause-later
+returns-in-Err-clause-later g c =
+    later-later _ (g.S.Store.world c.loop-rest.store) _ c.loop-rest.invariant.grows c.value.ensures.reads.grows
 
 pub loop-rest-preserved : goal.loop-rest-preserved
 loop-rest-preserved g c =
-    rw (c.in_ok-push-in-Ok.ensures.items, c.deref-rest.ensures) (list_more (g.V.Variables.map c.args.variables.now) c.loop-rest.found.items _ c.loop-rest.rest.now c.in-More.first _ c.in-More.next.value c.in-Ok.x c.in-More.is (sym c.value.ensures ∙ c.in-Ok.is) c.loop-rest.invariant)
+    let u = g.S.Store.world c.args.store.now in
+    let arrays = g.N.Numbering.arrays c.args.numbering.now in
+    let numbers = g.N.Numbering.numbers c.args.numbering.now in
+    let w = g.S.Store.world c.value.new.store in
+    let more = listing_more arrays numbers c.args.list.now u (g.S.Store.world c.loop-rest.store) w c.loop-rest.found.items c.loop-rest.rest.now c.in-More.first _ c.in-More.next.value c.in-More.is c.loop-rest.invariant c.in-Ok.x c.in-Ok.ensures.reads in
+    subst (λ items. Reads u w (Listing arrays numbers c.args.list.now items c.deref-rest.result.now)) (sym c.in_ok-push-in-Ok.ensures.items) (subst (λ rest. Reads u w (Listing arrays numbers c.args.list.now (c.loop-rest.found.items ++ c.in-Ok.x ∷ []) rest)) (sym c.deref-rest.ensures) more)
 
-pub returns : goal.returns
-returns g c = list_ends (g.V.Variables.map c.args.variables.now) c.loop-rest.found.items _ c.loop-rest.rest.now c.in_default.is c.loop-rest.invariant
+pub returns-clause-reads : goal.returns-clause-reads
+returns-clause-reads g c =
+    listing_ends (g.N.Numbering.arrays c.args.numbering.now) (g.N.Numbering.numbers c.args.numbering.now) c.args.list.now (g.S.Store.world c.args.store.now) (g.S.Store.world c.loop-rest.store) c.loop-rest.found.items c.loop-rest.rest.now c.in_default.is c.loop-rest.invariant
+
+pub returns-clause-later : goal.returns-clause-later
+returns-clause-later g c = c.loop-rest.invariant.grows

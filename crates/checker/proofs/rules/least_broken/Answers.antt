@@ -8,5 +8,5 @@ use Rattle.checker.proofs.rules.least_broken.Goals as goal
 pub returns : goal.returns
 returns c =
     let t = nested c.args.tree.now in
-    c.lesser.ensures ∙ ap₂ merge (c.in_ok-broken.ensures ∙ ap (λ ms. least (broken_items ms)) c.requires) c.reset_variable.ensures
+    c.lesser.ensures ∙ ap₂ merge (c.in_ok-broken.ensures ∙ ap (λ ms. least (broken_items ms)) c.requires.items) c.reset_variable.ensures
     ∙ sym (least-append (broken_items (flatten t)) (reset_variables [] t.body))

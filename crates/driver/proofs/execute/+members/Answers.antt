@@ -1,4 +1,4 @@
-use Rattle.std.proofs.Common.{◌≡◌, ◌+◌, ap, sym, ◌∙◌, subst, refl, rules, arith, Ok, Err, Some, None, []}
+use Rattle.std.proofs.Common.{to_z, of_z, ◌≡◌, ◌+◌, ap, sym, ◌∙◌, subst, refl, rules, arith, Ok, Err, Some, None, []}
 use Rattle.std.specs.Prelude.{FitsSigned}
 use Rattle.std.specs.Int.{w32}
 use Rattle.std.proofs.lemmas.Int.{to_z-of_z}
@@ -7,14 +7,14 @@ use Rattle.std.proofs.lemmas.Result.{err_from_is_err_and}
 use Rattle.meaning.specs.declared.syntax.Loop.{out-Loop}
 use Rattle.meaning.specs.Syntax.{shape_tree, limits_tree, doing}
 use Rattle.meaning.specs.Trees.{flatten, members_tree}
-use Rattle.meaning.specs.Trips.{span_of}
-use Rattle.meaning.specs.Maps.{Map, put, map_of}
+use Rattle.meaning.specs.Maps.{Map, put}
 use Rattle.meaning.specs.Execution.{Ran, exec, looped, goes_on, added, failed}
-use Rattle.checker.specs.Checked.{tree_of, names_of_program}
+use Rattle.checker.specs.Checked.{tree_of}
+use Rattle.driver.specs.Cells.{arrays_in, map_in, IsKnown}
 use Rattle.driver.specs.Limited.{span_values}
 use Rattle.driver.specs.Walk.{Halts, Runs, SoFar, Steps, member_does}
 use Rattle.driver.proofs.Composed.{so_far_none, so_far_goes, step_fault, step_halts, over_at_end, fault_along, steps_on}
-use Rattle.driver.proofs.Looped.{named_at, head_named, range_named, loop_does, from_place, behind_place, at_place, at_end_of, trips_left, behind_range, at_trip, at_last_trip, do_unexecuted, do_fails, do_runs, add_fails, steps_same, steps_unless_do, assignment_goes, write_goes, format_goes, continue_goes, end_goes}
+use Rattle.driver.proofs.Looped.{known_at, head_known, range_known, loop_does, from_place, behind_place, at_place, at_end_of, trips_left, behind_range, at_trip, at_last_trip, do_unexecuted, do_fails, do_runs, add_fails, steps_same, steps_unless_do, assignment_goes, write_goes, format_goes, continue_goes, typing_goes, end_goes}
 use denote.Param.Weighed.{at_most}
 use Rattle.meaning.proofs.syntax.Member.TheLaws.{the_size}
 use Rattle.meaning.specs.declared.syntax.Member.TheViews.{sized-Loop}
@@ -24,23 +24,20 @@ use Rattle.driver.proofs.execute.+members.Goals as goal
 
 pub execute_do-returns-then-not-take_turn-clause-steps : goal.execute_do-returns-then-not-take_turn-clause-steps
 execute_do-returns-then-not-take_turn-clause-steps g t c =
-    λ label comma. do_unexecuted (exec (flatten (tree_of c.args.program.now))) label comma c.args.variable.now (limits_tree c.args.limits.now) (out-Loop c.args.repeated.now).head.line (members_tree (out-Loop c.args.repeated.now).range.items) (map_of (names_of_program c.args.program.now) c.args.cells.now.items) c.args.turns.now (g.S.Sink.told c.args.sink.now) c.if-not-take_turn.ensures.0
+    λ label comma. do_unexecuted (arrays_in c.args.program.now) (exec (flatten (tree_of c.args.program.now))) label comma c.args.variable.now (limits_tree c.args.limits.now) (out-Loop c.args.repeated.now).head.line (members_tree (out-Loop c.args.repeated.now).range.items) (map_in c.args.program.now c.args.cells.now) c.args.turns.now (g.S.Sink.told c.args.sink.now) c.if-not-take_turn.ensures.0
 
 pub execute_do-returns-in-Ok-clause-steps : goal.execute_do-returns-in-Ok-clause-steps
 execute_do-returns-in-Ok-clause-steps g t c =
-    let names = names_of_program c.args.program.now in
-    let m = map_of names c.args.cells.now.items in
+    let m = map_in c.args.program.now c.args.cells.now in
     let told = g.S.Sink.told in
-    let spans : span_of (limits_tree c.args.limits.now) m ≡ Ok (span_values c.in-Ok.span) = subst (λ cells. span_of (limits_tree c.args.limits.now) (map_of names cells) ≡ Ok (span_values c.in-Ok.span)) c.deref.ensures.value c.in-Ok.ensures.0 in
     let fits : FitsSigned w32 c.in-Ok.span.first = search rules in
-    let first : map_of names c.set_variable.new.cells.items ≡ put m c.args.variable.now [] c.in-Ok.span.first = c.set_variable.ensures.set ∙ ap (λ x. put m c.args.variable.now [] x) (to_z-of_z w32 c.in-Ok.span.first fits) in
-    λ label comma. do_runs (exec (flatten (tree_of c.args.program.now))) label comma c.args.variable.now (limits_tree c.args.limits.now) (out-Loop c.args.repeated.now).head.line (members_tree (out-Loop c.args.repeated.now).range.items) m c.args.turns.now c.take_turn.new.turns c.if-not-take_turn.ensures (span_values c.in-Ok.span) (map_of names c.set_variable.new.cells.items) (map_of names c.execute_trips.new.cells.items) c.execute_trips.new.turns c.execute_trips.result (told c.args.sink.now) (told c.execute_trips.new.sink) spans first c.execute_trips.ensures.runs
+    let first : map_in c.args.program.now c.set_whole.new.cells ≡ put m c.args.variable.now [] c.in-Ok.span.first = c.set_whole.ensures.set ∙ ap (λ x. put x c.args.variable.now [] (to_z w32 (of_z w32 c.in-Ok.span.first))) c.limits_whole.ensures.kept ∙ ap (λ x. put m c.args.variable.now [] x) (to_z-of_z w32 c.in-Ok.span.first fits) in
+    λ label comma. do_runs (arrays_in c.args.program.now) (exec (flatten (tree_of c.args.program.now))) label comma c.args.variable.now (limits_tree c.args.limits.now) (out-Loop c.args.repeated.now).head.line (members_tree (out-Loop c.args.repeated.now).range.items) m c.args.turns.now c.take_turn.new.turns c.if-not-take_turn.ensures (span_values c.in-Ok.span) (map_in c.args.program.now c.set_whole.new.cells) (map_in c.args.program.now c.execute_trips.new.cells) c.execute_trips.new.turns c.execute_trips.result (told c.args.sink.now) (told c.execute_trips.new.sink) c.in-Ok.ensures.span.0 first c.execute_trips.ensures.runs
 
 pub execute_do-returns-in-Err-clause-steps : goal.execute_do-returns-in-Err-clause-steps
 execute_do-returns-in-Err-clause-steps g t c =
-    let names = names_of_program c.args.program.now in
-    let m = map_of names c.args.cells.now.items in
-    λ label comma. do_fails (exec (flatten (tree_of c.args.program.now))) label comma c.args.variable.now (limits_tree c.args.limits.now) (out-Loop c.args.repeated.now).head.line (members_tree (out-Loop c.args.repeated.now).range.items) m c.args.turns.now c.take_turn.new.turns c.if-not-take_turn.ensures c.in-Err.kind (g.S.Sink.told c.args.sink.now) (subst (λ cells. span_of (limits_tree c.args.limits.now) (map_of names cells) ≡ Err c.in-Err.kind) c.deref.ensures.value c.in-Err.ensures)
+    let m = map_in c.args.program.now c.args.cells.now in
+    λ label comma. do_fails (arrays_in c.args.program.now) (exec (flatten (tree_of c.args.program.now))) label comma c.args.variable.now (limits_tree c.args.limits.now) (out-Loop c.args.repeated.now).head.line (members_tree (out-Loop c.args.repeated.now).range.items) m c.args.turns.now c.take_turn.new.turns c.if-not-take_turn.ensures c.in-Err.kind (g.S.Sink.told c.args.sink.now) c.in-Err.ensures.span
 
 -- ---- lists
 
@@ -55,34 +52,31 @@ execute_list-loop-member-init g t c = record {
 pub execute_list-returns-in_err-execute_member-clause-runs : goal.execute_list-returns-in_err-execute_member-clause-runs
 execute_list-returns-in_err-execute_member-clause-runs g t c =
     let told = g.S.Sink.told in
-    let names = names_of_program c.args.program.now in
     let program = flatten (tree_of c.args.program.now) in
-    let m = map_of names c.loop-member.cells.items in
+    let m = map_in c.args.program.now c.loop-member.cells in
     let i = c.loop-member.member-index in
     let p = err_from_is_err_and c.from_residual.result c.from_residual.ensures.1 in
-    λ all. rw (p.1, p.2) (step_halts _ (from_place program all c.args.members.now i m c.loop-member.turns) c.args.turns.now c.loop-member.turns (told c.args.sink.now) (told c.loop-member.sink) (told c.execute_member.new.sink) (c.loop-member.invariant.so_far all) (λ go. member_does program (exec program) c.member-item.result m c.loop-member.turns go) (behind_place program all c.args.members.now i) (map_of names c.execute_member.new.cells.items) c.execute_member.new.turns _ (at_place program all c.args.members.now i c.member-item.result m c.loop-member.turns c.loop-member-test.true c.member-item.is) c.in_err-execute_member.ensures.steps)
+    λ all. rw (p.1, p.2) (step_halts _ (from_place program all c.args.members.now i m c.loop-member.turns) c.args.turns.now c.loop-member.turns (told c.args.sink.now) (told c.loop-member.sink) (told c.execute_member.new.sink) (c.loop-member.invariant.so_far all) (λ go. member_does program (exec program) c.member-item.result m c.loop-member.turns go) (behind_place program all c.args.members.now i) (map_in c.args.program.now c.execute_member.new.cells) c.execute_member.new.turns _ (at_place program all c.args.members.now i c.member-item.result m c.loop-member.turns c.loop-member-test.true c.member-item.is) c.in_err-execute_member.ensures.steps)
 
 pub execute_list-returns-in-Some-clause-runs : goal.execute_list-returns-in-Some-clause-runs
 execute_list-returns-in-Some-clause-runs g t c =
     let told = g.S.Sink.told in
-    let names = names_of_program c.args.program.now in
     let program = flatten (tree_of c.args.program.now) in
-    let m = map_of names c.loop-member.cells.items in
+    let m = map_in c.args.program.now c.loop-member.cells in
     let i = c.loop-member.member-index in
     let steps = rw c.in-Some.is at c.in_ok-execute_member.ensures.steps in
-    λ all. step_fault _ (from_place program all c.args.members.now i m c.loop-member.turns) c.args.turns.now c.loop-member.turns (told c.args.sink.now) (told c.loop-member.sink) (told c.execute_member.new.sink) (c.loop-member.invariant.so_far all) (λ go. member_does program (exec program) c.member-item.result m c.loop-member.turns go) (behind_place program all c.args.members.now i) (map_of names c.execute_member.new.cells.items) c.execute_member.new.turns c.in-Some.fault (at_place program all c.args.members.now i c.member-item.result m c.loop-member.turns c.loop-member-test.true c.member-item.is) steps
+    λ all. step_fault _ (from_place program all c.args.members.now i m c.loop-member.turns) c.args.turns.now c.loop-member.turns (told c.args.sink.now) (told c.loop-member.sink) (told c.execute_member.new.sink) (c.loop-member.invariant.so_far all) (λ go. member_does program (exec program) c.member-item.result m c.loop-member.turns go) (behind_place program all c.args.members.now i) (map_in c.args.program.now c.execute_member.new.cells) c.execute_member.new.turns c.in-Some.fault (at_place program all c.args.members.now i c.member-item.result m c.loop-member.turns c.loop-member-test.true c.member-item.is) steps
 
 pub execute_list-loop-member-preserved : goal.execute_list-loop-member-preserved
 execute_list-loop-member-preserved g t c =
     let told = g.S.Sink.told in
-    let names = names_of_program c.args.program.now in
     let program = flatten (tree_of c.args.program.now) in
-    let m = map_of names c.loop-member.cells.items in
+    let m = map_in c.args.program.now c.loop-member.cells in
     let i = c.loop-member.member-index in
     let steps = rw c.in-None.is at c.in_ok-execute_member.ensures.steps in
     record {
       so_far =
-          λ all. so_far_goes _ (from_place program all c.args.members.now i m c.loop-member.turns) c.args.turns.now c.loop-member.turns (told c.args.sink.now) (told c.loop-member.sink) (told c.execute_member.new.sink) (c.loop-member.invariant.so_far all) (λ go. member_does program (exec program) c.member-item.result m c.loop-member.turns go) (behind_place program all c.args.members.now i) (map_of names c.execute_member.new.cells.items) c.execute_member.new.turns (at_place program all c.args.members.now i c.member-item.result m c.loop-member.turns c.loop-member-test.true c.member-item.is) steps;
+          λ all. so_far_goes _ (from_place program all c.args.members.now i m c.loop-member.turns) c.args.turns.now c.loop-member.turns (told c.args.sink.now) (told c.loop-member.sink) (told c.execute_member.new.sink) (c.loop-member.invariant.so_far all) (λ go. member_does program (exec program) c.member-item.result m c.loop-member.turns go) (behind_place program all c.args.members.now i) (map_in c.args.program.now c.execute_member.new.cells) c.execute_member.new.turns (at_place program all c.args.members.now i c.member-item.result m c.loop-member.turns c.loop-member-test.true c.member-item.is) steps;
       sized = c.in_ok-execute_member.ensures.len ∙ c.loop-member.invariant.sized;
       len = c.in_ok-execute_member.ensures.len ∙ c.loop-member.invariant.len;
       unrefused = steps.bytes.stays ∙ c.loop-member.invariant.unrefused;
@@ -92,7 +86,7 @@ pub execute_list-returns-clause-runs : goal.execute_list-returns-clause-runs
 execute_list-returns-clause-runs g t c =
     let told = g.S.Sink.told in
     let program = flatten (tree_of c.args.program.now) in
-    let m = map_of (names_of_program c.args.program.now) c.loop-member.cells.items in
+    let m = map_in c.args.program.now c.loop-member.cells in
     λ all. over_at_end _ (from_place program all c.args.members.now c.loop-member.member-index m c.loop-member.turns) c.args.turns.now c.loop-member.turns m (told c.args.sink.now) (told c.loop-member.sink) (at_end_of program all c.args.members.now c.loop-member.member-index m c.loop-member.turns (omega arith)) (c.loop-member.invariant.so_far all)
 
 -- ---- what may be a DO statement
@@ -100,62 +94,65 @@ execute_list-returns-clause-runs g t c =
 pub execute_loop-returns-in-Do-clause-steps : goal.execute_loop-returns-in-Do-clause-steps
 execute_loop-returns-in-Do-clause-steps g t c =
     let told = g.S.Sink.told in
-    let names = names_of_program c.args.program.now in
     let rec = exec (flatten (tree_of c.args.program.now)) in
     let l = out-Loop c.args.repeated.now in
     let y = c.execute_do in
     let shape : shape_tree l.head.form.shape ≡ doing c.in-Do.label.items c.in-Do.comma c.deref.result.now (limits_tree c.in-Do.limits) = ap shape_tree c.in-Do.is ∙ ap (λ v. doing c.in-Do.label.items c.in-Do.comma v (limits_tree c.in-Do.limits)) (sym c.deref.ensures.value) in
-    subst (λ s. Steps (λ go. looped rec s l.head.line (members_tree l.range.items) (map_of names c.args.cells.now.items) c.args.turns.now go) c.args.turns.now (map_of names y.new.cells.items) y.new.turns y.result (told c.args.sink.now) (told y.new.sink)) (sym shape) (y.ensures.steps c.in-Do.label.items c.in-Do.comma)
+    subst (λ s. Steps (λ go. looped (arrays_in c.args.program.now) rec s l.head.line (members_tree l.range.items) (map_in c.args.program.now c.args.cells.now) c.args.turns.now go) c.args.turns.now (map_in c.args.program.now y.new.cells) y.new.turns y.result (told c.args.sink.now) (told y.new.sink)) (sym shape) (y.ensures.steps c.in-Do.label.items c.in-Do.comma)
 
 pub execute_loop-returns-in-Assignment-clause-steps : goal.execute_loop-returns-in-Assignment-clause-steps
 execute_loop-returns-in-Assignment-clause-steps g t c =
-    let m = map_of (names_of_program c.args.program.now) c.args.cells.now.items in
+    let m = map_in c.args.program.now c.args.cells.now in
     let l = out-Loop c.args.repeated.now in
-    steps_unless_do (exec (flatten (tree_of c.args.program.now))) _ (shape_tree l.head.form.shape) l.head.line (members_tree l.range.items) m c.args.turns.now (g.S.Sink.told c.args.sink.now) (ap shape_tree c.in-Assignment.is) (λ go. assignment_goes _ _ (exec (flatten (tree_of c.args.program.now))) l.head.line (members_tree l.range.items) m c.args.turns.now go)
+    steps_unless_do (arrays_in c.args.program.now) (exec (flatten (tree_of c.args.program.now))) _ (shape_tree l.head.form.shape) l.head.line (members_tree l.range.items) m c.args.turns.now (g.S.Sink.told c.args.sink.now) (ap shape_tree c.in-Assignment.is) (λ go. assignment_goes _ _ _ (arrays_in c.args.program.now) (exec (flatten (tree_of c.args.program.now))) l.head.line (members_tree l.range.items) m c.args.turns.now go)
 
 pub execute_loop-returns-in-Write-clause-steps : goal.execute_loop-returns-in-Write-clause-steps
 execute_loop-returns-in-Write-clause-steps g t c =
-    let m = map_of (names_of_program c.args.program.now) c.args.cells.now.items in
+    let m = map_in c.args.program.now c.args.cells.now in
     let l = out-Loop c.args.repeated.now in
-    steps_unless_do (exec (flatten (tree_of c.args.program.now))) _ (shape_tree l.head.form.shape) l.head.line (members_tree l.range.items) m c.args.turns.now (g.S.Sink.told c.args.sink.now) (ap shape_tree c.in-Write.is) (λ go. write_goes _ _ _ (exec (flatten (tree_of c.args.program.now))) l.head.line (members_tree l.range.items) m c.args.turns.now go)
+    steps_unless_do (arrays_in c.args.program.now) (exec (flatten (tree_of c.args.program.now))) _ (shape_tree l.head.form.shape) l.head.line (members_tree l.range.items) m c.args.turns.now (g.S.Sink.told c.args.sink.now) (ap shape_tree c.in-Write.is) (λ go. write_goes _ _ _ (arrays_in c.args.program.now) (exec (flatten (tree_of c.args.program.now))) l.head.line (members_tree l.range.items) m c.args.turns.now go)
 
 pub execute_loop-returns-in-Format-clause-steps : goal.execute_loop-returns-in-Format-clause-steps
 execute_loop-returns-in-Format-clause-steps g t c =
-    let m = map_of (names_of_program c.args.program.now) c.args.cells.now.items in
+    let m = map_in c.args.program.now c.args.cells.now in
     let l = out-Loop c.args.repeated.now in
-    steps_unless_do (exec (flatten (tree_of c.args.program.now))) _ (shape_tree l.head.form.shape) l.head.line (members_tree l.range.items) m c.args.turns.now (g.S.Sink.told c.args.sink.now) (ap shape_tree c.in-Format.is) (λ go. format_goes _ (exec (flatten (tree_of c.args.program.now))) l.head.line (members_tree l.range.items) m c.args.turns.now go)
+    steps_unless_do (arrays_in c.args.program.now) (exec (flatten (tree_of c.args.program.now))) _ (shape_tree l.head.form.shape) l.head.line (members_tree l.range.items) m c.args.turns.now (g.S.Sink.told c.args.sink.now) (ap shape_tree c.in-Format.is) (λ go. format_goes _ (arrays_in c.args.program.now) (exec (flatten (tree_of c.args.program.now))) l.head.line (members_tree l.range.items) m c.args.turns.now go)
 
 pub execute_loop-returns-in-Continue-clause-steps : goal.execute_loop-returns-in-Continue-clause-steps
 execute_loop-returns-in-Continue-clause-steps g t c =
-    let m = map_of (names_of_program c.args.program.now) c.args.cells.now.items in
+    let m = map_in c.args.program.now c.args.cells.now in
     let l = out-Loop c.args.repeated.now in
-    steps_unless_do (exec (flatten (tree_of c.args.program.now))) _ (shape_tree l.head.form.shape) l.head.line (members_tree l.range.items) m c.args.turns.now (g.S.Sink.told c.args.sink.now) (ap shape_tree c.in-Continue.is) (λ go. continue_goes (exec (flatten (tree_of c.args.program.now))) l.head.line (members_tree l.range.items) m c.args.turns.now go)
+    steps_unless_do (arrays_in c.args.program.now) (exec (flatten (tree_of c.args.program.now))) _ (shape_tree l.head.form.shape) l.head.line (members_tree l.range.items) m c.args.turns.now (g.S.Sink.told c.args.sink.now) (ap shape_tree c.in-Continue.is) (λ go. continue_goes (arrays_in c.args.program.now) (exec (flatten (tree_of c.args.program.now))) l.head.line (members_tree l.range.items) m c.args.turns.now go)
+
+pub execute_loop-returns-in-Integer-clause-steps : goal.execute_loop-returns-in-Integer-clause-steps
+execute_loop-returns-in-Integer-clause-steps g t c =
+    let m = map_in c.args.program.now c.args.cells.now in
+    let l = out-Loop c.args.repeated.now in
+    steps_unless_do (arrays_in c.args.program.now) (exec (flatten (tree_of c.args.program.now))) _ (shape_tree l.head.form.shape) l.head.line (members_tree l.range.items) m c.args.turns.now (g.S.Sink.told c.args.sink.now) (ap shape_tree c.in-Integer.is) (λ go. typing_goes _ (arrays_in c.args.program.now) (exec (flatten (tree_of c.args.program.now))) l.head.line (members_tree l.range.items) m c.args.turns.now go)
 
 pub execute_loop-returns-in-End-clause-steps : goal.execute_loop-returns-in-End-clause-steps
 execute_loop-returns-in-End-clause-steps g t c =
-    let m = map_of (names_of_program c.args.program.now) c.args.cells.now.items in
+    let m = map_in c.args.program.now c.args.cells.now in
     let l = out-Loop c.args.repeated.now in
-    steps_unless_do (exec (flatten (tree_of c.args.program.now))) _ (shape_tree l.head.form.shape) l.head.line (members_tree l.range.items) m c.args.turns.now (g.S.Sink.told c.args.sink.now) (ap shape_tree c.in-End.is) (λ go. end_goes (exec (flatten (tree_of c.args.program.now))) l.head.line (members_tree l.range.items) m c.args.turns.now go)
+    steps_unless_do (arrays_in c.args.program.now) (exec (flatten (tree_of c.args.program.now))) _ (shape_tree l.head.form.shape) l.head.line (members_tree l.range.items) m c.args.turns.now (g.S.Sink.told c.args.sink.now) (ap shape_tree c.in-End.is) (λ go. end_goes (arrays_in c.args.program.now) (exec (flatten (tree_of c.args.program.now))) l.head.line (members_tree l.range.items) m c.args.turns.now go)
 
 -- ---- members
 
 pub execute_member-returns-in-Plain-clause-steps : goal.execute_member-returns-in-Plain-clause-steps
 execute_member-returns-in-Plain-clause-steps g t c =
     let told = g.S.Sink.told in
-    let names = names_of_program c.args.program.now in
     let program = flatten (tree_of c.args.program.now) in
     let y = c.execute_item in
-    subst (λ x. Steps (λ go. member_does program (exec program) x (map_of names c.args.cells.now.items) c.args.turns.now go) c.args.turns.now (map_of names y.new.cells.items) y.new.turns y.result (told c.args.sink.now) (told y.new.sink)) (sym c.in-Plain.is) y.ensures.steps
+    subst (λ x. Steps (λ go. member_does program (exec program) x (map_in c.args.program.now c.args.cells.now) c.args.turns.now go) c.args.turns.now (map_in c.args.program.now y.new.cells) y.new.turns y.result (told c.args.sink.now) (told y.new.sink)) (sym c.in-Plain.is) y.ensures.steps
 
 pub execute_member-returns-in-Loop-clause-steps : goal.execute_member-returns-in-Loop-clause-steps
 execute_member-returns-in-Loop-clause-steps g t c =
     let told = g.S.Sink.told in
-    let names = names_of_program c.args.program.now in
     let program = flatten (tree_of c.args.program.now) in
-    let m = map_of names c.args.cells.now.items in
+    let m = map_in c.args.program.now c.args.cells.now in
     let y = c.execute_loop in
-    let steps = steps_same (λ go. looped (exec program) (shape_tree (out-Loop c.in-Loop.repeated).head.form.shape) (out-Loop c.in-Loop.repeated).head.line (members_tree (out-Loop c.in-Loop.repeated).range.items) m c.args.turns.now go) (λ go. member_does program (exec program) (Loop c.in-Loop.repeated) m c.args.turns.now go) c.args.turns.now (map_of names y.new.cells.items) y.new.turns y.result (told c.args.sink.now) (told y.new.sink) (λ go. loop_does program (exec program) c.in-Loop.repeated m c.args.turns.now go) y.ensures.steps in
-    subst (λ x. Steps (λ go. member_does program (exec program) x m c.args.turns.now go) c.args.turns.now (map_of names y.new.cells.items) y.new.turns y.result (told c.args.sink.now) (told y.new.sink)) (sym c.in-Loop.is) steps
+    let steps = steps_same (λ go. looped (arrays_in c.args.program.now) (exec program) (shape_tree (out-Loop c.in-Loop.repeated).head.form.shape) (out-Loop c.in-Loop.repeated).head.line (members_tree (out-Loop c.in-Loop.repeated).range.items) m c.args.turns.now go) (λ go. member_does program (exec program) (Loop c.in-Loop.repeated) m c.args.turns.now go) c.args.turns.now (map_in c.args.program.now y.new.cells) y.new.turns y.result (told c.args.sink.now) (told y.new.sink) (λ go. loop_does program (exec program) c.in-Loop.repeated m c.args.turns.now go) y.ensures.steps in
+    subst (λ x. Steps (λ go. member_does program (exec program) x m c.args.turns.now go) c.args.turns.now (map_in c.args.program.now y.new.cells) y.new.turns y.result (told c.args.sink.now) (told y.new.sink)) (sym c.in-Loop.is) steps
 
 -- ---- trips
 
@@ -171,17 +168,16 @@ execute_trips-loop-init g t c = record {
 pub execute_trips-returns-in_err-execute_list-clause-runs : goal.execute_trips-returns-in_err-execute_list-clause-runs
 execute_trips-returns-in_err-execute_list-clause-runs g t c =
     let told = g.S.Sink.told in
-    let names = names_of_program c.args.program.now in
     let rec = exec (flatten (tree_of c.args.program.now)) in
     let l = out-Loop c.args.repeated.now in
     let range = members_tree l.range.items in
     let span = c.args.span in
-    let m = map_of names c.loop.cells.items in
+    let m = map_in c.args.program.now c.loop.cells in
     let i = c.loop.counter in
     let at = at_trip rec l.head.line c.args.variable.now span.first span.last span.step range i m c.loop.turns (let e = c.loop.invariant.ends in let lt = c.loop-test.true in omega arith) in
     let behind = behind_range rec l.head.line c.args.variable.now span.first span.last span.step range i in
     let list = rec range range m c.loop.turns in
-    let new = map_of names c.execute_list.new.cells.items in
+    let new = map_in c.args.program.now c.execute_list.new.cells in
     let runs = subst (λ xs. Halts (rec range (members_tree xs) m c.loop.turns).pieces c.in_err-execute_list.field-0.0 (told c.loop.sink) (told c.execute_list.new.sink)) c.deref.ensures.value (c.in_err-execute_list.ensures.runs range) in
     let steps = steps_on list c.loop.turns new c.execute_list.new.turns (Err c.in_err-execute_list.field-0.0) (told c.loop.sink) (told c.execute_list.new.sink) runs in
     let p = err_from_is_err_and c.from_residual.result c.from_residual.ensures.1 in
@@ -190,17 +186,16 @@ execute_trips-returns-in_err-execute_list-clause-runs g t c =
 pub execute_trips-returns-in-Some-clause-runs : goal.execute_trips-returns-in-Some-clause-runs
 execute_trips-returns-in-Some-clause-runs g t c =
     let told = g.S.Sink.told in
-    let names = names_of_program c.args.program.now in
     let rec = exec (flatten (tree_of c.args.program.now)) in
     let l = out-Loop c.args.repeated.now in
     let range = members_tree l.range.items in
     let span = c.args.span in
-    let m = map_of names c.loop.cells.items in
+    let m = map_in c.args.program.now c.loop.cells in
     let i = c.loop.counter in
     let at = at_trip rec l.head.line c.args.variable.now span.first span.last span.step range i m c.loop.turns (let e = c.loop.invariant.ends in let lt = c.loop-test.true in omega arith) in
     let behind = behind_range rec l.head.line c.args.variable.now span.first span.last span.step range i in
     let list = rec range range m c.loop.turns in
-    let new = map_of names c.execute_list.new.cells.items in
+    let new = map_in c.args.program.now c.execute_list.new.cells in
     let runs = subst (λ xs. Runs (rec range (members_tree xs) m c.loop.turns) c.loop.turns new c.execute_list.new.turns (Ok (Some c.in-Some.inner)) (told c.loop.sink) (told c.execute_list.new.sink)) c.deref.ensures.value (rw c.in-Some.is at (c.in_ok-execute_list.ensures.runs range)) in
     let steps = steps_on list c.loop.turns new c.execute_list.new.turns (Ok (Some c.in-Some.inner)) (told c.loop.sink) (told c.execute_list.new.sink) runs in
     step_fault _ (trips_left rec l.head.line c.args.variable.now span.first span.last span.step range i m c.loop.turns) c.args.turns.now c.loop.turns (told c.args.sink.now) (told c.loop.sink) (told c.execute_list.new.sink) c.loop.invariant.so_far (λ go. goes_on list c.loop.turns go) behind new c.execute_list.new.turns c.in-Some.inner at steps
@@ -208,17 +203,16 @@ execute_trips-returns-in-Some-clause-runs g t c =
 pub execute_trips-returns-in-Err-clause-runs : goal.execute_trips-returns-in-Err-clause-runs
 execute_trips-returns-in-Err-clause-runs g t c =
     let told = g.S.Sink.told in
-    let names = names_of_program c.args.program.now in
     let rec = exec (flatten (tree_of c.args.program.now)) in
     let l = out-Loop c.args.repeated.now in
     let range = members_tree l.range.items in
     let span = c.args.span in
-    let m = map_of names c.loop.cells.items in
+    let m = map_in c.args.program.now c.loop.cells in
     let i = c.loop.counter in
     let at = at_trip rec l.head.line c.args.variable.now span.first span.last span.step range i m c.loop.turns (let e = c.loop.invariant.ends in let lt = c.loop-test.true in omega arith) in
     let behind = behind_range rec l.head.line c.args.variable.now span.first span.last span.step range i in
     let list = rec range range m c.loop.turns in
-    let new = map_of names c.execute_list.new.cells.items in
+    let new = map_in c.args.program.now c.execute_list.new.cells in
     let runs = subst (λ xs. Runs (rec range (members_tree xs) m c.loop.turns) c.loop.turns new c.execute_list.new.turns (Ok None) (told c.loop.sink) (told c.execute_list.new.sink)) c.deref.ensures.value (rw c.in-None.is at (c.in_ok-execute_list.ensures.runs range)) in
     let steps = steps_on list c.loop.turns new c.execute_list.new.turns (Ok None) (told c.loop.sink) (told c.execute_list.new.sink) runs in
     let so_far = so_far_goes _ (trips_left rec l.head.line c.args.variable.now span.first span.last span.step range i m c.loop.turns) c.args.turns.now c.loop.turns (told c.args.sink.now) (told c.loop.sink) (told c.execute_list.new.sink) c.loop.invariant.so_far (λ go. goes_on list c.loop.turns go) behind new c.execute_list.new.turns at steps in
@@ -229,24 +223,23 @@ execute_trips-returns-in-Err-clause-runs g t c =
 pub execute_trips-loop-preserved : goal.execute_trips-loop-preserved
 execute_trips-loop-preserved g t c =
     let told = g.S.Sink.told in
-    let names = names_of_program c.args.program.now in
     let rec = exec (flatten (tree_of c.args.program.now)) in
     let l = out-Loop c.args.repeated.now in
     let range = members_tree l.range.items in
     let span = c.args.span in
-    let m = map_of names c.loop.cells.items in
+    let m = map_in c.args.program.now c.loop.cells in
     let i = c.loop.counter in
     let at = at_trip rec l.head.line c.args.variable.now span.first span.last span.step range i m c.loop.turns (let e = c.loop.invariant.ends in let lt = c.loop-test.true in omega arith) in
     let behind = behind_range rec l.head.line c.args.variable.now span.first span.last span.step range i in
     let list = rec range range m c.loop.turns in
-    let new = map_of names c.execute_list.new.cells.items in
+    let new = map_in c.args.program.now c.execute_list.new.cells in
     let runs = subst (λ xs. Runs (rec range (members_tree xs) m c.loop.turns) c.loop.turns new c.execute_list.new.turns (Ok None) (told c.loop.sink) (told c.execute_list.new.sink)) c.deref.ensures.value (rw c.in-None.is at (c.in_ok-execute_list.ensures.runs range)) in
     let steps = steps_on list c.loop.turns new c.execute_list.new.turns (Ok None) (told c.loop.sink) (told c.execute_list.new.sink) runs in
     let so_far = so_far_goes _ (trips_left rec l.head.line c.args.variable.now span.first span.last span.step range i m c.loop.turns) c.args.turns.now c.loop.turns (told c.args.sink.now) (told c.loop.sink) (told c.execute_list.new.sink) c.loop.invariant.so_far (λ go. goes_on list c.loop.turns go) behind new c.execute_list.new.turns at steps in
     let fits : FitsSigned w32 span.step = search rules in
-    let adds = subst (λ by. (on : Map → Ran) → added l.head.line c.args.variable.now by new on ≡ on (map_of names c.add_to.new.cells.items)) (to_z-of_z w32 span.step fits) (c.in-Ok.ensures.adds l.head.line) in
+    let adds = subst (λ by. (on : Map → Ran) → added l.head.line c.args.variable.now by new on ≡ on (map_in c.args.program.now c.add_whole.new.cells)) (to_z-of_z w32 span.step fits) (c.in-Ok.ensures.adds l.head.line) in
     record {
-      so_far = subst (λ r. SoFar (trips_left rec l.head.line c.args.variable.now span.first span.last span.step range 0 (map_of names c.args.cells.now.items) c.args.turns.now) r c.args.turns.now c.execute_list.new.turns (told c.args.sink.now) (told c.execute_list.new.sink)) (adds (λ k. trips_left rec l.head.line c.args.variable.now span.first span.last span.step range (i + 1) k c.execute_list.new.turns)) so_far;
+      so_far = subst (λ r. SoFar (trips_left rec l.head.line c.args.variable.now span.first span.last span.step range 0 (map_in c.args.program.now c.args.cells.now) c.args.turns.now) r c.args.turns.now c.execute_list.new.turns (told c.args.sink.now) (told c.execute_list.new.sink)) (adds (λ k. trips_left rec l.head.line c.args.variable.now span.first span.last span.step range (i + 1) k c.execute_list.new.turns)) so_far;
       ends = c.loop.invariant.ends;
       sized = c.in-Ok.ensures.len ∙ c.in_ok-execute_list.ensures.len ∙ c.loop.invariant.sized;
       len = c.in-Ok.ensures.len ∙ c.in_ok-execute_list.ensures.len ∙ c.loop.invariant.len;
@@ -256,12 +249,11 @@ execute_trips-loop-preserved g t c =
 pub execute_trips-returns-clause-runs : goal.execute_trips-returns-clause-runs
 execute_trips-returns-clause-runs g t c =
     let told = g.S.Sink.told in
-    let names = names_of_program c.args.program.now in
     let rec = exec (flatten (tree_of c.args.program.now)) in
     let l = out-Loop c.args.repeated.now in
     let range = members_tree l.range.items in
     let span = c.args.span in
-    let m = map_of names c.loop.cells.items in
+    let m = map_in c.args.program.now c.loop.cells in
     let i = c.loop.counter in
     over_at_end _ (trips_left rec l.head.line c.args.variable.now span.first span.last span.step range i m c.loop.turns) c.args.turns.now c.loop.turns m (told c.args.sink.now) (told c.loop.sink) (at_last_trip rec l.head.line c.args.variable.now span.first span.last span.step range i m c.loop.turns (let e = c.loop.invariant.ends in let ge = c.loop-test.false in omega arith)) c.loop.invariant.so_far
 
@@ -269,7 +261,7 @@ execute_trips-returns-clause-runs g t c =
 
 pub execute_list-execute_member-requires : goal.execute_list-execute_member-requires
 execute_list-execute_member-requires g t c =
-    let named = named_at c.args.program.now.names.keys c.args.members.now c.loop-member.member-index c.member-item.result c.loop-member-test.true c.member-item.is c.requires.named in
+    let named = known_at (IsKnown c.args.program.now) c.args.members.now c.loop-member.member-index c.member-item.result c.loop-member-test.true c.member-item.is c.requires.named in
     let size = at_most the_size c.args.members.now c.loop-member.member-index c.member-item.result c.loop-member-test.true in
     let same = ap the_size c.member-item.is in
     let given = c.decreases in
@@ -277,8 +269,8 @@ execute_list-execute_member-requires g t c =
 
 pub execute_member-execute_loop-requires : goal.execute_member-execute_loop-requires
 execute_member-execute_loop-requires g t c =
-    let head = head_named c.args.program.now.names.keys c.args.member.now c.in-Loop.repeated c.in-Loop.is c.requires.named in
-    let range = range_named c.args.program.now.names.keys c.args.member.now c.in-Loop.repeated c.in-Loop.is c.requires.named in
+    let head = head_known (IsKnown c.args.program.now) c.args.member.now c.in-Loop.repeated c.in-Loop.is c.requires.named in
+    let range = range_known (IsKnown c.args.program.now) c.args.member.now c.in-Loop.repeated c.in-Loop.is c.requires.named in
     let given = c.decreases in
     let same = ap the_size c.in-Loop.is in
     let size = sized-Loop c.in-Loop.repeated in

@@ -1,7 +1,8 @@
 use Rattle.std.proofs.Common.{◌≡◌, ◌≢◌, sym, ap, ◌∙◌, rules, pos, ◌+ℤ◌, ◌-ℤ◌, ◌^◌, ◌<◌, int_div, FitsSigned, to_z, of_z, unsigned_abs}
 use Rattle.std.specs.Int.{w32, w64}
 use Rattle.std.proofs.lemmas.Int.{to_z-of_z}
-use Rattle.meaning.specs.Trips.{at_least_zero, trip_count}
+use Rattle.meaning.specs.Trips.{trip_count}
+use Rattle.meaning.specs.Characters.{at_least_zero}
 use Rattle.driver.proofs.Quotients.{can_divide, distance}
 use Rattle.driver.proofs.limits.count_of.Goals as goal
 

@@ -1,4 +1,4 @@
-use Rattle.std.proofs.Common.{◌≡◌, [], ◌∷◌, map, ap, sym, ◌∙◌}
+use Rattle.std.proofs.Common.{◌≡◌, false, [], ◌∷◌, map, ap, sym, ◌∙◌}
 use Rattle.std.proofs.lemmas.List.{nil_from_length}
 use Rattle.meaning.specs.Trees.{item_tree}
 use Rattle.std.specs.Vec.Iter.{into_iter_items}
@@ -12,10 +12,10 @@ returns-in-Some-broken_rule c =
     let all = map item_tree c.args.items.items in
     let z = unfinished c.loop-item.so_far in
     let behind_it = map item_tree (into_iter_items c.next.new.self) in
-    let tells : first_broken z (item_tree c.in-Some.item ∷ behind_it) ≡ first_broken start all =
-    ap (λ xs. first_broken z (map item_tree xs)) (sym c.in-Some.ensures.steps.0) ∙ c.loop-item.invariant.tells in
+    let tells : first_broken c.loop-item.executable z (item_tree c.in-Some.item ∷ behind_it) ≡ first_broken false start all =
+    ap (λ xs. first_broken c.loop-item.executable z (map item_tree xs)) (sym c.in-Some.ensures.steps.0) ∙ c.loop-item.invariant.tells in
     record {
-      exact = stops all c.missing_end-missing.result z (item_tree c.in-Some.item) behind_it c.in-Some-broken_rule.rule (record { body = innermost z }) c.told.result c.loop-item.invariant.lacks tells c.in-Some-broken_rule.ensures
+      exact = stops all c.missing_end-missing.result c.loop-item.executable z (item_tree c.in-Some.item) behind_it c.in-Some-broken_rule.rule (record { body = innermost z }) c.told.result c.loop-item.invariant.lacks tells c.in-Some-broken_rule.ensures
           (rw (← c.broken_at-here.ensures, ← c.lesser.ensures) c.told.ensures.exact);
     }
 
@@ -26,6 +26,6 @@ returns c =
     let over : into_iter_items c.loop-item.item-iterator ≡ [] = nil_from_length (into_iter_items c.loop-item.item-iterator) (sym c.loop-item.item-iterator.rest.ok.0 ∙ c.in-None.ensures.steps.0) in
     record {
       exact = runs_out all c.missing_end-missing.result z c.told-2.result c.loop-item.invariant.lacks
-          (ap (λ xs. first_broken z (map item_tree xs)) (sym over) ∙ c.loop-item.invariant.tells)
+          (ap (λ xs. first_broken c.loop-item.executable z (map item_tree xs)) (sym over) ∙ c.loop-item.invariant.tells)
           (ap (λ xs. behind z (map item_tree xs)) (sym over) ∙ c.loop-item.invariant.reads) c.told-2.ensures.exact;
     }

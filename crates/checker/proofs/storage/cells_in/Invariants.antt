@@ -1,0 +1,8 @@
+use Rattle.std.proofs.Common.{◌≡◌, map, take}
+use Rattle.meaning.specs.Arrays.{size}
+use Rattle.checker.specs.Sizes.{capped}
+use Rattle.values.specs.Dimensions.{dimension}
+use Rattle.checker.proofs.storage.cells_in.Given as goal
+
+abbrev pub invariant-loop-one : goal.invariant-loop-one
+invariant-loop-one l = l.found ≡ capped (size (map dimension (take l.one-index l.dimensions)))

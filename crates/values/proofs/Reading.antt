@@ -1,0 +1,160 @@
+-- The values of expressions, read from a store, one part after another.
+use Rattle.std.proofs.Common.{◌≡◌, ℕ, ℤ, pos, List, [], ◌∷◌, Option, Some, Result, Ok, Err, refl, sym, ap, subst, ◌∙◌}
+use Rattle.meaning.specs.declared.ending.FaultKind.{FaultKind}
+use Rattle.meaning.specs.declared.ending.FaultKind.TheVariants.{F3}
+use Rattle.meaning.specs.declared.ending.Value.{Value}
+use Rattle.meaning.specs.declared.syntax.Sign.{Sign}
+use Rattle.meaning.specs.declared.syntax.Operator.{Operator}
+use Rattle.meaning.specs.declared.syntax.Expr.{Expr}
+use Rattle.meaning.specs.declared.syntax.Exprs.{Exprs}
+use Rattle.meaning.specs.Characters.{number_of}
+use Rattle.meaning.specs.Arrays.{Dimension}
+use Rattle.meaning.specs.Syntax.{ExprTree, number, name, signed, binary, paren, element, ExprsTree, no_exprs, exprs, expr_tree, exprs_tree}
+use Rattle.meaning.specs.Maps.{Map, start, CellNumbers, value_at, map_by}
+use Rattle.meaning.specs.Values.{Arrays, Valued, value, subscripts, integer, as_integer, with_sign, combined, dimensions_in, in_first, others, and_then}
+use Rattle.meaning.specs.Stores.{Cells, World, LeavesRead, known, Reads}
+use Rattle.meaning.proofs.Stores.{reads_nothing, reads_cell, reads_so, reads_then}
+use Rattle.values.specs.declared.place.Place.{Place}
+use Rattle.values.specs.Places.{no_cells, left, behind, GoesOn, Found}
+
+-- ---- for one map
+
+module _ (arrays : Arrays) (m : Map) where
+  signed_is : (sign : Sign) (e : ExprTree) (x : Value) (r : Valued) → value arrays e m ≡ Ok x → r ≡ integer (with_sign sign (as_integer x)) → value arrays (signed sign e) m ≡ r
+  unfolding value and_then
+  signed_is sign e x r h is = rw h (sym is)
+
+  signed_fault : (sign : Sign) (e : ExprTree) (k : FaultKind) → value arrays e m ≡ Err k → value arrays (signed sign e) m ≡ Err k
+  unfolding value and_then
+  signed_fault sign e k h = rw h refl
+
+  binary_is : (operator : Operator) (a b : ExprTree) (x y : Value) (r : Valued) → value arrays a m ≡ Ok x → value arrays b m ≡ Ok y → r ≡ integer (combined operator (as_integer x) (as_integer y)) → value arrays (binary operator a b) m ≡ r
+  unfolding value and_then
+  binary_is operator a b x y r h k is = rw h (rw k (sym is))
+
+  left_fault : (operator : Operator) (a b : ExprTree) (k : FaultKind) → value arrays a m ≡ Err k → value arrays (binary operator a b) m ≡ Err k
+  unfolding value and_then
+  left_fault operator a b k h = rw h refl
+
+  right_fault : (operator : Operator) (a b : ExprTree) (x : Value) (k : FaultKind) → value arrays a m ≡ Ok x → value arrays b m ≡ Err k → value arrays (binary operator a b) m ≡ Err k
+  unfolding value and_then
+  right_fault operator a b x k h f = rw h (rw f refl)
+
+  element_is : (letters : List ℕ) (es : ExprsTree) (ss : List ℤ) (z : ℤ) (r : Valued) → subscripts arrays (dimensions_in (arrays letters)) es m ≡ Ok ss → m letters ss ≡ z → r ≡ integer z → value arrays (element letters es) m ≡ r
+  unfolding value and_then
+  element_is letters es ss z r h at is = rw h (ap integer at ∙ sym is)
+
+  element_fault : (letters : List ℕ) (es : ExprsTree) (k : FaultKind) → subscripts arrays (dimensions_in (arrays letters)) es m ≡ Err k → value arrays (element letters es) m ≡ Err k
+  unfolding value and_then
+  element_fault letters es k h = rw h refl
+
+  more_subscripts : (ds : List Dimension) (e : ExprTree) (es : ExprsTree) (x : Value) (ss : List ℤ) → value arrays e m ≡ Ok x → in_first ds (as_integer x) ≡ Ok (as_integer x) → subscripts arrays (others ds) es m ≡ Ok ss → subscripts arrays ds (exprs e es) m ≡ Ok (as_integer x ∷ ss)
+  unfolding subscripts and_then
+  more_subscripts ds e es x ss h bounds rest = rw h (rw bounds (rw rest refl))
+
+  later_fault : (ds : List Dimension) (e : ExprTree) (es : ExprsTree) (x : Value) (k : FaultKind) → value arrays e m ≡ Ok x → in_first ds (as_integer x) ≡ Ok (as_integer x) → subscripts arrays (others ds) es m ≡ Err k → subscripts arrays ds (exprs e es) m ≡ Err k
+  unfolding subscripts and_then
+  later_fault ds e es x k h bounds rest = rw h (rw bounds (rw rest refl))
+
+  bounds_fault : (ds : List Dimension) (e : ExprTree) (es : ExprsTree) (x : Value) → value arrays e m ≡ Ok x → in_first ds (as_integer x) ≡ Err F3 → subscripts arrays ds (exprs e es) m ≡ Err F3
+  unfolding subscripts and_then
+  bounds_fault ds e es x h bounds = rw h (rw bounds refl)
+
+  first_fault : (ds : List Dimension) (e : ExprTree) (es : ExprsTree) (k : FaultKind) → value arrays e m ≡ Err k → subscripts arrays ds (exprs e es) m ≡ Err k
+  unfolding subscripts and_then
+  first_fault ds e es k h = rw h refl
+
+  found_more : (e : ExprTree) (es : ExprsTree) (x : Value) (p q : Place) (r : Result Place FaultKind) → value arrays e m ≡ Ok x → GoesOn p (as_integer x) q → Found (subscripts arrays (left q) es m) q r → Found (subscripts arrays (left p) (exprs e es) m) p r
+  found_more e es x p q (Ok after) h on found =
+      record { values = as_integer x ∷ found.values; are = more_subscripts (left p) e es x found.values h on.within_bounds (ap (λ ds. subscripts arrays ds es m) (sym on.dimensions) ∙ found.are); cell = found.cell ∙ on.cells found.values }
+  found_more e es x p q (Err k) h on found =
+      later_fault (left p) e es x k h on.within_bounds (ap (λ ds. subscripts arrays ds es m) (sym on.dimensions) ∙ found)
+
+-- ---- read from a store
+
+pub place_reads : (u v : World) (c : ℕ) (o : Option ℕ) (z : ℤ) → o ≡ Some c → LeavesRead c u v → z ≡ known u c → Reads u v (λ m. value_at m o ≡ z)
+place_reads u v c o z is read value =
+    reads_so u v (λ m. m c ≡ known u c) (λ m. value_at m o ≡ z) (reads_cell c u v read) (λ m h. ap (value_at m) is ∙ h ∙ sym value)
+
+module _ (arrays : Arrays) (numbers : CellNumbers) where
+  abbrev pub Values : ExprTree → Valued → Cells → Type 0
+  Values e r m = value arrays e (map_by numbers m) ≡ r
+
+  abbrev pub Places : ExprsTree → Place → Result Place FaultKind → Cells → Type 0
+  Places es p r m = Found (subscripts arrays (left p) es (map_by numbers m)) p r
+
+  pub number_reads : (w : World) (digits : List ℕ) (r : Valued) → r ≡ integer (pos (number_of digits)) → Reads w w (Values (number digits) r)
+  unfolding value
+  number_reads w digits r is = reads_nothing w (Values (number digits) r) (λ m. sym is)
+
+  pub name_reads : (u v : World) (letters : List ℕ) (cell : Option ℕ) (z : ℤ) (r : Valued) → Reads u v (λ m. value_at m cell ≡ z) → cell ≡ numbers letters [] → r ≡ integer z → Reads u v (Values (name letters) r)
+  unfolding value map_by
+  name_reads u v letters cell z r reads at is =
+      reads_so u v (λ m. value_at m cell ≡ z) (Values (name letters) r) reads (λ m h. ap integer (ap (value_at m) (sym at) ∙ h) ∙ sym is)
+
+  pub signed_reads : (u v : World) (sign : Sign) (e : ExprTree) (x : Value) (r : Valued) → Reads u v (Values e (Ok x)) → r ≡ integer (with_sign sign (as_integer x)) → Reads u v (Values (signed sign e) r)
+  signed_reads u v sign e x r reads is =
+      reads_so u v (Values e (Ok x)) (Values (signed sign e) r) reads (λ m h. signed_is arrays (map_by numbers m) sign e x r h is)
+
+  pub signed_fails : (u v : World) (sign : Sign) (e : ExprTree) (k : FaultKind) → Reads u v (Values e (Err k)) → Reads u v (Values (signed sign e) (Err k))
+  signed_fails u v sign e k reads =
+      reads_so u v (Values e (Err k)) (Values (signed sign e) (Err k)) reads (λ m h. signed_fault arrays (map_by numbers m) sign e k h)
+
+  pub binary_reads : (u v w : World) (operator : Operator) (a b : ExprTree) (x y : Value) (r : Valued) → Reads u v (Values a (Ok x)) → Reads v w (Values b (Ok y)) → r ≡ integer (combined operator (as_integer x) (as_integer y)) → Reads u w (Values (binary operator a b) r)
+  binary_reads u v w operator a b x y r first second is =
+      reads_then u v w (Values a (Ok x)) (Values b (Ok y)) (Values (binary operator a b) r) first second (λ m h k. binary_is arrays (map_by numbers m) operator a b x y r h k is)
+
+  pub left_fails : (u v : World) (operator : Operator) (a b : ExprTree) (k : FaultKind) → Reads u v (Values a (Err k)) → Reads u v (Values (binary operator a b) (Err k))
+  left_fails u v operator a b k reads =
+      reads_so u v (Values a (Err k)) (Values (binary operator a b) (Err k)) reads (λ m h. left_fault arrays (map_by numbers m) operator a b k h)
+
+  pub right_fails : (u v w : World) (operator : Operator) (a b : ExprTree) (x : Value) (k : FaultKind) → Reads u v (Values a (Ok x)) → Reads v w (Values b (Err k)) → Reads u w (Values (binary operator a b) (Err k))
+  right_fails u v w operator a b x k first second =
+      reads_then u v w (Values a (Ok x)) (Values b (Err k)) (Values (binary operator a b) (Err k)) first second (λ m h f. right_fault arrays (map_by numbers m) operator a b x k h f)
+
+  pub paren_reads : (u v : World) (e : ExprTree) (r : Valued) → Reads u v (Values e r) → Reads u v (Values (paren e) r)
+  unfolding value
+  paren_reads u v e r reads = reads
+
+  module _ (letters : List ℕ) (es : ExprsTree) (p : Place) (dimensions : left p ≡ dimensions_in (arrays letters)) where
+    pub element_reads : (u v w : World) (q : Place) (z : ℤ) (r : Valued) → ((ss : List ℤ) → behind p ss ≡ numbers letters ss) → Reads u v (Places es p (Ok q)) → Reads v w (λ m. value_at m (behind q []) ≡ z) → r ≡ integer z → Reads u w (Values (element letters es) r)
+    unfolding map_by
+    element_reads u v w q z r cells first second is =
+        reads_then u v w (Places es p (Ok q)) (λ m. value_at m (behind q []) ≡ z) (Values (element letters es) r) first second (λ m found h. element_is arrays (map_by numbers m) letters es found.values z r (ap (λ ds. subscripts arrays ds es (map_by numbers m)) (sym dimensions) ∙ found.are) (ap (value_at m) (sym (found.cell ∙ cells found.values)) ∙ h) is)
+
+    pub element_fails : (u v : World) (k : FaultKind) → Reads u v (Places es p (Err k)) → Reads u v (Values (element letters es) (Err k))
+    element_fails u v k reads =
+        reads_so u v (Places es p (Err k)) (Values (element letters es) (Err k)) reads (λ m h. element_fault arrays (map_by numbers m) letters es k (ap (λ ds. subscripts arrays ds es (map_by numbers m)) (sym dimensions) ∙ h))
+
+  pub places_end : (w : World) (p : Place) → Reads w w (Places no_exprs p (Ok p))
+  unfolding subscripts
+  places_end w p =
+      reads_nothing w (Places no_exprs p (Ok p)) (λ m. record { values = []; are = refl; cell = refl })
+
+  pub places_more : (u v w : World) (e : ExprTree) (es : ExprsTree) (x : Value) (p q : Place) (r : Result Place FaultKind) → Reads u v (Values e (Ok x)) → GoesOn p (as_integer x) q → Reads v w (Places es q r) → Reads u w (Places (exprs e es) p r)
+  places_more u v w e es x p q r first on rest =
+      reads_then u v w (Values e (Ok x)) (Places es q r) (Places (exprs e es) p r) first rest (λ m h found. found_more arrays (map_by numbers m) e es x p q r h on found)
+
+  pub bounds_fail : (u v : World) (e : ExprTree) (es : ExprsTree) (x : Value) (p : Place) → Reads u v (Values e (Ok x)) → in_first (left p) (as_integer x) ≡ Err F3 → Reads u v (Places (exprs e es) p (Err F3))
+  bounds_fail u v e es x p reads bounds =
+      reads_so u v (Values e (Ok x)) (Places (exprs e es) p (Err F3)) reads (λ m h. bounds_fault arrays (map_by numbers m) (left p) e es x h bounds)
+
+  pub first_fails : (u v : World) (e : ExprTree) (es : ExprsTree) (k : FaultKind) (p : Place) → Reads u v (Values e (Err k)) → Reads u v (Places (exprs e es) p (Err k))
+  first_fails u v e es k p reads =
+      reads_so u v (Values e (Err k)) (Places (exprs e es) p (Err k)) reads (λ m h. first_fault arrays (map_by numbers m) (left p) e es k h)
+
+  -- ---- of the forms that the Rust values have
+
+  pub by_form : (u v : World) (e f : Expr) (r s : Valued) → e ≡ f → r ≡ s → Reads u v (Values (expr_tree f) s) → Reads u v (Values (expr_tree e) r)
+  by_form u v e f r s is same reads =
+      subst (λ x. Reads u v (Values (expr_tree x) r)) (sym is) (subst (λ x. Reads u v (Values (expr_tree f) x)) (sym same) reads)
+
+  pub by_list : (u v : World) (es fs : Exprs) (p : Place) (r s : Result Place FaultKind) → es ≡ fs → r ≡ s → Reads u v (Places (exprs_tree fs) p s) → Reads u v (Places (exprs_tree es) p r)
+  by_list u v es fs p r s is same reads =
+      subst (λ x. Reads u v (Places (exprs_tree x) p r)) (sym is) (subst (λ x. Reads u v (Places (exprs_tree fs) p x)) (sym same) reads)
+
+-- ---- without cells
+
+pub without_cells : (m : Cells) → map_by no_cells m ≡ start
+unfolding map_by start
+without_cells m = refl
