@@ -76,7 +76,7 @@ module _ (arrays : Arrays) (keys : List (Vec ℕ)) where
 
     pub adds_none : (u v : World) (c : ℕ) (r by : ℤ) → behind place [] ≡ Some c → LeavesRead c u v → r ≡ known u c → integer (r +ℤ by) ≡ Err F2 → Does u v (λ m k. (line : ℕ) → Adds line n by (map_by numbers m) (map_by numbers k) (Err F2))
     adds_none u v c r by at read is summed =
-        does_read u v (λ m. m c ≡ known u c) (λ m k. (line : ℕ) → Adds line n by (map_by numbers m) (map_by numbers k) (Err F2)) (reads_cell c u v read) (λ m h line go. not_added line n by (map_by numbers m) (sum_at m c r by at (h ∙ sym is) ∙ summed) go)
+        does_read u v (λ m. m c ≡ known u c) (λ m k. (line : ℕ) → Adds line n by (map_by numbers m) (map_by numbers k) (Err F2)) (reads_cell c u v read) (λ m h line. (refl, λ go. not_added line n by (map_by numbers m) (sum_at m c r by at (h ∙ sym is) ∙ summed) go))
 
   -- ---- an element
 
@@ -93,13 +93,13 @@ module _ (arrays : Arrays) (keys : List (Vec ℕ)) where
     pub target_fails : (u v : World) (k : FaultKind) → Reads u v (Targets (Err k)) → Does u v (λ m x. Assigns arrays n es e (map_by numbers m) (map_by numbers x) (Err k))
     unfolding and_then
     target_fails u v k reads =
-        does_read u v (Targets (Err k)) (λ m x. Assigns arrays n es e (map_by numbers m) (map_by numbers x) (Err k)) reads (λ m h. rw (targets_are (map_by numbers m) (Err k) h) refl)
+        does_read u v (Targets (Err k)) (λ m x. Assigns arrays n es e (map_by numbers m) (map_by numbers x) (Err k)) reads (λ m h. (rw (targets_are (map_by numbers m) (Err k) h) refl, refl))
 
     module _ (u v w : World) (q : Place) (target : Reads u v (Targets (Ok q))) where
       pub value_fails : (k : FaultKind) → Reads v w (Given (Err k)) → Does u w (λ m x. Assigns arrays n es e (map_by numbers m) (map_by numbers x) (Err k))
       unfolding and_then
       value_fails k reads =
-          does_read u w (λ m. target_and_value arrays n es e (map_by numbers m) ≡ Err k) (λ m x. Assigns arrays n es e (map_by numbers m) (map_by numbers x) (Err k)) (reads_then u v w (Targets (Ok q)) (Given (Err k)) (λ m. target_and_value arrays n es e (map_by numbers m) ≡ Err k) target reads (λ m h f. rw (targets_are (map_by numbers m) (Ok h.values) h.are) (rw f refl))) (λ m h. h)
+          does_read u w (λ m. target_and_value arrays n es e (map_by numbers m) ≡ Err k) (λ m x. Assigns arrays n es e (map_by numbers m) (map_by numbers x) (Err k)) (reads_then u v w (Targets (Ok q)) (Given (Err k)) (λ m. target_and_value arrays n es e (map_by numbers m) ≡ Err k) target reads (λ m h f. rw (targets_are (map_by numbers m) (Ok h.values) h.are) (rw f refl))) (λ m h. (h, refl))
 
       abbrev Both : Value → Cells → Type 0
       Both y m = Targets (Ok q) m × Given (Ok y) m

@@ -24,11 +24,11 @@ pub outcome-more : (p : List (List ℕ)) (n : ℕ) (r : Ran) → (more p n r).ou
 unfolding more
 outcome-more p n r = refl
 
-map-more : (p : List (List ℕ)) (n : ℕ) (r : Ran) → (more p n r).map ≡ r.map
+pub map-more : (p : List (List ℕ)) (n : ℕ) (r : Ran) → (more p n r).map ≡ r.map
 unfolding more
 map-more p n r = refl
 
-used-more : (p : List (List ℕ)) (n : ℕ) (r : Ran) → (more p n r).used ≡ n + r.used
+pub used-more : (p : List (List ℕ)) (n : ℕ) (r : Ran) → (more p n r).used ≡ n + r.used
 unfolding more
 used-more p n r = refl
 

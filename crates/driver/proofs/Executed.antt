@@ -7,7 +7,7 @@ use Rattle.meaning.specs.declared.ending.Fault.{Fault}
 use Rattle.meaning.specs.declared.ending.Value.{Value}
 use Rattle.meaning.specs.Rules.{arrays_of}
 use Rattle.meaning.specs.Characters.{number_of}
-use Rattle.meaning.specs.Syntax.{ExprTree, ExprsTree, UnitTree, ShapeTree, ItemTree, assignment, writing}
+use Rattle.meaning.specs.Syntax.{ExprTree, ExprsTree, UnitTree, ShapeTree, ItemTree, assignment, writing, continuing}
 use Rattle.meaning.specs.Maps.{Map, put}
 use Rattle.meaning.specs.Values.{dimensions_in, subscripts, value, values_of, as_integer, and_then}
 use Rattle.meaning.specs.Records.{edited}
@@ -15,8 +15,8 @@ use Rattle.meaning.specs.Execution.{Ran, more, Follow, turn, with_ok, failed, st
 use Rattle.meaning.specs.Promise.{Told, Took, IsBroken}
 use Rattle.meaning.proofs.Running.{more-more, more-none}
 use Rattle.driver.specs.declared.halt.Halt.{Halt}
-use Rattle.driver.specs.Walk.{Faults, GoesOn, Steps}
-use Rattle.driver.specs.Statements.{Puts, target_and_value, TakesTurn, FaultsAs, Does, recorded}
+use Rattle.driver.specs.Walk.{Faults, GoesOn, Runs, Steps}
+use Rattle.driver.specs.Statements.{Puts, target_and_value, TakesTurn, Leaves, Passes, Moves, recorded}
 use Rattle.driver.proofs.Taken.{Took-none}
 use Rattle.driver.proofs.Composed.{pieces-more}
 use Rattle.std.proofs.lemmas.List.{append-nil}
@@ -32,16 +32,16 @@ one_turn old new false t e = absurd cc
 pub one_less : (t u : ℕ) → t ≡ suc u → 1 + u ≡ t
 one_less t u e = omega arith
 
--- a fault of a statement that writes nothing, over a sink that stays
-pub quiet_fault : (r : Ran) (f : Fault) (a : Told) → FaultsAs r f → Faults r f a a
-quiet_fault r f a x = record { outcome = x.outcome; bytes = subst (λ ps. Took a a (concat ps)) (sym x.nothing) (Took-none a) }
+-- what faulted without output, over a sink that stays
+pub quiet_fault : (r : Ran) (given : ℕ) (m : Map) (left : ℕ) (f : Fault) (a : Told) → Leaves r given m left (Some f) → Faults r f a a
+quiet_fault r given m left f a x = record { outcome = x.outcome; bytes = subst (λ ps. Took a a (concat ps)) (sym x.nothing) (Took-none a) }
 
 module _ (line : ℕ) (m : Map) where
   -- no turn is left
-  pub turn_none : (t : ℕ) (does : ℕ → Ran) → t ≡ 0 → FaultsAs (turn line m t does) (record { kind = F4; line = line })
+  pub turn_none : (t u : ℕ) (does : ℕ → Ran) → t ≡ 0 → u ≡ 0 → Leaves (turn line m t does) t m u (Some (record { kind = F4; line = line }))
   unfolding turn
-  turn_none t does e =
-      subst (λ n. FaultsAs (turn line m n does) (record { kind = F4; line = line })) (sym e) (record { outcome = refl; nothing = refl })
+  turn_none t u does e f =
+      subst (λ n. Leaves (turn line m n does) t m u (Some (record { kind = F4; line = line }))) (sym e) (record { outcome = refl; after = refl; nothing = refl; turns = omega arith })
 
   -- a turn is taken
   pub turn_some : (t u : ℕ) (does : ℕ → Ran) → t ≡ suc u → turn line m t does ≡ more [] 1 (does u)
@@ -53,14 +53,14 @@ module _ (line : ℕ) (m : Map) where
   turn_goes t u r x does e h =
       turn_some t u (λ n. with_ok r line m (λ y. does y n)) e ∙ ap (λ s. more [] 1 (with_ok s line m (λ y. does y u))) h
 
-  failed-behind : (k : FaultKind) → FaultsAs (more [] 1 (failed k line m)) (record { kind = k; line = line })
+  failed-behind : (t u : ℕ) (k : FaultKind) → t ≡ suc u → Leaves (more [] 1 (failed k line m)) t m u (Some (record { kind = k; line = line }))
   unfolding more
-  failed-behind k = record { outcome = refl; nothing = refl }
+  failed-behind t u k e = record { outcome = refl; after = refl; nothing = refl; turns = omega arith }
 
-  pub turn_fails : {A : Type 0} (t u : ℕ) (r : Result A FaultKind) (k : FaultKind) (does : A → ℕ → Ran) → t ≡ suc u → r ≡ Err k → FaultsAs (turn line m t (λ n. with_ok r line m (λ y. does y n))) (record { kind = k; line = line })
+  pub turn_fails : {A : Type 0} (t u : ℕ) (r : Result A FaultKind) (k : FaultKind) (does : A → ℕ → Ran) → t ≡ suc u → r ≡ Err k → Leaves (turn line m t (λ n. with_ok r line m (λ y. does y n))) t m u (Some (record { kind = k; line = line }))
   unfolding with_ok
   turn_fails t u r k does e h =
-      subst (λ s. FaultsAs s (record { kind = k; line = line })) (sym (turn_some t u (λ n. with_ok r line m (λ y. does y n)) e ∙ ap (λ s. more [] 1 (with_ok s line m (λ y. does y u))) h)) (failed-behind k)
+      subst (λ s. Leaves s t m u (Some (record { kind = k; line = line }))) (sym (turn_some t u (λ n. with_ok r line m (λ y. does y n)) e ∙ ap (λ s. more [] 1 (with_ok s line m (λ y. does y u))) h)) (failed-behind t u k e)
 
 -- ---- an assignment
 
@@ -80,18 +80,23 @@ module _ (all : List ItemTree) (n : List ℕ) (es : ExprsTree) (e : ExprTree) (l
   assigns : (go : Follow) → step all (assignment n es e) line m t go ≡ turn line m t (λ u. with_ok parts line m (λ p. puts_them go p u))
   assigns go = λ i. turn line m t (λ u. with_ok-parts (subscripts (arrays_of all) (dimensions_in (arrays_of all n)) es m) (value (arrays_of all) e m) line m (λ ss v. go (put m n ss (as_integer v)) u) i)
 
-  faults : (f : Fault) (go : Follow) → FaultsAs (turn line m t (λ u. with_ok parts line m (λ p. puts_them go p u))) f → FaultsAs (step all (assignment n es e) line m t go) f
-  faults f go x = subst (λ r. FaultsAs r f) (sym (assigns go)) x
-
   pub assigned : (new : Map) (u : ℕ) → t ≡ suc u → Puts (arrays_of all) n es e m new → (go : Follow) → step all (assignment n es e) line m t go ≡ more [] 1 (go new u)
   assigned new u taken puts go =
       assigns go ∙ turn_goes line m t u parts puts.given (λ p k. puts_them go p k) taken puts.is ∙ ap (λ x. more [] 1 (go x u)) (sym puts.after)
 
-  pub unassigned : (k : FaultKind) (u : ℕ) → t ≡ suc u → parts ≡ Err k → (go : Follow) → FaultsAs (step all (assignment n es e) line m t go) (record { kind = k; line = line })
-  unassigned k u taken h go = faults (record { kind = k; line = line }) go (turn_fails line m t u parts k (λ p i. puts_them go p i) taken h)
+  along : (u : ℕ) (f : Fault) (go : Follow) → Leaves (turn line m t (λ k. with_ok parts line m (λ p. puts_them go p k))) t m u (Some f) → Leaves (step all (assignment n es e) line m t go) t m u (Some f)
+  along u f go x = subst (λ r. Leaves r t m u (Some f)) (sym (assigns go)) x
 
-  pub unexecuted : t ≡ 0 → (go : Follow) → FaultsAs (step all (assignment n es e) line m t go) (record { kind = F4; line = line })
-  unexecuted none go = faults (record { kind = F4; line = line }) go (turn_none line m t (λ u. with_ok parts line m (λ p. puts_them go p u)) none)
+  pub unexecuted : (u : ℕ) → t ≡ 0 → u ≡ 0 → (go : Follow) → Leaves (step all (assignment n es e) line m t go) t m u (Some (record { kind = F4; line = line }))
+  unexecuted u none left go = along u (record { kind = F4; line = line }) go (turn_none line m t u (λ k. with_ok parts line m (λ p. puts_them go p k)) none left)
+
+  -- an assignment, or its fault
+  pub assign_moves : (new : Map) (u : ℕ) → t ≡ suc u → Puts (arrays_of all) n es e m new → Moves (λ go. step all (assignment n es e) line m t go) t new u None
+  assign_moves new u taken puts = record { used = 1; is = assigned new u taken puts; turns = one_less t u taken }
+
+  pub assign_faults : (new : Map) (u : ℕ) (k : FaultKind) → t ≡ suc u → (parts ≡ Err k) × (new ≡ m) → Moves (λ go. step all (assignment n es e) line m t go) t new u (Some (record { kind = k; line = line }))
+  assign_faults new u k taken h go =
+      subst (λ x. Leaves (step all (assignment n es e) line m t go) t x u (Some (record { kind = k; line = line }))) (sym h.1) (along u (record { kind = k; line = line }) go (turn_fails line m t u parts k (λ p i. puts_them go p i) taken h.0))
 
 -- ---- a WRITE statement
 
@@ -104,17 +109,17 @@ module _ (all : List ItemTree) (unit : UnitTree) (label : List ℕ) (es : List E
   writes : (go : Follow) → step all (writing unit label es) line m t go ≡ turn line m t (λ u. with_ok (recorded all (number_of label) es m) line m (λ records. more (records ∷ []) 0 (go m u)))
   writes go = λ i. turn line m t (λ u. with_ok-with_ok (values_of (arrays_of all) es m) (λ vs. edited (format_at all (number_of label)) vs) line m (λ records. more (records ∷ []) 0 (go m u)) i)
 
-  along : (f : Fault) (a : Told) (go : Follow) → FaultsAs (turn line m t (λ u. with_ok (recorded all (number_of label) es m) line m (λ records. more (records ∷ []) 0 (go m u)))) f → Faults (step all (writing unit label es) line m t go) f a a
-  along f a go x = subst (λ r. Faults r f a a) (sym (writes go)) (quiet_fault _ f a x)
+  told_along : (u : ℕ) (f : Fault) (a : Told) (go : Follow) → Leaves (turn line m t (λ k. with_ok (recorded all (number_of label) es m) line m (λ records. more (records ∷ []) 0 (go m k)))) t m u (Some f) → Faults (step all (writing unit label es) line m t go) f a a
+  told_along u f a go x = subst (λ r. Faults r f a a) (sym (writes go)) (quiet_fault _ t m u f a x)
 
   pub unwritten : (a : Told) → t ≡ 0 → (go : Follow) → Faults (step all (writing unit label es) line m t go) (record { kind = F4; line = line }) a a
   unwritten a none go =
-      along (record { kind = F4; line = line }) a go (turn_none line m t (λ u. with_ok (recorded all (number_of label) es m) line m (λ records. more (records ∷ []) 0 (go m u))) none)
+      told_along t (record { kind = F4; line = line }) a go (turn_none line m t t (λ u. with_ok (recorded all (number_of label) es m) line m (λ records. more (records ∷ []) 0 (go m u))) none none)
 
   module _ (u : ℕ) (taken : t ≡ suc u) where
     pub write_fails : (k : FaultKind) (a : Told) → recorded all (number_of label) es m ≡ Err k → (go : Follow) → Faults (step all (writing unit label es) line m t go) (record { kind = k; line = line }) a a
     write_fails k a h go =
-        along (record { kind = k; line = line }) a go (turn_fails line m t u (recorded all (number_of label) es m) k (λ records n. more (records ∷ []) 0 (go m n)) taken h)
+        told_along u (record { kind = k; line = line }) a go (turn_fails line m t u (recorded all (number_of label) es m) k (λ records n. more (records ∷ []) 0 (go m n)) taken h)
 
     one_piece : (records : List ℕ) → recorded all (number_of label) es m ≡ Ok records → (go : Follow) → step all (writing unit label es) line m t go ≡ more (records ∷ []) 1 (go m u)
     one_piece records h go =
@@ -142,16 +147,32 @@ module _ (all : List ItemTree) (unit : UnitTree) (label : List ℕ) (es : List E
 -- ---- any statement
 
 -- a statement that writes nothing, over a sink that stays
-pub steps_quietly : (does : Follow → Ran) (given : ℕ) (m : Map) (left : ℕ) (o : Option Fault) (a : Told) → Does does given m left o → Steps does given m left (Ok o) a a
+pub steps_quietly : (does : Follow → Ran) (given : ℕ) (m : Map) (left : ℕ) (o : Option Fault) (a : Told) → Moves does given m left o → Steps does given m left (Ok o) a a
 steps_quietly does given m left None a h =
-    record { pieces = []; used = 1; is = h.1; turns = one_less given left h.0; bytes = Took-none a }
-steps_quietly does given m left (Some f) a h = λ go. quiet_fault (does go) f a (h go)
+    record { pieces = []; used = h.used; is = h.is; turns = h.turns; bytes = Took-none a }
+steps_quietly does given m left (Some f) a h = λ go. quiet_fault (does go) given m left f a (h go)
+
+-- a run that writes nothing, over a sink that stays
+pub runs_quietly : (r : Ran) (given : ℕ) (m : Map) (left : ℕ) (o : Option Fault) (a : Told) → Leaves r given m left o → Runs r given m left (Ok o) a a
+runs_quietly r given m left None a h =
+    record { outcome = h.outcome; leaves = h.after; turns = h.turns; bytes = subst (λ ps. Took a a (concat ps)) (sym h.nothing) (Took-none a) }
+runs_quietly r given m left (Some f) a h = quiet_fault r given m left f a h
 
 -- a statement that isn't executable
-pub passed_over : (m : Map) (t : ℕ) (a : Told) → GoesOn (λ go. go m t) t m t a a
-passed_over m t a = record { pieces = []; used = 0; is = λ go. more-none (go m t); turns = omega arith; bytes = Took-none a }
+pub passes_over : (m : Map) (t : ℕ) → Passes (λ go. go m t) t m t
+passes_over m t = record { used = 0; is = λ go. more-none (go m t); turns = omega arith }
 
-module _ (all : List ItemTree) (line : ℕ) (old new : Map) (t u : ℕ) (r : Result (Option Fault) Halt) (before after : Told) where
-  -- the steps of a statement that is written as its shape
-  pub steps_as : (s shape : ShapeTree) → shape ≡ s → Steps (λ go. step all s line old t go) t new u r before after → Steps (λ go. step all shape line old t go) t new u r before after
-  steps_as s shape e h = subst (λ x. Steps (λ go. step all x line old t go) t new u r before after) (sym e) h
+pub passed_over : (m : Map) (t : ℕ) (a : Told) → GoesOn (λ go. go m t) t m t a a
+passed_over m t a = steps_quietly (λ go. go m t) t m t None a (passes_over m t)
+
+-- a CONTINUE statement
+pub continues : (all : List ItemTree) (line : ℕ) (m : Map) (t u : ℕ) → t ≡ suc u → Passes (λ go. step all continuing line m t go) t m u
+continues all line m t u taken =
+    record { used = 1; is = λ go. turn_some line m t u (λ k. go m k) taken; turns = one_less t u taken }
+
+-- a statement that is written as its shape
+pub steps_as : (all : List ItemTree) (line : ℕ) (old new : Map) (t u : ℕ) (r : Result (Option Fault) Halt) (before after : Told) (s shape : ShapeTree) → shape ≡ s → Steps (λ go. step all s line old t go) t new u r before after → Steps (λ go. step all shape line old t go) t new u r before after
+steps_as all line old new t u r before after s shape e h = subst (λ x. Steps (λ go. step all x line old t go) t new u r before after) (sym e) h
+
+pub moves_as : (all : List ItemTree) (line : ℕ) (old new : Map) (t u : ℕ) (o : Option Fault) (s shape : ShapeTree) → shape ≡ s → Moves (λ go. step all s line old t go) t new u o → Moves (λ go. step all shape line old t go) t new u o
+moves_as all line old new t u o s shape e h = subst (λ x. Moves (λ go. step all x line old t go) t new u o) (sym e) h

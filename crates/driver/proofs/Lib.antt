@@ -7,5 +7,7 @@ pub mod Limiting
 pub mod Executed
 pub mod Quotients
 pub mod Looped
+pub mod Quietly
+pub mod Silent
 pub mod Listed
 pub mod Promised

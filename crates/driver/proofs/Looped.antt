@@ -11,7 +11,7 @@ use Rattle.meaning.specs.declared.ending.FaultKind.TheVariants.{F4}
 use Rattle.meaning.specs.declared.ending.Fault.{Fault}
 use Rattle.meaning.specs.Promise.{Told}
 use Rattle.driver.specs.declared.halt.Halt.{Halt}
-use Rattle.meaning.specs.Syntax.{ExprTree, ExprsTree, DeclaratorTree, UnitTree, ItemTree, ShapeTree, LimitsTree, assignment, writing, format, doing, continuing, typing, ending, shape_tree}
+use Rattle.meaning.specs.Syntax.{ItemTree, ShapeTree, LimitsTree, assignment, writing, format, doing, continuing, typing, ending, shape_tree}
 use Rattle.meaning.specs.Trees.{Members, none, flat, item_tree, member_before, row_members, members_tree}
 use Rattle.meaning.specs.Trips.{Span, span_of, trips, trip_count}
 use Rattle.meaning.specs.Rules.{arrays_of}
@@ -24,6 +24,9 @@ use Rattle.meaning.proofs.Running.{exec_is}
 use Rattle.meaning.proofs.Ranges.{range_is}
 use Rattle.driver.specs.Walk.{Faults, Halts, Runs, Ends, GoesOn, Steps, member_does}
 use Rattle.driver.proofs.Composed.{steps_on, steps_behind_turn}
+use Rattle.std.specs.Prelude.{IsTrue, not}
+use Rattle.std.proofs.lemmas.Bool.{false≢true}
+use Rattle.driver.specs.Quiet.{is_doing}
 use Rattle.driver.proofs.Executed.{passed_over, quiet_fault, turn_none, turn_fails, turn_goes}
 
 -- ---- what holds of each statement
@@ -133,15 +136,15 @@ module _ (arrays : Arrays) (rec : Meaning) (label : List ℕ) (comma : Bool) (va
   pub do_unexecuted : (a : Told) → t ≡ 0 → (go : Follow) → Faults (looped arrays rec do_statement line range m t go) (record { kind = F4; line = line }) a a
   unfolding looped
   do_unexecuted a zero-left go =
-      quiet_fault _ (record { kind = F4; line = line }) a (turn_none line m t (λ u. with_ok (span_of arrays limits m) line m (λ s. goes_on (trips_from rec line variable range m u s) u go)) zero-left)
+      quiet_fault _ t m t (record { kind = F4; line = line }) a (turn_none line m t t (λ u. with_ok (span_of arrays limits m) line m (λ s. goes_on (trips_from rec line variable range m u s) u go)) zero-left zero-left)
 
   module _ (u : ℕ) (taken : t ≡ suc u) where
     pub do_fails : (k : FaultKind) (a : Told) → span_of arrays limits m ≡ Err k → (go : Follow) → Faults (looped arrays rec do_statement line range m t go) (record { kind = k; line = line }) a a
     unfolding looped
     do_fails k a h go =
-        quiet_fault _ (record { kind = k; line = line }) a (turn_fails line m t u (span_of arrays limits m) k (λ s n. goes_on (trips_from rec line variable range m n s) n go) taken h)
+        quiet_fault _ t m u (record { kind = k; line = line }) a (turn_fails line m t u (span_of arrays limits m) k (λ s n. goes_on (trips_from rec line variable range m n s) n go) taken h)
 
-    do_is : (s : Span) → span_of arrays limits m ≡ Ok s → (go : Follow) → looped arrays rec do_statement line range m t go ≡ more [] 1 (goes_on (trips_from rec line variable range m u s) u go)
+    pub do_is : (s : Span) → span_of arrays limits m ≡ Ok s → (go : Follow) → looped arrays rec do_statement line range m t go ≡ more [] 1 (goes_on (trips_from rec line variable range m u s) u go)
     unfolding looped
     do_is s h go = turn_goes line m t u (span_of arrays limits m) s (λ y n. goes_on (trips_from rec line variable range m n y) n go) taken h
 
@@ -161,39 +164,26 @@ steps_same does whole given m left (Ok (Some f)) old new is x = λ go. subst (λ
 steps_same does whole given m left (Err h) old new is x =
     λ go. subst (λ (r : Ran). Halts r.pieces h old new) (sym (is go)) (x go)
 
-pub steps_unless_do : (arrays : Arrays) (rec : Meaning) (s shape : ShapeTree) (line : ℕ) (range : Members) (m : Map) (t : ℕ) (a : Told) → shape ≡ s → ((go : Follow) → looped arrays rec s line range m t go ≡ go m t) → GoesOn (λ go. looped arrays rec shape line range m t go) t m t a a
-steps_unless_do arrays rec s shape line range m t a e is =
-    steps_same (λ go. go m t) (λ go. looped arrays rec shape line range m t go) t m t (Ok None) a a (λ go. ap (λ x. looped arrays rec x line range m t go) e ∙ is go) (passed_over m t a)
-
-pub assignment_goes : (target : List ℕ) (es : ExprsTree) (e : ExprTree) (arrays : Arrays) (rec : Meaning) (line : ℕ) (range : Members) (m : Map) (t : ℕ) (go : Follow) → looped arrays rec (assignment target es e) line range m t go ≡ go m t
+-- what is no DO statement is passed over
+pub unless_do : (s : ShapeTree) (arrays : Arrays) (rec : Meaning) (line : ℕ) (range : Members) (m : Map) (t : ℕ) → IsTrue (not (is_doing s)) → (go : Follow) → looped arrays rec s line range m t go ≡ go m t
 unfolding looped
-assignment_goes target es e arrays rec line range m t go = refl
+unless_do (doing label comma variable limits) arrays rec line range m t h go = absurd (false≢true h)
+unless_do (assignment target es e) arrays rec line range m t h go = refl
+unless_do (writing unit label es) arrays rec line range m t h go = refl
+unless_do (format text) arrays rec line range m t h go = refl
+unless_do continuing arrays rec line range m t h go = refl
+unless_do (typing ds) arrays rec line range m t h go = refl
+unless_do ending arrays rec line range m t h go = refl
 
-pub write_goes : (unit : UnitTree) (label : List ℕ) (es : List ExprTree) (arrays : Arrays) (rec : Meaning) (line : ℕ) (range : Members) (m : Map) (t : ℕ) (go : Follow) → looped arrays rec (writing unit label es) line range m t go ≡ go m t
-unfolding looped
-write_goes unit label es arrays rec line range m t go = refl
-
-pub format_goes : (text : List ℕ) (arrays : Arrays) (rec : Meaning) (line : ℕ) (range : Members) (m : Map) (t : ℕ) (go : Follow) → looped arrays rec (format text) line range m t go ≡ go m t
-unfolding looped
-format_goes text arrays rec line range m t go = refl
-
-pub continue_goes : (arrays : Arrays) (rec : Meaning) (line : ℕ) (range : Members) (m : Map) (t : ℕ) (go : Follow) → looped arrays rec continuing line range m t go ≡ go m t
-unfolding looped
-continue_goes arrays rec line range m t go = refl
-
-pub end_goes : (arrays : Arrays) (rec : Meaning) (line : ℕ) (range : Members) (m : Map) (t : ℕ) (go : Follow) → looped arrays rec ending line range m t go ≡ go m t
-unfolding looped
-end_goes arrays rec line range m t go = refl
-
-pub typing_goes : (ds : List DeclaratorTree) (arrays : Arrays) (rec : Meaning) (line : ℕ) (range : Members) (m : Map) (t : ℕ) (go : Follow) → looped arrays rec (typing ds) line range m t go ≡ go m t
-unfolding looped
-typing_goes ds arrays rec line range m t go = refl
+pub steps_unless_do : (arrays : Arrays) (rec : Meaning) (s : ShapeTree) (line : ℕ) (range : Members) (m : Map) (t : ℕ) (a : Told) → IsTrue (not (is_doing s)) → GoesOn (λ go. looped arrays rec s line range m t go) t m t a a
+steps_unless_do arrays rec s line range m t a h =
+    steps_same (λ go. go m t) (λ go. looped arrays rec s line range m t go) t m t (Ok None) a a (unless_do s arrays rec line range m t h) (passed_over m t a)
 
 -- ---- the addition behind a range
 
 pub add_fails : (line : ℕ) (variable : List ℕ) (by : ℤ) (m : Map) (k : FaultKind) (go : Map → Ran) (a : Told) → ((on : Map → Ran) → added line variable by m on ≡ failed k line m) → Faults (added line variable by m go) (record { kind = k; line = line }) a a
 add_fails line variable by m k go a is =
-    subst (λ r. Faults r (record { kind = k; line = line }) a a) (sym (is go)) (quiet_fault (failed k line m) (record { kind = k; line = line }) a (record { outcome = refl; nothing = refl }))
+    subst (λ r. Faults r (record { kind = k; line = line }) a a) (sym (is go)) (quiet_fault (failed k line m) 0 m 0 (record { kind = k; line = line }) a (record { outcome = refl; after = refl; nothing = refl; turns = refl }))
 
 -- ---- the whole run
 

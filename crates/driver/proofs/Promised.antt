@@ -11,7 +11,8 @@ use Rattle.meaning.specs.declared.ending.Ending.TheVariants as endings
 use Rattle.meaning.specs.Trees.{Nested}
 use Rattle.meaning.specs.Answers.{answer, answer_of, program_of, run_of, ending_of}
 use Rattle.meaning.specs.Promise.{Told, IsFront, IsBroken, Keeps, whole, cut_short, broken_off}
-use Rattle.driver.specs.Walk.{outcome_of, HasEnded}
+use Rattle.driver.specs.Walk.{HasEnded}
+use Rattle.driver.specs.Statements.{outcome_of}
 use Rattle.driver.proofs.Taken.{Took-none}
 
 -- the answer of a source, once its program is known

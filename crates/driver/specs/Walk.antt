@@ -4,17 +4,14 @@ use Rattle.std.specs.List.{concat}
 use Rattle.meaning.specs.declared.ending.Fault.{Fault}
 use Rattle.meaning.specs.declared.syntax.Member.{Member, Plain, Loop'}
 use Rattle.meaning.specs.Maps.{Map}
-use Rattle.meaning.specs.Execution.{Outcome, normal, fault, Ran, more, Meaning, Follow, step, looped}
+use Rattle.meaning.specs.Execution.{normal, fault, Ran, more, Meaning, Follow, step, looped}
 use Rattle.meaning.specs.Syntax.{ItemTree, shape_tree}
 use Rattle.meaning.specs.Rules.{arrays_of}
 use Rattle.meaning.specs.Trees.{row_members}
 use Rattle.meaning.specs.Promise.{Told, Took, IsFront, IsBroken}
 use Rattle.driver.specs.declared.halt.Halt.{Halt}
+use Rattle.driver.specs.Statements.{outcome_of}
 use Rattle.driver.specs.declared.halt.Halt.TheVariants as halts
-
-abbrev pub outcome_of : Option Fault → Outcome
-outcome_of None = normal
-outcome_of (Some f) = fault f.kind f.line
 
 -- ---- a run by itself, from turns that are given
 

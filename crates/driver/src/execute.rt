@@ -17,13 +17,15 @@ ghost use Rattle.driver.specs.Walk.{Steps, Runs, Ends, member_does};
 
 use crate::halt::Halt;
 use crate::limits::{Span, count_of};
+use crate::quiet::take_turn;
+use crate::shapes::{do_of, is_quiet_list};
 use crate::sink::Sink;
-use crate::statement::{execute_item, take_turn};
-use crate::whole::{add_whole, limits_whole, set_whole};
+use crate::statement::execute_item;
+use crate::whole::{add_whole, limits_whole, set_whole, trips_whole};
 use array_store::Whole;
 use checker::Program;
 use meaning::ending::{Fault, FaultKind};
-use meaning::syntax::{Limits, Loop, Member, Shape};
+use meaning::syntax::{Limits, Loop, Member};
 use std::alloc::Global;
 
 // Executes a range once for each trip of its DO statement, whose variable has its first value.
@@ -95,6 +97,9 @@ fn execute_do<S: Sink>(
     match limits_whole(program, limits, cells) {
         Ok(span) => {
             set_whole(program, variable, span.first, cells);
+            if is_quiet_list(&repeated.range) {
+                return Ok(trips_whole(program, repeated, variable, span, cells, turns));
+            }
             execute_trips(alloc, program, repeated, variable, span, cells, turns, sink)
         }
         Err(kind) => Ok(Some(Fault { kind, line })),
@@ -119,21 +124,11 @@ fn execute_loop<S: Sink>(
     ensures steps { Steps (λ go. looped (arrays_in program.now) (exec (flatten (tree_of program.now))) (shape_tree (out-Loop repeated.now).head.form.shape) (out-Loop repeated.now).head.line (members_tree (out-Loop repeated.now).range.items) (map_in program.now cells.old) turns.old go) turns.old (map_in program.now cells.new) turns.new result (S.told sink.old) (S.told sink.new) }
     ensures len { length cells.new ≡ length cells.old }
 {
-    match &repeated.head.form.shape {
-        Shape::Do {
-            label: _,
-            comma: _,
-            variable,
-            limits,
-        } => execute_do(
+    match do_of(&repeated.head.form.shape) {
+        Some((variable, limits)) => execute_do(
             alloc, program, repeated, variable, limits, cells, turns, sink,
         ),
-        Shape::Assignment { .. } => Ok(None),
-        Shape::Write { .. } => Ok(None),
-        Shape::Format(_) => Ok(None),
-        Shape::Continue => Ok(None),
-        Shape::Integer(_) => Ok(None),
-        Shape::End => Ok(None),
+        None => Ok(None),
     }
 }
 

@@ -1,6 +1,6 @@
 //! The limits of a DO statement (ANSI X3.9-1978, 11.10.3).
 
-ghost use Rattle.std.specs.Prelude.{◌≡◌, ◌≢◌, int_div, option_map, pos};
+ghost use Rattle.std.specs.Prelude.{◌≡◌, ◌≢◌, IfOk, int_div, option_map, pos};
 ghost use Rattle.std.specs.Int.{CanDivide, w64};
 ghost use Rattle.meaning.specs.Characters.{at_least_zero};
 ghost use Rattle.meaning.specs.Syntax.{expr_tree, limits_tree};
@@ -52,6 +52,7 @@ pub fn values_of_limits<S: Store>(
     requires sized { (S.world store.old).cells ≡ cells_of (named_of_program program.now) }
     ensures reads { Reads (S.world store.old) (S.world store.new) (λ m. SpanIs result (span_of (arrays_in program.now) (limits_tree limits.now) (map_at program.now m))) }
     ensures cells { (S.world store.new).cells ≡ (S.world store.old).cells }
+    ensures some { IfOk result (λ s. s.step ≢ pos 0) }
 {
     let first = as_integer(value(&limits.first, program, store)?);
     let last = as_integer(value(&limits.last, program, store)?);

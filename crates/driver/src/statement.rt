@@ -1,31 +1,29 @@
 //! Single statements (ANSI X3.9-1978, 10.1, 11.11 and 12.8).
 
-ghost use Rattle.std.specs.Prelude.{◌≡◌, List, false, length, IfOk};
+ghost use Rattle.std.specs.Prelude.{◌≡◌, false, length, IfOk};
 ghost use Rattle.meaning.specs.Arrays.{cells_of};
 ghost use Rattle.meaning.specs.Characters.{number_of};
-ghost use Rattle.meaning.specs.Syntax.{ItemTree, UnitTree, assignment, writing, continuing, expr_tree, exprs_tree, exprs_trees, shape_tree};
-ghost use Rattle.meaning.specs.Maps.{Map};
+ghost use Rattle.meaning.specs.Syntax.{UnitTree, writing, exprs_trees, shape_tree};
 ghost use Rattle.meaning.specs.Trees.{item_tree, flatten};
-ghost use Rattle.meaning.specs.Rules.{count};
-ghost use Rattle.meaning.specs.Values.{dimensions_in};
 ghost use Rattle.meaning.specs.Execution.{step, format_at};
 ghost use Rattle.meaning.specs.Records.{edited};
 ghost use Rattle.meaning.specs.Promise.{Told};
 ghost use Rattle.checker.specs.Checked.{tree_of, named_of_program, IsNumbered};
-ghost use Rattle.checker.specs.Numbered.{Holds};
 ghost use Rattle.values.specs.Listed.{Listed};
-ghost use Rattle.driver.specs.Cells.{arrays_in, map_in, IsKnown};
+ghost use Rattle.driver.specs.Cells.{map_in, IsKnown};
 ghost use Rattle.driver.specs.Walk.{Steps};
-ghost use Rattle.driver.specs.Statements.{recorded, TakesTurn, Does};
+ghost use Rattle.driver.specs.Statements.{recorded};
 
 use crate::halt::Halt;
+use crate::quiet::take_turn;
+use crate::shapes::write_of;
 use crate::sink::{Sink, put_all};
-use crate::whole::{assign_whole, values_whole};
+use crate::whole::{item_whole, values_whole};
 use array_store::Whole;
 use checker::Program;
 use format_edit::{EditFault, Format, edit};
 use meaning::ending::{Fault, FaultKind, Value};
-use meaning::syntax::{Expr, Exprs, Item, Shape};
+use meaning::syntax::{Exprs, Item};
 use std::alloc::{AllocError, Global};
 
 // The records of a WRITE statement, or its fault. The cells keep their values.
@@ -71,46 +69,6 @@ fn edited_list(
     }
 }
 
-/// Takes one of the turns that are left, if there is one.
-pub fn take_turn(turns: &mut u64) -> bool
-    ensures { TakesTurn turns.old turns.new result }
-{
-    if *turns == 0 {
-        return false;
-    }
-    *turns -= 1;
-    true
-}
-
-// Executes an assignment.
-fn execute_assignment(
-    program: &Program,
-    line: u32,
-    name: &[u8],
-    subscripts: &Exprs,
-    expression: &Expr,
-    cells: &mut Whole,
-    turns: &mut u64,
-) -> Option<Fault>
-    requires numbered { IsNumbered program.now }
-    requires held { Holds program.now.names.keys name.now }
-    requires fits { length (dimensions_in (arrays_in program.now name.now)) ≡ count (exprs_tree subscripts.now) }
-    requires sized { length cells.old ≡ cells_of (named_of_program program.now) }
-    ensures does { Does (λ go. step (flatten (tree_of program.now)) (assignment name.now (exprs_tree subscripts.now) (expr_tree expression.now)) line (map_in program.now cells.old) turns.old go) turns.old (map_in program.now cells.new) turns.new result }
-    ensures len { length cells.new ≡ length cells.old }
-{
-    if !take_turn(turns) {
-        return Some(Fault {
-            kind: FaultKind::F4,
-            line,
-        });
-    }
-    match assign_whole(program, name, subscripts, expression, cells) {
-        Ok(()) => None,
-        Err(kind) => Some(Fault { kind, line }),
-    }
-}
-
 // Executes a WRITE statement: all its records are made before the first byte goes out.
 fn execute_write<S: Sink>(
     alloc: Global,
@@ -143,19 +101,6 @@ fn execute_write<S: Sink>(
     }
 }
 
-// Executes a CONTINUE statement: it takes a turn.
-fn execute_continue(line: u32, turns: &mut u64) -> Option<Fault>
-    ensures { (all : List ItemTree) (m : Map) → Does (λ go. step all continuing line m turns.old go) turns.old m turns.new result }
-{
-    if !take_turn(turns) {
-        return Some(Fault {
-            kind: FaultKind::F4,
-            line,
-        });
-    }
-    None
-}
-
 /// Executes one statement that stands by itself, or passes over one that isn't executable. Answers its fault, if it
 /// faults.
 pub fn execute_item<S: Sink>(
@@ -173,22 +118,10 @@ pub fn execute_item<S: Sink>(
     ensures steps { Steps (λ go. step (flatten (tree_of program.now)) (shape_tree item.now.form.shape) item.now.line (map_in program.now cells.old) turns.old go) turns.old (map_in program.now cells.new) turns.new result (S.told sink.old) (S.told sink.new) }
     ensures len { length cells.new ≡ length cells.old }
 {
-    let line = item.line;
-    match &item.form.shape {
-        Shape::Assignment {
-            name,
-            subscripts,
-            value,
-        } => Ok(execute_assignment(program, line, name, subscripts, value, cells, turns)),
-        Shape::Write {
-            unit: _,
-            label,
-            list,
-        } => execute_write(alloc, program, line, label, list, cells, turns, sink),
-        Shape::Continue => Ok(execute_continue(line, turns)),
-        Shape::Do { .. } => Ok(None),
-        Shape::Format(_) => Ok(None),
-        Shape::Integer(_) => Ok(None),
-        Shape::End => Ok(None),
+    match write_of(&item.form.shape) {
+        Some((label, list)) => execute_write(
+            alloc, program, item.line, label, list, cells, turns, sink,
+        ),
+        None => Ok(item_whole(program, item, cells, turns)),
     }
 }

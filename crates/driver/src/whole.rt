@@ -1,25 +1,29 @@
-//! Assignments, additions, limits and lists over a whole store, which refuses no write.
+//! What is proved over any store, over a whole store, which refuses no write.
 
-ghost use Rattle.std.specs.Prelude.{◌≡◌, ℕ, [], length, IfOk};
+ghost use Rattle.std.specs.Prelude.{◌≡◌, ◌≢◌, ℕ, [], IsTrue, length, not, pos, IfOk};
+ghost use Rattle.meaning.specs.declared.syntax.Loop.{out-Loop};
 ghost use Rattle.meaning.specs.Arrays.{cells_of};
+ghost use Rattle.meaning.specs.Execution.{step, exec, fold_trips};
 ghost use Rattle.meaning.specs.Maps.{put};
-ghost use Rattle.meaning.specs.Rules.{count};
-ghost use Rattle.meaning.specs.Syntax.{expr_tree, exprs_tree, exprs_trees, limits_tree};
-ghost use Rattle.meaning.specs.Trips.{span_of};
+ghost use Rattle.meaning.specs.Syntax.{exprs_trees, limits_tree, shape_tree};
+ghost use Rattle.meaning.specs.Trees.{flat, flatten, item_tree, members_tree};
+ghost use Rattle.meaning.specs.Trips.{span_of, trips};
 ghost use Rattle.meaning.specs.Values.{dimensions_in, values_of};
-ghost use Rattle.checker.specs.Checked.{named_of_program, IsNumbered};
+ghost use Rattle.checker.specs.Checked.{tree_of, named_of_program, IsNumbered};
 ghost use Rattle.checker.specs.Numbered.{Holds};
 ghost use Rattle.values.specs.Listed.{Listed};
-ghost use Rattle.driver.specs.Cells.{arrays_in, map_in};
+ghost use Rattle.driver.specs.Cells.{arrays_in, map_in, IsKnown, AreKnown};
 ghost use Rattle.driver.specs.Limited.{SpanIs};
-ghost use Rattle.driver.specs.Statements.{Assigns, Adds};
+ghost use Rattle.driver.specs.Quiet.{WritesNothing, is_writing};
+ghost use Rattle.driver.specs.Statements.{Adds, Leaves, Moves};
 
-use crate::assignment::{add_to, assign, set_variable};
+use crate::assignment::{add_to, set_variable};
 use crate::limits::{Span, values_of_limits};
+use crate::quiet::{run_item, run_trips};
 use array_store::Whole;
 use checker::Program;
-use meaning::ending::{FaultKind, Value};
-use meaning::syntax::{Expr, Exprs, Limits};
+use meaning::ending::{Fault, FaultKind, Value};
+use meaning::syntax::{Exprs, Item, Limits, Loop};
 use std::alloc::{AllocError, Global};
 use values::values;
 
@@ -39,25 +43,50 @@ pub fn set_whole(program: &Program, name: &[u8], x: i32, cells: &mut Whole)
     }
 }
 
-/// Gives a variable or an array element the value of an expression.
-pub fn assign_whole(
+/// Executes one statement that stands by itself and is no WRITE statement, or passes over one that isn't executable.
+pub fn item_whole(
     program: &Program,
-    name: &[u8],
-    subscripts: &Exprs,
-    expression: &Expr,
+    item: &Item,
     cells: &mut Whole,
-) -> Result<(), FaultKind>
+    turns: &mut u64,
+) -> Option<Fault>
     requires numbered { IsNumbered program.now }
-    requires held { Holds program.now.names.keys name.now }
-    requires fits { length (dimensions_in (arrays_in program.now name.now)) ≡ count (exprs_tree subscripts.now) }
+    requires known { IsKnown program.now (item_tree item.now) }
+    requires quiet { IsTrue (not (is_writing (shape_tree item.now.form.shape))) }
     requires sized { length cells.old ≡ cells_of (named_of_program program.now) }
-    ensures assigned { Assigns (arrays_in program.now) name.now (exprs_tree subscripts.now) (expr_tree expression.now) (map_in program.now cells.old) (map_in program.now cells.new) result }
+    ensures moves { Moves (λ go. step (flatten (tree_of program.now)) (shape_tree item.now.form.shape) item.now.line (map_in program.now cells.old) turns.old go) turns.old (map_in program.now cells.new) turns.new result }
     ensures len { length cells.new ≡ length cells.old }
 {
-    match assign(program, name, subscripts, expression, cells) {
+    match run_item(program, item, cells, turns) {
         Ok(outcome) => outcome,
         // A whole store refuses no write.
-        Err(_) => Ok(()),
+        Err(_) => None,
+    }
+}
+
+/// Executes a range without output once for each trip of its DO statement, whose variable has its first value.
+pub fn trips_whole(
+    program: &Program,
+    repeated: &Loop,
+    variable: &[u8],
+    span: Span,
+    cells: &mut Whole,
+    turns: &mut u64,
+) -> Option<Fault>
+    requires numbered { IsNumbered program.now }
+    requires named { AreKnown program.now (flat (members_tree (out-Loop repeated.now).range.items)) }
+    requires quiet { WritesNothing (members_tree (out-Loop repeated.now).range.items) }
+    requires held { Holds program.now.names.keys variable.now }
+    requires plain { length (dimensions_in (arrays_in program.now variable.now)) ≡ 0 }
+    requires sized { length cells.old ≡ cells_of (named_of_program program.now) }
+    requires some { span.step ≢ pos 0 }
+    ensures leaves { Leaves (fold_trips (exec (flatten (tree_of program.now))) (out-Loop repeated.now).head.line variable.now span.step (members_tree (out-Loop repeated.now).range.items) (trips span.first span.last span.step) (map_in program.now cells.old) turns.old) turns.old (map_in program.now cells.new) turns.new result }
+    ensures len { length cells.new ≡ length cells.old }
+{
+    match run_trips(program, repeated, variable, span, cells, turns) {
+        Ok(outcome) => outcome,
+        // A whole store refuses no write.
+        Err(_) => None,
     }
 }
 

@@ -5,7 +5,7 @@ use Rattle.std.proofs.lemmas.Int.{to_z-of_z}
 use Rattle.meaning.specs.declared.syntax.Member.{Loop}
 use Rattle.std.proofs.lemmas.Result.{err_from_is_err_and}
 use Rattle.meaning.specs.declared.syntax.Loop.{out-Loop}
-use Rattle.meaning.specs.Syntax.{shape_tree, limits_tree, doing}
+use Rattle.meaning.specs.Syntax.{shape_tree, limits_tree}
 use Rattle.meaning.specs.Trees.{flatten, members_tree}
 use Rattle.meaning.specs.Maps.{Map, put}
 use Rattle.meaning.specs.Execution.{Ran, exec, looped, goes_on, added, failed}
@@ -14,7 +14,8 @@ use Rattle.driver.specs.Cells.{arrays_in, map_in, IsKnown}
 use Rattle.driver.specs.Limited.{span_values}
 use Rattle.driver.specs.Walk.{Halts, Runs, SoFar, Steps, member_does}
 use Rattle.driver.proofs.Composed.{so_far_none, so_far_goes, step_fault, step_halts, over_at_end, fault_along, steps_on}
-use Rattle.driver.proofs.Looped.{known_at, head_known, range_known, loop_does, from_place, behind_place, at_place, at_end_of, trips_left, behind_range, at_trip, at_last_trip, do_unexecuted, do_fails, do_runs, add_fails, steps_same, steps_unless_do, assignment_goes, write_goes, format_goes, continue_goes, typing_goes, end_goes}
+use Rattle.driver.proofs.Executed.{runs_quietly}
+use Rattle.driver.proofs.Looped.{known_at, head_known, range_known, loop_does, from_place, behind_place, at_place, at_end_of, trips_left, behind_range, at_trip, at_last_trip, do_unexecuted, do_fails, do_runs, add_fails, steps_same, steps_unless_do}
 use denote.Param.Weighed.{at_most}
 use Rattle.meaning.proofs.syntax.Member.TheLaws.{the_size}
 use Rattle.meaning.specs.declared.syntax.Member.TheViews.{sized-Loop}
@@ -26,8 +27,18 @@ pub execute_do-returns-then-not-take_turn-clause-steps : goal.execute_do-returns
 execute_do-returns-then-not-take_turn-clause-steps g t c =
     λ label comma. do_unexecuted (arrays_in c.args.program.now) (exec (flatten (tree_of c.args.program.now))) label comma c.args.variable.now (limits_tree c.args.limits.now) (out-Loop c.args.repeated.now).head.line (members_tree (out-Loop c.args.repeated.now).range.items) (map_in c.args.program.now c.args.cells.now) c.args.turns.now (g.S.Sink.told c.args.sink.now) c.if-not-take_turn.ensures.0
 
-pub execute_do-returns-in-Ok-clause-steps : goal.execute_do-returns-in-Ok-clause-steps
-execute_do-returns-in-Ok-clause-steps g t c =
+pub execute_do-returns-then-is_quiet_list-clause-steps : goal.execute_do-returns-then-is_quiet_list-clause-steps
+execute_do-returns-then-is_quiet_list-clause-steps g t c =
+    let m = map_in c.args.program.now c.args.cells.now in
+    let told = g.S.Sink.told in
+    let fits : FitsSigned w32 c.in-Ok.span.first = search rules in
+    let first : map_in c.args.program.now c.set_whole.new.cells ≡ put m c.args.variable.now [] c.in-Ok.span.first = c.set_whole.ensures.set ∙ ap (λ x. put x c.args.variable.now [] (to_z w32 (of_z w32 c.in-Ok.span.first))) c.limits_whole.ensures.kept ∙ ap (λ x. put m c.args.variable.now [] x) (to_z-of_z w32 c.in-Ok.span.first fits) in
+    let y = c.trips_whole in
+    let runs = runs_quietly _ c.take_turn.new.turns (map_in c.args.program.now y.new.cells) y.new.turns y.result (told c.args.sink.now) y.ensures.leaves in
+    λ label comma. do_runs (arrays_in c.args.program.now) (exec (flatten (tree_of c.args.program.now))) label comma c.args.variable.now (limits_tree c.args.limits.now) (out-Loop c.args.repeated.now).head.line (members_tree (out-Loop c.args.repeated.now).range.items) m c.args.turns.now c.take_turn.new.turns c.if-not-take_turn.ensures (span_values c.in-Ok.span) (map_in c.args.program.now c.set_whole.new.cells) (map_in c.args.program.now y.new.cells) y.new.turns (Ok y.result) (told c.args.sink.now) (told c.args.sink.now) c.in-Ok.ensures.span.0 first runs
+
+pub execute_do-returns-else-is_quiet_list-clause-steps : goal.execute_do-returns-else-is_quiet_list-clause-steps
+execute_do-returns-else-is_quiet_list-clause-steps g t c =
     let m = map_in c.args.program.now c.args.cells.now in
     let told = g.S.Sink.told in
     let fits : FitsSigned w32 c.in-Ok.span.first = search rules in
@@ -91,50 +102,19 @@ execute_list-returns-clause-runs g t c =
 
 -- ---- what may be a DO statement
 
-pub execute_loop-returns-in-Do-clause-steps : goal.execute_loop-returns-in-Do-clause-steps
-execute_loop-returns-in-Do-clause-steps g t c =
+pub execute_loop-returns-in-Some-clause-steps : goal.execute_loop-returns-in-Some-clause-steps
+execute_loop-returns-in-Some-clause-steps g t c =
     let told = g.S.Sink.told in
     let rec = exec (flatten (tree_of c.args.program.now)) in
     let l = out-Loop c.args.repeated.now in
     let y = c.execute_do in
-    let shape : shape_tree l.head.form.shape ≡ doing c.in-Do.label.items c.in-Do.comma c.deref.result.now (limits_tree c.in-Do.limits) = ap shape_tree c.in-Do.is ∙ ap (λ v. doing c.in-Do.label.items c.in-Do.comma v (limits_tree c.in-Do.limits)) (sym c.deref.ensures.value) in
-    subst (λ s. Steps (λ go. looped (arrays_in c.args.program.now) rec s l.head.line (members_tree l.range.items) (map_in c.args.program.now c.args.cells.now) c.args.turns.now go) c.args.turns.now (map_in c.args.program.now y.new.cells) y.new.turns y.result (told c.args.sink.now) (told y.new.sink)) (sym shape) (y.ensures.steps c.in-Do.label.items c.in-Do.comma)
+    let d = c.in-Some.ensures in
+    subst (λ s. Steps (λ go. looped (arrays_in c.args.program.now) rec s l.head.line (members_tree l.range.items) (map_in c.args.program.now c.args.cells.now) c.args.turns.now go) c.args.turns.now (map_in c.args.program.now y.new.cells) y.new.turns y.result (told c.args.sink.now) (told y.new.sink)) (sym d.is) (y.ensures.steps d.label d.comma)
 
-pub execute_loop-returns-in-Assignment-clause-steps : goal.execute_loop-returns-in-Assignment-clause-steps
-execute_loop-returns-in-Assignment-clause-steps g t c =
-    let m = map_in c.args.program.now c.args.cells.now in
+pub execute_loop-returns-in-None-clause-steps : goal.execute_loop-returns-in-None-clause-steps
+execute_loop-returns-in-None-clause-steps g t c =
     let l = out-Loop c.args.repeated.now in
-    steps_unless_do (arrays_in c.args.program.now) (exec (flatten (tree_of c.args.program.now))) _ (shape_tree l.head.form.shape) l.head.line (members_tree l.range.items) m c.args.turns.now (g.S.Sink.told c.args.sink.now) (ap shape_tree c.in-Assignment.is) (λ go. assignment_goes _ _ _ (arrays_in c.args.program.now) (exec (flatten (tree_of c.args.program.now))) l.head.line (members_tree l.range.items) m c.args.turns.now go)
-
-pub execute_loop-returns-in-Write-clause-steps : goal.execute_loop-returns-in-Write-clause-steps
-execute_loop-returns-in-Write-clause-steps g t c =
-    let m = map_in c.args.program.now c.args.cells.now in
-    let l = out-Loop c.args.repeated.now in
-    steps_unless_do (arrays_in c.args.program.now) (exec (flatten (tree_of c.args.program.now))) _ (shape_tree l.head.form.shape) l.head.line (members_tree l.range.items) m c.args.turns.now (g.S.Sink.told c.args.sink.now) (ap shape_tree c.in-Write.is) (λ go. write_goes _ _ _ (arrays_in c.args.program.now) (exec (flatten (tree_of c.args.program.now))) l.head.line (members_tree l.range.items) m c.args.turns.now go)
-
-pub execute_loop-returns-in-Format-clause-steps : goal.execute_loop-returns-in-Format-clause-steps
-execute_loop-returns-in-Format-clause-steps g t c =
-    let m = map_in c.args.program.now c.args.cells.now in
-    let l = out-Loop c.args.repeated.now in
-    steps_unless_do (arrays_in c.args.program.now) (exec (flatten (tree_of c.args.program.now))) _ (shape_tree l.head.form.shape) l.head.line (members_tree l.range.items) m c.args.turns.now (g.S.Sink.told c.args.sink.now) (ap shape_tree c.in-Format.is) (λ go. format_goes _ (arrays_in c.args.program.now) (exec (flatten (tree_of c.args.program.now))) l.head.line (members_tree l.range.items) m c.args.turns.now go)
-
-pub execute_loop-returns-in-Continue-clause-steps : goal.execute_loop-returns-in-Continue-clause-steps
-execute_loop-returns-in-Continue-clause-steps g t c =
-    let m = map_in c.args.program.now c.args.cells.now in
-    let l = out-Loop c.args.repeated.now in
-    steps_unless_do (arrays_in c.args.program.now) (exec (flatten (tree_of c.args.program.now))) _ (shape_tree l.head.form.shape) l.head.line (members_tree l.range.items) m c.args.turns.now (g.S.Sink.told c.args.sink.now) (ap shape_tree c.in-Continue.is) (λ go. continue_goes (arrays_in c.args.program.now) (exec (flatten (tree_of c.args.program.now))) l.head.line (members_tree l.range.items) m c.args.turns.now go)
-
-pub execute_loop-returns-in-Integer-clause-steps : goal.execute_loop-returns-in-Integer-clause-steps
-execute_loop-returns-in-Integer-clause-steps g t c =
-    let m = map_in c.args.program.now c.args.cells.now in
-    let l = out-Loop c.args.repeated.now in
-    steps_unless_do (arrays_in c.args.program.now) (exec (flatten (tree_of c.args.program.now))) _ (shape_tree l.head.form.shape) l.head.line (members_tree l.range.items) m c.args.turns.now (g.S.Sink.told c.args.sink.now) (ap shape_tree c.in-Integer.is) (λ go. typing_goes _ (arrays_in c.args.program.now) (exec (flatten (tree_of c.args.program.now))) l.head.line (members_tree l.range.items) m c.args.turns.now go)
-
-pub execute_loop-returns-in-End-clause-steps : goal.execute_loop-returns-in-End-clause-steps
-execute_loop-returns-in-End-clause-steps g t c =
-    let m = map_in c.args.program.now c.args.cells.now in
-    let l = out-Loop c.args.repeated.now in
-    steps_unless_do (arrays_in c.args.program.now) (exec (flatten (tree_of c.args.program.now))) _ (shape_tree l.head.form.shape) l.head.line (members_tree l.range.items) m c.args.turns.now (g.S.Sink.told c.args.sink.now) (ap shape_tree c.in-End.is) (λ go. end_goes (arrays_in c.args.program.now) (exec (flatten (tree_of c.args.program.now))) l.head.line (members_tree l.range.items) m c.args.turns.now go)
+    steps_unless_do (arrays_in c.args.program.now) (exec (flatten (tree_of c.args.program.now))) (shape_tree l.head.form.shape) l.head.line (members_tree l.range.items) (map_in c.args.program.now c.args.cells.now) c.args.turns.now (g.S.Sink.told c.args.sink.now) c.in-None.ensures
 
 -- ---- members
 
@@ -217,7 +197,7 @@ execute_trips-returns-in-Err-clause-runs g t c =
     let steps = steps_on list c.loop.turns new c.execute_list.new.turns (Ok None) (told c.loop.sink) (told c.execute_list.new.sink) runs in
     let so_far = so_far_goes _ (trips_left rec l.head.line c.args.variable.now span.first span.last span.step range i m c.loop.turns) c.args.turns.now c.loop.turns (told c.args.sink.now) (told c.loop.sink) (told c.execute_list.new.sink) c.loop.invariant.so_far (λ go. goes_on list c.loop.turns go) behind new c.execute_list.new.turns at steps in
     let fits : FitsSigned w32 span.step = search rules in
-    let adds = subst (λ by. (on : Map → Ran) → added l.head.line c.args.variable.now by new on ≡ failed c.in-Err.kind l.head.line new) (to_z-of_z w32 span.step fits) (c.in-Err.ensures.adds l.head.line) in
+    let adds = subst (λ by. (on : Map → Ran) → added l.head.line c.args.variable.now by new on ≡ failed c.in-Err.kind l.head.line new) (to_z-of_z w32 span.step fits) (c.in-Err.ensures.adds l.head.line).1 in
     fault_along _ (behind new c.execute_list.new.turns) c.args.turns.now c.execute_list.new.turns (told c.args.sink.now) (told c.execute_list.new.sink) (told c.execute_list.new.sink) so_far (record { kind = c.in-Err.kind; line = l.head.line }) (add_fails l.head.line c.args.variable.now span.step new c.in-Err.kind (λ k. trips_left rec l.head.line c.args.variable.now span.first span.last span.step range (i + 1) k c.execute_list.new.turns) (told c.execute_list.new.sink) adds)
 
 pub execute_trips-loop-preserved : goal.execute_trips-loop-preserved

@@ -1,0 +1,32 @@
+use Rattle.std.proofs.Common.{◌+◌, refl, sym, ap, ◌∙◌, arith, drop}
+use Rattle.std.specs.Prelude.{◌&&◌}
+use Rattle.std.proofs.lemmas.List.{drop_all}
+use Rattle.meaning.specs.Trees.{none, member_before, members_tree}
+use Rattle.driver.specs.Quiet.{is_quiet}
+use Rattle.driver.proofs.Silent.{quiet_left, quiet_range_is}
+use Rattle.driver.proofs.shapes.+quiet.Goals as goal
+
+pub is_quiet_list-loop-member-init : goal.is_quiet_list-loop-member-init
+is_quiet_list-loop-member-init t c = record { left = refl }
+
+pub is_quiet_list-returns-then-not-is_quiet_member : goal.is_quiet_list-returns-then-not-is_quiet_member
+is_quiet_list-returns-then-not-is_quiet_member t c =
+    let ms = c.args.members.now in
+    let i = c.loop-member.member-index in
+    sym (c.loop-member.invariant.left ∙ quiet_left ms i c.member-item.result c.loop-member-test.true c.member-item.is ∙ ap (λ b. b && is_quiet (members_tree (drop (i + 1) ms))) (sym c.if-not-is_quiet_member.ensures))
+
+pub is_quiet_list-loop-member-preserved : goal.is_quiet_list-loop-member-preserved
+is_quiet_list-loop-member-preserved t c =
+    let ms = c.args.members.now in
+    let i = c.loop-member.member-index in
+    record {
+      left = c.loop-member.invariant.left ∙ quiet_left ms i c.member-item.result c.loop-member-test.true c.member-item.is ∙ ap (λ b. b && is_quiet (members_tree (drop (i + 1) ms))) (sym c.if-not-is_quiet_member.ensures);
+    }
+
+pub is_quiet_list-returns : goal.is_quiet_list-returns
+is_quiet_list-returns t c =
+    sym (c.loop-member.invariant.left ∙ ap (λ ms. is_quiet (members_tree ms)) (drop_all c.loop-member.member-index c.args.members.now (omega arith)))
+
+pub is_quiet_member-returns-in-Loop : goal.is_quiet_member-returns-in-Loop
+is_quiet_member-returns-in-Loop t c =
+    c.is_quiet_list.ensures ∙ ap (λ ms. is_quiet (members_tree ms)) c.deref.ensures.value ∙ sym (quiet_range_is c.in-Loop.repeated) ∙ ap (λ x. is_quiet (member_before x none)) (sym c.in-Loop.is)
