@@ -4,27 +4,13 @@ ghost use Rattle.std.specs.Prelude.{◌<◌, ◌^◌};
 ghost use Rattle.values.specs.Places.{limit};
 ghost use Rattle.checker.specs.Checked.{IsNumbered};
 
-use super::building::Says::{Ends, Sets, Stores, Types};
-use super::building::{Row, tree};
+use super::building::tree;
 use crate::{Program, check};
 use std::test::Fail;
 use values::{Numbering, Place};
 
 /// A variable and arrays that are declared, of which `L` isn't used, and two variables that aren't.
-const ROWS: [Row; 4] = [
-    (
-        1,
-        None,
-        Types(&[
-            (b"N", &[]),
-            (b"A", &[(b"", b"2"), (b"", b"3")]),
-            (b"L", &[(b"0", b"1"), (b"2", b"4")]),
-        ]),
-    ),
-    (2, None, Sets(b"I", b"N")),
-    (3, None, Stores(b"A", &[b"J", b"1"], b"I")),
-    (4, None, Ends),
-];
+const TEXT: &str = "@1 N, 2 : 3 : A, 0 1 : 2 4 : L, INTEGER @2 N I= @3 J 1 I A= @4 END";
 
 /// The number of the cell that a place leads to by subscripts.
 fn cell_behind(place: Place<'_>, subscripts: &[i32]) -> Option<usize>
@@ -65,7 +51,7 @@ const CELLS: [(&[u8], &[i32], usize); 13] = [
 
 #[test]
 fn cells(rt: HostRuntime) -> Result<(), Fail> {
-    let program = check(rt.alloc(), tree(&rt, rt.alloc(), &ROWS)?)?;
+    let program = check(rt.alloc(), tree(&rt, rt.alloc(), &[TEXT])?)?;
     for (name, subscripts, cell) in CELLS {
         let found = cell_of(&program, name, subscripts);
         assert_eq!(rt; found, Some(cell), "{name:?} {subscripts:?}");
@@ -90,7 +76,7 @@ const NONE: [(&[u8], &[i32]); 11] = [
 
 #[test]
 fn no_cells(rt: HostRuntime) -> Result<(), Fail> {
-    let program = check(rt.alloc(), tree(&rt, rt.alloc(), &ROWS)?)?;
+    let program = check(rt.alloc(), tree(&rt, rt.alloc(), &[TEXT])?)?;
     for (name, subscripts) in NONE {
         let found = cell_of(&program, name, subscripts);
         assert_eq!(rt; found, None, "{name:?} {subscripts:?}");
@@ -101,12 +87,12 @@ fn no_cells(rt: HostRuntime) -> Result<(), Fail> {
 /// Each of the cells starts with 0.
 #[test]
 fn starts(rt: HostRuntime) -> Result<(), Fail> {
-    let program = check(rt.alloc(), tree(&rt, rt.alloc(), &ROWS)?)?;
+    let program = check(rt.alloc(), tree(&rt, rt.alloc(), &[TEXT])?)?;
     assert_eq!(rt; program.starts.len(), 15);
     for start in &program.starts {
         assert_eq!(rt; *start, 0);
     }
-    let empty = check(rt.alloc(), tree(&rt, rt.alloc(), &[(1, None, Ends)])?)?;
+    let empty = check(rt.alloc(), tree(&rt, rt.alloc(), &["@1 END"])?)?;
     assert_eq!(rt; empty.starts.len(), 0);
     Ok(())
 }
