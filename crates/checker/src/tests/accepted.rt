@@ -1,9 +1,10 @@
 // Programs that keep the rules.
 
-use super::building::{has_names, tree};
-use crate::check;
+use super::building::checked;
+use super::{arrays, loops};
 use format_edit::Descriptor;
-use std::test::Fail;
+use std::alloc::Global;
+use std::process::Abort;
 
 /// Formats behind and before the statements that name them, labels with leading zeros, and the greatest constant.
 const ACCEPTED: [&str; 8] = [
@@ -32,38 +33,81 @@ const SEVEN: [Descriptor; 1] = [Descriptor::Field {
     width: 7,
 }];
 
-/// Labels, and the descriptors of their formats.
-const FORMATS: [(&[u8], &[Descriptor]); 5] = [
-    (b"10", &FIVE),
-    (b"010", &FIVE),
-    (b"00010", &FIVE),
-    (b"20", &SEVEN),
-    (b"1", &[]),
+/// `I5`
+const OF_LOOPS: [Descriptor; 1] = [Descriptor::Field {
+    repeat: 1,
+    width: 5,
+}];
+
+/// Programs, labels, and the descriptors of the formats that have them.
+const FORMATS: [(&[&str], &[u8], Option<&[Descriptor]>); 14] = [
+    (&ACCEPTED, b"10", Some(&FIVE)),
+    (&ACCEPTED, b"010", Some(&FIVE)),
+    (&ACCEPTED, b"00010", Some(&FIVE)),
+    (&ACCEPTED, b"20", Some(&SEVEN)),
+    (&ACCEPTED, b"1", Some(&[])),
+    (&ACCEPTED, b"30", None),
+    (&ACCEPTED, b"99999", None),
+    (&ACCEPTED, b"2", None),
+    (&ACCEPTED, b"100", None),
+    (&ACCEPTED, b"4294967306", None),
+    (&loops::ACCEPTED, b"10", Some(&OF_LOOPS)),
+    (&loops::ACCEPTED, b"50", None),
+    (&loops::ACCEPTED, b"52", None),
+    (&loops::ACCEPTED, b"55", None),
 ];
 
-/// Labels that no FORMAT statement has.
-const NO_FORMATS: [&[u8]; 5] = [b"30", b"99999", b"2", b"100", b"4294967306"];
-
-#[test]
-fn names_and_formats(rt: HostRuntime) -> Result<(), Fail> {
-    let program = check(rt.alloc(), tree(&rt, rt.alloc(), &ACCEPTED)?)?;
-    assert_eq!(rt; program.tree.body.len(), 8);
-    has_names(&rt, &program, &["NMAX", "I", "K", "J"]);
-    for (digits, want) in FORMATS {
-        let format = program.format(digits).expect(&rt, "a format");
-        assert_eq!(rt; format.descriptors.as_slice(), want, "{digits:?}");
+/// Compares the format that a label has.
+fn has_format(
+    rt: &impl Abort,
+    alloc: Global,
+    texts: &[&str],
+    digits: &[u8],
+    want: Option<&[Descriptor]>,
+) {
+    let program = checked(rt, alloc, texts);
+    match program.format(digits) {
+        Some(format) => { assert_eq!(rt; Some(format.descriptors.as_slice()), want, "{digits:?}") }
+        None => assert!(rt; want.is_none(), "{digits:?}"),
     }
-    for digits in NO_FORMATS {
-        assert!(rt; program.format(digits).is_none(), "{digits:?}");
-    }
-    Ok(())
 }
 
-/// `L=-(M*K)+(L-J)` gives the variables L, M, K and J.
 #[test]
-fn names_in_expressions(rt: HostRuntime) -> Result<(), Fail> {
-    let texts = ["@1 M K * neg L J - + L= @2 END"];
-    let program = check(rt.alloc(), tree(&rt, rt.alloc(), &texts)?)?;
-    has_names(&rt, &program, &["L", "M", "K", "J"]);
-    Ok(())
+fn formats(rt: HostRuntime) {
+    for (texts, digits, want) in FORMATS {
+        has_format(&rt, rt.alloc(), texts, digits, want);
+    }
+}
+
+/// Programs, how many members each has, and its variables and arrays in their order.
+const NAMES: [(&[&str], usize, &[&str]); 6] = [
+    (&ACCEPTED, 8, &["NMAX", "I", "K", "J"]),
+    (&loops::ACCEPTED, 6, &["I", "N", "L", "M", "J", "K"]),
+    (&loops::IN_PARENTHESES, 2, &["K", "N", "I"]),
+    (&[arrays::ACCEPTED], 6, &["X", "M", "L", "A", "J", "K"]),
+    // `L=-(M*K)+(L-J)`
+    (
+        &["@1 M K * neg L J - + L= @2 END"],
+        2,
+        &["L", "M", "K", "J"],
+    ),
+    // `I=-2147483647-1` has no constant that is too great.
+    (&["@1 2147483647 neg 1 - I= @2 END"], 2, &["I"]),
+];
+
+/// Compares the names of a program.
+fn has_names(rt: &impl Abort, alloc: Global, texts: &[&str], members: usize, wanted: &[&str]) {
+    let program = checked(rt, alloc, texts);
+    assert_eq!(rt; program.tree.body.len(), members, "{texts:?}");
+    assert_eq!(rt; program.names.len(), wanted.len(), "{texts:?}");
+    for (name, want) in program.names.iter().zip(wanted) {
+        assert_eq!(rt; name.as_slice(), want.as_bytes(), "{texts:?}");
+    }
+}
+
+#[test]
+fn names(rt: HostRuntime) {
+    for (texts, members, wanted) in NAMES {
+        has_names(&rt, rt.alloc(), texts, members, wanted);
+    }
 }

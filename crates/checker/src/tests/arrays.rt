@@ -1,12 +1,11 @@
 // Type statements, arrays and their elements.
 
-use super::building::{Refused, has_names, have_cells, refuses_all, tree};
-use crate::check;
+use super::bounds;
+use super::building::{Refused, checked};
 use meaning::refusal::Rule;
-use std::test::Fail;
 use values::Dimension;
 
-const REFUSED: [Refused; 34] = [
+pub const REFUSED: [Refused; 34] = [
     // A name that is REAL, declared nowhere or in another statement.
     ("@1 1 X/1 I= @9 END", Rule::K3, 1),
     ("@1 1 1 X= @9 END", Rule::K3, 1),
@@ -70,13 +69,8 @@ const REFUSED: [Refused; 34] = [
     ("@1 2 : 0 3 : M, INTEGER @2 M 1 I= @9 END", Rule::K8, 2),
 ];
 
-#[test]
-fn refused(rt: HostRuntime) {
-    refuses_all(&rt, rt.alloc(), &REFUSED).expect(&rt, "memory");
-}
-
 /// REAL names that are declared, an array that is never used, and one that is used before a variable.
-const ACCEPTED: &str =
+pub const ACCEPTED: &str =
     "@1 X, 2 : 0 3 : M, 5 : L, INTEGER @2 2 4 : A, INTEGER @3 2 X= @4 X J 7 M= @5 K A/1 X= @9 END";
 
 /// The names of that program, each with its first cell and its dimensions.
@@ -97,16 +91,13 @@ const STORED: [(&str, usize, &[Dimension]); 6] = [
 ];
 
 #[test]
-fn stored(rt: HostRuntime) -> Result<(), Fail> {
-    let program = check(rt.alloc(), tree(&rt, rt.alloc(), &[ACCEPTED])?)?;
-    assert_eq!(rt; program.starts.len(), 19);
-    has_names(&rt, &program, &["X", "M", "L", "A", "J", "K"]);
+fn stored(rt: HostRuntime) {
+    let program = checked(&rt, rt.alloc(), &[ACCEPTED]);
     assert_eq!(rt; program.storage.len(), STORED.len());
     for ((name, first, dimensions), storage) in STORED.iter().zip(&program.storage) {
         assert_eq!(rt; storage.first, *first, "{name}");
         assert_eq!(rt; storage.dimensions.as_slice(), *dimensions, "{name}");
     }
-    Ok(())
 }
 
 /// As many elements and dimensions as there may be, and how many cells they take.
@@ -121,6 +112,15 @@ const GREATEST: [(&str, usize); 4] = [
 ];
 
 #[test]
-fn greatest_arrays(rt: HostRuntime) -> Result<(), Fail> {
-    have_cells(&rt, rt.alloc(), &GREATEST)
+fn counts_of_cells(rt: HostRuntime) {
+    for table in [
+        GREATEST.as_slice(),
+        bounds::CONSTANTS.as_slice(),
+        [(ACCEPTED, 19), ("@1 END", 0)].as_slice(),
+    ] {
+        for (text, cells) in table {
+            let program = checked(&rt, rt.alloc(), [*text].as_slice());
+            assert_eq!(rt; program.starts.len(), *cells, "{text}");
+        }
+    }
 }

@@ -1,21 +1,15 @@
 // Bounds that are more than one constant.
 
-use super::building::{Refused, have_cells, refuses_all};
+use super::building::Refused;
 use meaning::refusal::Rule;
-use std::test::Fail;
 
 /// `I(2*3)` has 6 elements, and `I(-1:(1))` has 3.
-const CONSTANTS: [(&str, usize); 2] = [
+pub const CONSTANTS: [(&str, usize); 2] = [
     ("@3 2 3 * : I, INTEGER @4 END", 6),
     ("@3 1 neg 1 () : I, INTEGER @4 END", 3),
 ];
 
-#[test]
-fn constants(rt: HostRuntime) -> Result<(), Fail> {
-    have_cells(&rt, rt.alloc(), &CONSTANTS)
-}
-
-const REFUSED: [Refused; 6] = [
+pub const REFUSED: [Refused; 6] = [
     // A value outside INTEGER, at the end or on the way, above or below.
     ("@3 2147483647 1 + : I, INTEGER @4 END", Rule::K6, 3),
     (
@@ -34,8 +28,3 @@ const REFUSED: [Refused; 6] = [
         3,
     ),
 ];
-
-#[test]
-fn refused(rt: HostRuntime) {
-    refuses_all(&rt, rt.alloc(), &REFUSED).expect(&rt, "memory");
-}

@@ -3,6 +3,7 @@
 ghost use Rattle.std.specs.Prelude.{◌≤◌, length, map, option_map};
 ghost use Rattle.meaning.specs.Spelling.{spell, spell_behind, spell_bounds, spell_declarator, spell_expr, spell_exprs, spell_limits, spell_list, spell_lower, spell_more, spell_more_bounds, spell_more_declarators, spell_step, spell_unit};
 ghost use Rattle.meaning.specs.Syntax.{bounds_tree, declarator_tree, expr_tree, exprs_tree, exprs_trees, limits_tree, shape_tree, unit_tree};
+ghost use Rattle.checker.specs.Checked.{IsNumbered};
 
 use crate::{Program, check};
 use meaning::refusal::{Refusal, Rule};
@@ -13,7 +14,6 @@ use meaning::syntax::{
 use std::alloc::{AllocError, Global};
 use std::mem::replace;
 use std::process::Abort;
-use std::test::Fail;
 
 // At least the length of a spelling that has room in a statement.
 #[cycle(length)]
@@ -509,50 +509,27 @@ pub fn tree(rt: &impl Abort, alloc: Global, texts: &[&str]) -> Result<Tree, Allo
     Ok(Tree { body })
 }
 
+/// The program of texts, which break no rule.
+pub fn checked(rt: &impl Abort, alloc: Global, texts: &[&str]) -> Program
+    ensures { IsNumbered result }
+{
+    let unit = tree(rt, alloc, texts).expect(rt, "memory");
+    check(alloc, unit).expect(rt, "a program that keeps the rules")
+}
+
+/// Checks the program unit of texts, and compares the broken rule and its line that are told.
+pub fn refuses(rt: &impl Abort, alloc: Global, texts: &[&str], rule: Rule, line: u32) {
+    let unit = tree(rt, alloc, texts).expect(rt, "memory");
+    let refusal = check(alloc, unit).err();
+    assert_eq!(rt; refusal, Some(Refusal::Rule { rule, line }), "{texts:?}");
+}
+
 /// A program unit, and the broken rule and its line that are told.
 pub type Refused = (&'static str, Rule, u32);
 
-/// Checks the program unit of texts, and compares the broken rule and its line that are told.
-pub fn refuses(
-    rt: &impl Abort,
-    alloc: Global,
-    texts: &[&str],
-    rule: Rule,
-    line: u32,
-) -> Result<(), AllocError> {
-    let refusal = check(alloc, tree(rt, alloc, texts)?).err();
-    assert_eq!(rt; refusal, Some(Refusal::Rule { rule, line }), "{texts:?}");
-    Ok(())
-}
-
 /// Checks each of a table.
-pub fn refuses_all(rt: &impl Abort, alloc: Global, table: &[Refused]) -> Result<(), AllocError> {
+pub fn refuses_all(rt: &impl Abort, alloc: Global, table: &[Refused]) {
     for (text, rule, line) in table {
-        refuses(rt, alloc, [*text].as_slice(), *rule, *line)?;
-    }
-    Ok(())
-}
-
-/// Checks the program unit of texts, which breaks no rule.
-pub fn accepts(rt: &impl Abort, alloc: Global, texts: &[&str]) -> Result<(), AllocError> {
-    let refusal = check(alloc, tree(rt, alloc, texts)?).err();
-    assert_eq!(rt; refusal, None, "{texts:?}");
-    Ok(())
-}
-
-/// Program units that break no rule, and how many cells each has.
-pub fn have_cells(rt: &impl Abort, alloc: Global, table: &[(&str, usize)]) -> Result<(), Fail> {
-    for (text, cells) in table {
-        let program = check(alloc, tree(rt, alloc, [*text].as_slice())?)?;
-        assert_eq!(rt; program.starts.len(), *cells, "{text}");
-    }
-    Ok(())
-}
-
-/// Compares the names of a program, in their order.
-pub fn has_names(rt: &impl Abort, program: &Program, wanted: &[&str]) {
-    assert_eq!(rt; program.names.len(), wanted.len());
-    for (name, want) in program.names.iter().zip(wanted) {
-        assert_eq!(rt; name.as_slice(), want.as_bytes());
+        refuses(rt, alloc, [*text].as_slice(), *rule, *line);
     }
 }

@@ -1,11 +1,9 @@
 // Programs with DO statements.
 
-use super::building::{Refused, has_names, refuses_all, tree};
-use crate::check;
+use super::building::Refused;
 use meaning::refusal::Rule;
-use std::test::Fail;
 
-const REFUSED: [Refused; 28] = [
+pub const REFUSED: [Refused; 28] = [
     // An assignment in the range sets the variable: as its first statement, behind others and as the terminal one.
     (
         "@3 1 9 DO/I @4 1 I= @50 #50 CONTINUE ) @99 END",
@@ -137,14 +135,9 @@ const REFUSED: [Refused; 28] = [
     ),
 ];
 
-#[test]
-fn refused(rt: HostRuntime) {
-    refuses_all(&rt, rt.alloc(), &REFUSED).expect(&rt, "memory");
-}
-
 /// The variable of a DO is set before it and behind its range, also by a second DO, and stands in its own limits. The
 /// format of each WRITE statement stands in a range.
-const ACCEPTED: [&str; 6] = [
+pub const ACCEPTED: [&str; 6] = [
     "@1 1 I=",
     "@2 I N L DO/I @3 I M= @4 1 9 DO/J @5 #10 FORMAT/I5 @6 6 K WRITE/10 @50 #50 CONTINUE ) @51 I J= @52 #52 CONTINUE )",
     "@53 2 I=",
@@ -153,24 +146,5 @@ const ACCEPTED: [&str; 6] = [
     "@99 END",
 ];
 
-#[test]
-fn accepted(rt: HostRuntime) -> Result<(), Fail> {
-    let program = check(rt.alloc(), tree(&rt, rt.alloc(), &ACCEPTED)?)?;
-    assert_eq!(rt; program.tree.body.len(), 6);
-    has_names(&rt, &program, &["I", "N", "L", "M", "J", "K"]);
-    let format = program.format(b"10").ok_or("label 10")?;
-    assert_eq!(rt; format.descriptors.len(), 1);
-    for digits in [b"50".as_slice(), b"52", b"55"] {
-        assert!(rt; program.format(digits).is_none(), "{digits:?}");
-    }
-    Ok(())
-}
-
 /// `DO 50 K=1,(N*I)`: names in parentheses.
-#[test]
-fn parentheses(rt: HostRuntime) -> Result<(), Fail> {
-    let texts = ["@1 1 N I * () DO/K @2 #50 CONTINUE ) @3 END"];
-    let program = check(rt.alloc(), tree(&rt, rt.alloc(), &texts)?)?;
-    has_names(&rt, &program, &["K", "N", "I"]);
-    Ok(())
-}
+pub const IN_PARENTHESES: [&str; 1] = ["@1 1 N I * () DO/K @2 #50 CONTINUE ) @3 END"];

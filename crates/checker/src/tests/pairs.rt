@@ -1,6 +1,6 @@
 // Programs that break two rules.
 
-use super::building::refuses;
+use super::building::{Refused, refuses};
 use meaning::refusal::Rule;
 
 /// `INTEGER M(2,0:3)`
@@ -20,21 +20,15 @@ const BREAKING: [(&str, Rule); 8] = [
     ("1 J/1 I=", Rule::K13),
 ];
 
+/// Each alone, and before each: of two lines the least is told, whatever the rules.
 #[test]
-fn one(rt: HostRuntime) {
-    for (text, rule) in BREAKING {
-        let texts = [ARRAY, "@2", text, END];
-        refuses(&rt, rt.alloc(), &texts, rule, 2).expect(&rt, "memory");
-    }
-}
-
-/// Of two lines the least, whatever the rules.
-#[test]
-fn of_two_lines(rt: HostRuntime) {
+fn of_lines(rt: HostRuntime) {
     for (first, rule) in BREAKING {
+        let texts = [ARRAY, "@2", first, END];
+        refuses(&rt, rt.alloc(), &texts, rule, 2);
         for (second, _) in BREAKING {
             let texts = [ARRAY, "@2", first, "@3", second, END];
-            refuses(&rt, rt.alloc(), &texts, rule, 2).expect(&rt, "memory");
+            refuses(&rt, rt.alloc(), &texts, rule, 2);
         }
     }
 }
@@ -67,20 +61,20 @@ const OF_ONE_LINE: [(&str, Rule); 13] = [
 fn of_one_line(rt: HostRuntime) {
     for (text, rule) in OF_ONE_LINE {
         let texts = [ARRAY, "@2", text, END];
-        refuses(&rt, rt.alloc(), &texts, rule, 2).expect(&rt, "memory");
+        refuses(&rt, rt.alloc(), &texts, rule, 2);
     }
 }
 
 /// Statements in the range of a DO statement that set its variable, and break another rule.
-const OF_ONE_LINE_IN_A_RANGE: [(&str, Rule); 2] = [
-    ("@4 M I= @50 #50 CONTINUE", Rule::K8),
-    ("@4 1 J/1 I= @50 #50 CONTINUE", Rule::K9),
+pub const REFUSED: [Refused; 2] = [
+    (
+        "@1 2 : 0 3 : M, INTEGER @3 1 9 DO/I @4 M I= @50 #50 CONTINUE ) @99 END",
+        Rule::K8,
+        4,
+    ),
+    (
+        "@1 2 : 0 3 : M, INTEGER @3 1 9 DO/I @4 1 J/1 I= @50 #50 CONTINUE ) @99 END",
+        Rule::K9,
+        4,
+    ),
 ];
-
-#[test]
-fn of_one_line_in_a_range(rt: HostRuntime) {
-    for (range, rule) in OF_ONE_LINE_IN_A_RANGE {
-        let texts = [ARRAY, "@3 1 9 DO/I", range, ")", END];
-        refuses(&rt, rt.alloc(), &texts, rule, 4).expect(&rt, "memory");
-    }
-}

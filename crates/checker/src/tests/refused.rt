@@ -1,6 +1,7 @@
 // Programs that break a rule.
 
-use super::building::{Refused, accepts, refuses_all};
+use super::building::{Refused, refuses_all};
+use super::{arrays, bounds, loops, pairs};
 use meaning::refusal::Rule;
 
 const REFUSED: [Refused; 27] = [
@@ -72,12 +73,13 @@ const REFUSED: [Refused; 27] = [
 
 #[test]
 fn refused(rt: HostRuntime) {
-    refuses_all(&rt, rt.alloc(), &REFUSED).expect(&rt, "memory");
-}
-
-/// `-2147483647-1` has no constant that is too great.
-#[test]
-fn least_integer(rt: HostRuntime) {
-    let texts = ["@1 2147483647 neg 1 - I= @2 END"];
-    accepts(&rt, rt.alloc(), &texts).expect(&rt, "memory");
+    for table in [
+        REFUSED.as_slice(),
+        arrays::REFUSED.as_slice(),
+        bounds::REFUSED.as_slice(),
+        loops::REFUSED.as_slice(),
+        pairs::REFUSED.as_slice(),
+    ] {
+        refuses_all(&rt, rt.alloc(), table);
+    }
 }

@@ -1,6 +1,6 @@
 // Units of WRITE statements.
 
-use super::building::{accepts, refuses};
+use super::building::{checked, refuses};
 use meaning::refusal::Rule;
 
 /// What stands behind the unit: `WRITE(unit,10)I`, its format and END.
@@ -20,13 +20,6 @@ const OF_VALUE_SIX: [&str; 10] = [
     "",
 ];
 
-#[test]
-fn of_value_six(rt: HostRuntime) {
-    for unit in OF_VALUE_SIX {
-        accepts(&rt, rt.alloc(), &["@4", unit, BEHIND]).expect(&rt, "memory");
-    }
-}
-
 const OTHERS: [&str; 12] = [
     "5",
     "7",
@@ -45,9 +38,12 @@ const OTHERS: [&str; 12] = [
 ];
 
 #[test]
-fn others(rt: HostRuntime) {
+fn units(rt: HostRuntime) {
+    for unit in OF_VALUE_SIX {
+        let program = checked(&rt, rt.alloc(), &["@4", unit, BEHIND]);
+        assert_eq!(rt; program.names.len(), 1, "{unit}");
+    }
     for unit in OTHERS {
-        let texts = ["@4", unit, BEHIND];
-        refuses(&rt, rt.alloc(), &texts, Rule::K11, 4).expect(&rt, "memory");
+        refuses(&rt, rt.alloc(), &["@4", unit, BEHIND], Rule::K11, 4);
     }
 }
