@@ -1,4 +1,4 @@
-//! Values of expressions that are built by hand.
+//! Values of expressions that tables give in postfix notation.
 
 ghost use Rattle.std.specs.Prelude.{◌≡◌, ◌+◌, ◌<◌, ◌^◌, [], Some, None, codes, if◌then◌else◌, option_map};
 ghost use Rattle.std.specs.Str.{bytes_eq};
@@ -48,242 +48,247 @@ impl Numbering for Fake {
     }
 }
 
-/// The value over the cells, which stay as they are.
-fn evaluated(
+/// Takes an expression from the end of a stack.
+fn popped(rt: &impl Abort, stack: &mut Vec<Expr>) -> Expr {
+    stack.pop().expect(rt, "an operand is missing")
+}
+
+/// Takes a list of so many expressions from the end of a stack.
+fn popped_list(
     rt: &impl Abort,
     alloc: Global,
-    expression: &Expr,
-) -> Result<Result<Value, FaultKind>, AllocError> {
-    let mut store = Whole::new(alloc, &CELLS)?;
-    let found = value(expression, &Fake, &mut store);
-    assert!(rt; store.cells() == CELLS.as_slice(), "cells that stay");
-    Ok(found)
+    stack: &mut Vec<Expr>,
+    count: usize,
+) -> Result<Exprs, AllocError> {
+    let mut list = Exprs::Empty;
+    for _ in 0..count {
+        list = Exprs::More(popped(rt, stack), Box::new(alloc, list)?);
+    }
+    Ok(list)
 }
 
-/// The values of a list over the cells, which stay as they are.
-fn listed(
+fn signed(
     rt: &impl Abort,
     alloc: Global,
-    list: &Exprs,
-) -> Result<Result<Vec<Value>, FaultKind>, AllocError> {
+    stack: &mut Vec<Expr>,
+    sign: Sign,
+) -> Result<Expr, AllocError> {
+    Ok(Expr::Signed(sign, Box::new(alloc, popped(rt, stack))?))
+}
+
+fn binary(
+    rt: &impl Abort,
+    alloc: Global,
+    stack: &mut Vec<Expr>,
+    operator: Operator,
+) -> Result<Expr, AllocError> {
+    let right = Box::new(alloc, popped(rt, stack))?;
+    let left = Box::new(alloc, popped(rt, stack))?;
+    Ok(Expr::Binary(operator, left, right))
+}
+
+fn paren(rt: &impl Abort, alloc: Global, stack: &mut Vec<Expr>) -> Result<Expr, AllocError> {
+    Ok(Expr::Paren(Box::new(alloc, popped(rt, stack))?))
+}
+
+/// A constant, a variable, or an element, whose name has a slash and the number of its subscripts behind it.
+fn operand(
+    rt: &impl Abort,
+    alloc: Global,
+    stack: &mut Vec<Expr>,
+    word: &str,
+) -> Result<Expr, AllocError> {
+    if let Some((name, count)) = word.split_once('/') {
+        let count = count.parse::<usize>().expect(rt, "how many subscripts");
+        let own = Vec::from_slice(alloc, name.as_bytes())?;
+        let subscripts = popped_list(rt, alloc, stack, count)?;
+        return Ok(Expr::Element(own, Box::new(alloc, subscripts)?));
+    }
+    let own = Vec::from_slice(alloc, word.as_bytes())?;
+    match word.as_bytes().first() {
+        Some(first) if first.is_ascii_digit() => Ok(Expr::Number(own)),
+        _ => Ok(Expr::Name(own)),
+    }
+}
+
+/// What a word makes of the expressions at the end of a stack.
+fn made(
+    rt: &impl Abort,
+    alloc: Global,
+    stack: &mut Vec<Expr>,
+    word: &str,
+) -> Result<Expr, AllocError> {
+    match word {
+        "neg" => signed(rt, alloc, stack, Sign::Minus),
+        "pos" => signed(rt, alloc, stack, Sign::Plus),
+        "()" => paren(rt, alloc, stack),
+        "+" => binary(rt, alloc, stack, Operator::Add),
+        "-" => binary(rt, alloc, stack, Operator::Subtract),
+        "*" => binary(rt, alloc, stack, Operator::Multiply),
+        _ => operand(rt, alloc, stack, word),
+    }
+}
+
+/// Expressions in postfix notation, with blanks between the words: digits, names, operators, `neg` and `pos` for a sign, `()`
+/// for parentheses, and a name with its number of subscripts for an element: `2 0 A/2 1 +` is `A(2,0)+1`.
+fn stacked(rt: &impl Abort, alloc: Global, text: &str) -> Result<Vec<Expr>, AllocError> {
+    let mut stack = Vec::new(alloc);
+    for word in text.split_whitespace() {
+        let expression = made(rt, alloc, &mut stack, word)?;
+        stack.push(expression)?;
+    }
+    Ok(stack)
+}
+
+/// The one expression of a text in postfix notation.
+fn expression(rt: &impl Abort, alloc: Global, text: &str) -> Result<Expr, AllocError> {
+    let mut stack = stacked(rt, alloc, text)?;
+    let last = popped(rt, &mut stack);
+    assert!(rt; stack.is_empty(), "{text}: an operator is missing");
+    Ok(last)
+}
+
+/// The list of the expressions of a text in postfix notation.
+fn list(rt: &impl Abort, alloc: Global, text: &str) -> Result<Exprs, AllocError> {
+    let mut stack = stacked(rt, alloc, text)?;
+    let count = stack.len();
+    popped_list(rt, alloc, &mut stack, count)
+}
+
+/// A value or a fault.
+type Wanted = Result<i32, FaultKind>;
+
+/// Evaluates an expression over the cells, which stay as they are.
+fn evaluates(rt: &impl Abort, alloc: Global, text: &str, want: Wanted) -> Result<(), AllocError> {
+    let expression = expression(rt, alloc, text)?;
     let mut store = Whole::new(alloc, &CELLS)?;
-    let found = values(alloc, list, &Fake, &mut store)?;
-    assert!(rt; store.cells() == CELLS.as_slice(), "cells that stay");
-    Ok(found)
-}
-
-fn element(alloc: Global, name: &[u8], subscripts: Exprs) -> Result<Expr, AllocError> {
-    let own = Vec::from_slice(alloc, name)?;
-    Ok(Expr::Element(own, Box::new(alloc, subscripts)?))
-}
-
-fn two(alloc: Global, first: Expr, second: Expr) -> Result<Exprs, AllocError> {
-    let last = more(alloc, second, Exprs::Empty)?;
-    more(alloc, first, last)
-}
-
-/// Digits, behind a sign or not.
-fn constant(alloc: Global, text: &[u8]) -> Result<Expr, AllocError> {
-    match text.strip_prefix(b"-".as_slice()) {
-        Some(digits) => {
-            let operand = Expr::Number(Vec::from_slice(alloc, digits)?);
-            signed(alloc, Sign::Minus, operand)
-        }
-        None => Ok(Expr::Number(Vec::from_slice(alloc, text)?)),
-    }
-}
-
-fn variable(alloc: Global, name: &[u8]) -> Result<Expr, AllocError> {
-    Ok(Expr::Name(Vec::from_slice(alloc, name)?))
-}
-
-fn signed(alloc: Global, sign: Sign, operand: Expr) -> Result<Expr, AllocError> {
-    Ok(Expr::Signed(sign, Box::new(alloc, operand)?))
-}
-
-fn binary(alloc: Global, operator: Operator, left: Expr, right: Expr) -> Result<Expr, AllocError> {
-    let left = Box::new(alloc, left)?;
-    Ok(Expr::Binary(operator, left, Box::new(alloc, right)?))
-}
-
-fn paren(alloc: Global, operand: Expr) -> Result<Expr, AllocError> {
-    Ok(Expr::Paren(Box::new(alloc, operand)?))
-}
-
-/// `-2147483647-1`
-fn least(alloc: Global) -> Result<Expr, AllocError> {
-    let minus = constant(alloc, b"-2147483647")?;
-    binary(alloc, Operator::Subtract, minus, constant(alloc, b"1")?)
-}
-
-fn more(alloc: Global, first: Expr, rest: Exprs) -> Result<Exprs, AllocError> {
-    Ok(Exprs::More(first, Box::new(alloc, rest)?))
-}
-
-/// An element of A by two constants.
-fn element_at(alloc: Global, first: &[u8], second: &[u8]) -> Result<Expr, AllocError> {
-    let subscripts = two(alloc, constant(alloc, first)?, constant(alloc, second)?)?;
-    element(alloc, b"A", subscripts)
-}
-
-/// Digits and the value of the constant.
-const CONSTANTS: [(&[u8], Result<i32, FaultKind>); 8] = [
-    (b"0", Ok(0)),
-    (b"000", Ok(0)),
-    (b"0010", Ok(10)),
-    (b"2147483647", Ok(2_147_483_647)),
-    (b"00000000002147483647", Ok(2_147_483_647)),
-    (b"2147483648", Err(FaultKind::F2)),
-    (b"4294967297", Err(FaultKind::F2)),
-    (b"123456789012345678901234567890", Err(FaultKind::F2)),
-];
-
-#[test]
-fn constants(rt: HostRuntime) -> Result<(), Fail> {
-    let alloc = rt.alloc();
-    for (digits, want) in CONSTANTS {
-        let expression = constant(alloc, digits)?;
-        let want = want.map(Value::Int);
-        assert_eq!(rt; evaluated(&rt, alloc, &expression)?, want, "{digits:?}");
-        assert_eq!(rt; constant_value(&expression), want, "{digits:?}");
-    }
-    Ok(())
-}
-
-/// An operator, its operands and the value.
-const OPERATIONS: [(Operator, &[u8], &[u8], Result<i32, FaultKind>); 11] = [
-    (Operator::Add, b"7", b"35", Ok(42)),
-    (Operator::Add, b"2147483646", b"1", Ok(2_147_483_647)),
-    (Operator::Add, b"2147483647", b"1", Err(FaultKind::F2)),
-    (Operator::Add, b"-2147483647", b"-2", Err(FaultKind::F2)),
-    (Operator::Subtract, b"3", b"5", Ok(-2)),
-    (Operator::Subtract, b"0", b"2147483647", Ok(-2_147_483_647)),
-    (Operator::Multiply, b"6", b"7", Ok(42)),
-    (Operator::Multiply, b"65536", b"32767", Ok(2_147_418_112)),
-    (Operator::Multiply, b"65536", b"32768", Err(FaultKind::F2)),
-    (Operator::Multiply, b"65536", b"65536", Err(FaultKind::F2)),
-    (Operator::Multiply, b"-65536", b"32769", Err(FaultKind::F2)),
-];
-
-#[test]
-fn operations(rt: HostRuntime) -> Result<(), Fail> {
-    let alloc = rt.alloc();
-    for (operator, left, right, want) in OPERATIONS {
-        let both = binary(
-            alloc,
-            operator,
-            constant(alloc, left)?,
-            constant(alloc, right)?,
-        )?;
-        let want = want.map(Value::Int);
-        assert_eq!(rt;
-            evaluated(&rt, alloc, &both)?,
-            want,
-            "{left:?} {operator:?} {right:?}"
-        );
-        assert_eq!(rt;
-            constant_value(&both),
-            want,
-            "{left:?} {operator:?} {right:?}"
-        );
-    }
-    Ok(())
-}
-
-#[test]
-fn least_integer(rt: HostRuntime) -> Result<(), Fail> {
-    let alloc = rt.alloc();
-    let least_value = Ok(Value::Int(-2_147_483_648));
-    assert_eq!(rt; evaluated(&rt, alloc, &least(alloc)?)?, least_value);
-    let with_plus = signed(alloc, Sign::Plus, least(alloc)?)?;
-    assert_eq!(rt; evaluated(&rt, alloc, &with_plus)?, least_value);
-    let with_minus = signed(alloc, Sign::Minus, least(alloc)?)?;
-    assert_eq!(rt; evaluated(&rt, alloc, &with_minus)?, Err(FaultKind::F2));
-    let one_less = binary(
-        alloc,
-        Operator::Subtract,
-        least(alloc)?,
-        constant(alloc, b"1")?,
-    )?;
-    assert_eq!(rt; evaluated(&rt, alloc, &one_less)?, Err(FaultKind::F2));
-    let opposite = binary(
-        alloc,
-        Operator::Multiply,
-        least(alloc)?,
-        constant(alloc, b"-1")?,
-    )?;
-    assert_eq!(rt; evaluated(&rt, alloc, &opposite)?, Err(FaultKind::F2));
-    Ok(())
-}
-
-/// `(7)`, `3*(2+5)` and `((2147483648))`
-#[test]
-fn parentheses(rt: HostRuntime) -> Result<(), Fail> {
-    let alloc = rt.alloc();
-    let seven = paren(alloc, constant(alloc, b"7")?)?;
-    assert_eq!(rt; evaluated(&rt, alloc, &seven)?, Ok(Value::Int(7)));
-    let sum = binary(
-        alloc,
-        Operator::Add,
-        constant(alloc, b"2")?,
-        constant(alloc, b"5")?,
-    )?;
-    let factor = paren(alloc, sum)?;
-    let product = binary(alloc, Operator::Multiply, constant(alloc, b"3")?, factor)?;
-    assert_eq!(rt; evaluated(&rt, alloc, &product)?, Ok(Value::Int(21)));
-    let inner = paren(alloc, constant(alloc, b"2147483648")?)?;
-    assert_eq!(rt;
-        evaluated(&rt, alloc, &paren(alloc, inner)?)?,
-        Err(FaultKind::F2)
+    let found = value(&expression, &Fake, &mut store);
+    assert_eq!(rt; found, want.map(Value::Int), "{text}");
+    assert!(rt;
+        store.cells() == CELLS.as_slice(),
+        "cells that stay: {text}"
     );
     Ok(())
 }
 
-/// A fault on one side, whatever stands on the other.
-#[test]
-fn faults_of_operands(rt: HostRuntime) -> Result<(), Fail> {
-    let alloc = rt.alloc();
-    for (left, right) in [
-        (b"2147483648", b"0000000000"),
-        (b"0000000000", b"2147483648"),
-    ] {
-        let product = binary(
-            alloc,
-            Operator::Multiply,
-            constant(alloc, left)?,
-            constant(alloc, right)?,
-        )?;
-        assert_eq!(rt; evaluated(&rt, alloc, &product)?, Err(FaultKind::F2));
-    }
-    Ok(())
-}
+/// Expressions, and the value or the leftmost fault.
+const EXPRESSIONS: [(&str, Wanted); 39] = [
+    // The least INTEGER, -2147483647-1.
+    ("2147483647 neg 1 -", Ok(-2_147_483_648)),
+    ("2147483647 neg 1 - pos", Ok(-2_147_483_648)),
+    ("2147483647 neg 1 - neg", Err(FaultKind::F2)),
+    ("2147483647 neg 1 - 1 -", Err(FaultKind::F2)),
+    ("2147483647 neg 1 - 1 neg *", Err(FaultKind::F2)),
+    // Parentheses.
+    ("7 ()", Ok(7)),
+    ("3 2 5 + () *", Ok(21)),
+    ("2147483648 () ()", Err(FaultKind::F2)),
+    // A fault on one side, whatever stands on the other.
+    ("2147483648 0000000000 *", Err(FaultKind::F2)),
+    ("0000000000 2147483648 *", Err(FaultKind::F2)),
+    // Names.
+    ("I", Ok(7)),
+    ("J", Ok(-3)),
+    ("I neg", Ok(-7)),
+    ("I J -", Ok(10)),
+    // Elements.
+    ("2 0 A/2", Ok(3)),
+    ("3 0 A/2", Ok(20)),
+    ("4 0 A/2", Ok(30)),
+    ("2 1 A/2", Ok(40)),
+    ("3 1 A/2", Ok(50)),
+    ("4 1 A/2", Ok(60)),
+    ("1 0 A/2", Err(FaultKind::F3)),
+    ("5 0 A/2", Err(FaultKind::F3)),
+    ("3 1 neg A/2", Err(FaultKind::F3)),
+    ("3 2 A/2", Err(FaultKind::F3)),
+    ("2147483647 neg 0 A/2", Err(FaultKind::F3)),
+    ("2147483647 0 A/2", Err(FaultKind::F3)),
+    ("2 2147483647 neg A/2", Err(FaultKind::F3)),
+    ("2 2147483647 A/2", Err(FaultKind::F3)),
+    // The leftmost fault.
+    ("2147483648 2 A/2", Err(FaultKind::F2)),
+    ("5 2147483648 A/2", Err(FaultKind::F3)),
+    ("4 2147483648 A/2", Err(FaultKind::F2)),
+    ("3 2 A/2 0 A/2 2147483648 +", Err(FaultKind::F3)),
+    ("2147483648 1 0 A/2 +", Err(FaultKind::F2)),
+    // Subscripts that are elements and sums: A(A(2,0),1) and A(A(2,0),J+3).
+    ("2 0 A/2 1 A/2", Ok(50)),
+    ("2 0 A/2 J 3 + A/2", Ok(20)),
+    // Too many subscripts, or too few, lead to no cell: the value is 0.
+    ("1 9 J/2", Ok(0)),
+    ("2 0 9 A/3", Ok(0)),
+    ("2 A/1", Ok(0)),
+    ("A", Ok(0)),
+];
 
 #[test]
-fn names(rt: HostRuntime) -> Result<(), Fail> {
-    let alloc = rt.alloc();
-    let first = variable(alloc, b"I")?;
-    let second = variable(alloc, b"J")?;
-    assert_eq!(rt; evaluated(&rt, alloc, &first)?, Ok(Value::Int(7)));
-    assert_eq!(rt; evaluated(&rt, alloc, &second)?, Ok(Value::Int(-3)));
-    let opposite = signed(alloc, Sign::Minus, variable(alloc, b"I")?)?;
-    assert_eq!(rt; evaluated(&rt, alloc, &opposite)?, Ok(Value::Int(-7)));
-    let difference = binary(alloc, Operator::Subtract, first, second)?;
-    assert_eq!(rt; evaluated(&rt, alloc, &difference)?, Ok(Value::Int(10)));
-    Ok(())
+fn expressions(rt: HostRuntime) {
+    for (text, want) in EXPRESSIONS {
+        evaluates(&rt, rt.alloc(), text, want).expect(&rt, "memory");
+    }
 }
+
+/// Expressions without names, and the value or the fault.
+const CONSTANT_EXPRESSIONS: [(&str, Wanted); 19] = [
+    // Digits.
+    ("0", Ok(0)),
+    ("000", Ok(0)),
+    ("0010", Ok(10)),
+    ("2147483647", Ok(2_147_483_647)),
+    ("00000000002147483647", Ok(2_147_483_647)),
+    ("2147483648", Err(FaultKind::F2)),
+    ("4294967297", Err(FaultKind::F2)),
+    ("123456789012345678901234567890", Err(FaultKind::F2)),
+    // Operators.
+    ("7 35 +", Ok(42)),
+    ("2147483646 1 +", Ok(2_147_483_647)),
+    ("2147483647 1 +", Err(FaultKind::F2)),
+    ("2147483647 neg 2 neg +", Err(FaultKind::F2)),
+    ("3 5 -", Ok(-2)),
+    ("0 2147483647 -", Ok(-2_147_483_647)),
+    ("6 7 *", Ok(42)),
+    ("65536 32767 *", Ok(2_147_418_112)),
+    ("65536 32768 *", Err(FaultKind::F2)),
+    ("65536 65536 *", Err(FaultKind::F2)),
+    ("65536 neg 32769 *", Err(FaultKind::F2)),
+];
 
 /// Where names have no cells, a name and an element are 0.
+const NAMELESS: [(&str, Wanted); 3] = [
+    ("I", Ok(0)),
+    ("9 9 A/2", Ok(0)),
+    ("9 2147483648 A/2", Err(FaultKind::F2)),
+];
+
+/// Evaluates an expression where names have no cells.
+fn evaluates_nameless(
+    rt: &impl Abort,
+    alloc: Global,
+    text: &str,
+    want: Wanted,
+) -> Result<(), AllocError> {
+    let found = constant_value(&expression(rt, alloc, text)?);
+    assert_eq!(rt; found, want.map(Value::Int), "{text}");
+    Ok(())
+}
+
+#[test]
+fn constant_expressions(rt: HostRuntime) {
+    for (text, want) in CONSTANT_EXPRESSIONS {
+        evaluates(&rt, rt.alloc(), text, want).expect(&rt, "memory");
+        evaluates_nameless(&rt, rt.alloc(), text, want).expect(&rt, "memory");
+    }
+}
+
 #[test]
 fn no_names(rt: HostRuntime) -> Result<(), Fail> {
-    let alloc = rt.alloc();
-    let mut store = Whole::new(alloc, &[5])?;
-    let name = variable(alloc, b"I")?;
+    for (text, want) in NAMELESS {
+        evaluates_nameless(&rt, rt.alloc(), text, want)?;
+    }
+    let mut store = Whole::new(rt.alloc(), &[5])?;
+    let name = expression(&rt, rt.alloc(), "I")?;
     assert_eq!(rt; value(&name, &Nameless, &mut store), Ok(Value::Int(0)));
-    assert_eq!(rt; constant_value(&name), Ok(Value::Int(0)));
-    let far = element_at(alloc, b"9", b"9")?;
-    assert_eq!(rt; constant_value(&far), Ok(Value::Int(0)));
-    let fault = element_at(alloc, b"9", b"2147483648")?;
-    assert_eq!(rt; constant_value(&fault), Err(FaultKind::F2));
     assert_eq!(rt; Nameless.find(b"I").cell(), None);
     Ok(())
 }
@@ -295,152 +300,49 @@ fn logical_operands(rt: HostRuntime) {
     assert_eq!(rt; as_integer(Value::Int(-5)), -5);
 }
 
-#[test]
-fn lists(rt: HostRuntime) -> Result<(), Fail> {
-    let alloc = rt.alloc();
-    let none = listed(&rt, alloc, &Exprs::Empty)??;
-    assert_eq!(rt; none.len(), 0);
-    let last = two(
-        alloc,
-        constant(alloc, b"20")?,
-        element_at(alloc, b"4", b"1")?,
-    )?;
-    let three = more(alloc, variable(alloc, b"J")?, last)?;
-    let four = more(alloc, variable(alloc, b"I")?, three)?;
-    let found = listed(&rt, alloc, &four)??;
-    let want = [
-        Value::Int(7),
-        Value::Int(-3),
-        Value::Int(20),
-        Value::Int(60),
-    ];
-    assert_eq!(rt; found.as_slice(), want.as_slice());
-    Ok(())
-}
-
-/// The fault of the first that has one.
-#[test]
-fn faults_in_a_list(rt: HostRuntime) -> Result<(), Fail> {
-    let alloc = rt.alloc();
-    let last = two(
-        alloc,
-        constant(alloc, b"2147483648")?,
-        element_at(alloc, b"5", b"1")?,
-    )?;
-    let list = more(alloc, constant(alloc, b"10")?, last)?;
-    assert_eq!(rt; listed(&rt, alloc, &list)?.err(), Some(FaultKind::F2));
-    let last = two(
-        alloc,
-        element_at(alloc, b"5", b"1")?,
-        constant(alloc, b"2147483648")?,
-    )?;
-    let list = more(alloc, constant(alloc, b"10")?, last)?;
-    assert_eq!(rt; listed(&rt, alloc, &list)?.err(), Some(FaultKind::F3));
-    Ok(())
-}
-
-/// The subscripts of A, and the value.
-const ELEMENTS: [(&[u8], &[u8], Result<i32, FaultKind>); 17] = [
-    (b"2", b"0", Ok(3)),
-    (b"3", b"0", Ok(20)),
-    (b"4", b"0", Ok(30)),
-    (b"2", b"1", Ok(40)),
-    (b"3", b"1", Ok(50)),
-    (b"4", b"1", Ok(60)),
-    (b"1", b"0", Err(FaultKind::F3)),
-    (b"5", b"0", Err(FaultKind::F3)),
-    (b"3", b"-1", Err(FaultKind::F3)),
-    (b"3", b"2", Err(FaultKind::F3)),
-    (b"-2147483647", b"0", Err(FaultKind::F3)),
-    (b"2147483647", b"0", Err(FaultKind::F3)),
-    (b"2", b"-2147483647", Err(FaultKind::F3)),
-    (b"2", b"2147483647", Err(FaultKind::F3)),
-    // The leftmost fault.
-    (b"2147483648", b"2", Err(FaultKind::F2)),
-    (b"5", b"2147483648", Err(FaultKind::F3)),
-    (b"4", b"2147483648", Err(FaultKind::F2)),
+/// Lists, and the values or the fault of the first that has one.
+const LISTS: [(&str, Result<&[Value], FaultKind>); 4] = [
+    ("", Ok(&[])),
+    (
+        "I J 20 4 1 A/2",
+        Ok(&[
+            Value::Int(7),
+            Value::Int(-3),
+            Value::Int(20),
+            Value::Int(60),
+        ]),
+    ),
+    ("10 2147483648 5 1 A/2", Err(FaultKind::F2)),
+    ("10 5 1 A/2 2147483648", Err(FaultKind::F3)),
 ];
 
+/// Evaluates a list over the cells, which stay as they are.
+fn lists_values(
+    rt: &impl Abort,
+    alloc: Global,
+    text: &str,
+    want: Result<&[Value], FaultKind>,
+) -> Result<(), AllocError> {
+    let list = list(rt, alloc, text)?;
+    let mut store = Whole::new(alloc, &CELLS)?;
+    let found = values(alloc, &list, &Fake, &mut store)?;
+    assert_eq!(rt; found.as_ref().err().copied(), want.err(), "{text}");
+    assert!(rt;
+        found.as_ref().ok().map(|all| all.as_slice()) == want.ok(),
+        "{text}"
+    );
+    assert!(rt;
+        store.cells() == CELLS.as_slice(),
+        "cells that stay: {text}"
+    );
+    Ok(())
+}
+
 #[test]
-fn elements(rt: HostRuntime) -> Result<(), Fail> {
-    let alloc = rt.alloc();
-    for (first, second, want) in ELEMENTS {
-        let found = evaluated(&rt, alloc, &element_at(alloc, first, second)?)?;
-        assert_eq!(rt; found, want.map(Value::Int), "A({first:?},{second:?})");
+fn lists(rt: HostRuntime) {
+    for (text, want) in LISTS {
+        lists_values(&rt, rt.alloc(), text, want).expect(&rt, "memory");
     }
-    Ok(())
-}
-
-/// `A(A(2,0),1)` and `A(A(2,0),J+3)`: subscripts that are elements and sums.
-#[test]
-fn nested_subscripts(rt: HostRuntime) -> Result<(), Fail> {
-    let alloc = rt.alloc();
-    let outer = two(
-        alloc,
-        element_at(alloc, b"2", b"0")?,
-        constant(alloc, b"1")?,
-    )?;
-    assert_eq!(rt;
-        evaluated(&rt, alloc, &element(alloc, b"A", outer)?)?,
-        Ok(Value::Int(50))
-    );
-    let sum = binary(
-        alloc,
-        Operator::Add,
-        variable(alloc, b"J")?,
-        constant(alloc, b"3")?,
-    )?;
-    let outer = two(alloc, element_at(alloc, b"2", b"0")?, sum)?;
-    assert_eq!(rt;
-        evaluated(&rt, alloc, &element(alloc, b"A", outer)?)?,
-        Ok(Value::Int(20))
-    );
-    Ok(())
-}
-
-/// `A(A(3,2),0)+2147483648` and `2147483648+A(1,0)`: the fault on the left is told.
-#[test]
-fn leftmost_faults(rt: HostRuntime) -> Result<(), Fail> {
-    let alloc = rt.alloc();
-    let outer = two(
-        alloc,
-        element_at(alloc, b"3", b"2")?,
-        constant(alloc, b"0")?,
-    )?;
-    let great = constant(alloc, b"2147483648")?;
-    let sum = binary(alloc, Operator::Add, element(alloc, b"A", outer)?, great)?;
-    assert_eq!(rt; evaluated(&rt, alloc, &sum)?, Err(FaultKind::F3));
-    let great = constant(alloc, b"2147483648")?;
-    let sum = binary(alloc, Operator::Add, great, element_at(alloc, b"1", b"0")?)?;
-    assert_eq!(rt; evaluated(&rt, alloc, &sum)?, Err(FaultKind::F2));
-    Ok(())
-}
-
-/// Too many subscripts, or too few, lead to no cell: the value is 0.
-#[test]
-fn other_counts_of_subscripts(rt: HostRuntime) -> Result<(), Fail> {
-    let alloc = rt.alloc();
-    let pair = two(alloc, constant(alloc, b"1")?, constant(alloc, b"9")?)?;
-    assert_eq!(rt;
-        evaluated(&rt, alloc, &element(alloc, b"J", pair)?)?,
-        Ok(Value::Int(0))
-    );
-    let pair = two(alloc, constant(alloc, b"0")?, constant(alloc, b"9")?)?;
-    let three = more(alloc, constant(alloc, b"2")?, pair)?;
-    assert_eq!(rt;
-        evaluated(&rt, alloc, &element(alloc, b"A", three)?)?,
-        Ok(Value::Int(0))
-    );
-    let one = more(alloc, constant(alloc, b"2")?, Exprs::Empty)?;
-    assert_eq!(rt;
-        evaluated(&rt, alloc, &element(alloc, b"A", one)?)?,
-        Ok(Value::Int(0))
-    );
-    assert_eq!(rt;
-        evaluated(&rt, alloc, &variable(alloc, b"A")?)?,
-        Ok(Value::Int(0))
-    );
-    Ok(())
 }
 
 /// The cell behind two subscripts that are within their bounds, where there is one.
@@ -543,57 +445,50 @@ fn assign<N: Numbering, S: Store>(
     Ok(Ok(()))
 }
 
+/// A name, its subscripts, the expression that is assigned, and the fault that comes.
+type Assignment = (
+    &'static [u8],
+    &'static str,
+    &'static str,
+    Result<(), FaultKind>,
+);
+
 /// `A(3,1)=A(2,0)+I`, `J=A(3,1)*2` and `A(A(2,0),0)=J`.
-#[test]
-fn assignments(rt: HostRuntime) -> Result<(), Fail> {
-    let alloc = rt.alloc();
+const ASSIGNMENTS: [Assignment; 3] = [
+    (b"A", "3 1", "2 0 A/2 I +", Ok(())),
+    (b"J", "", "3 1 A/2 2 *", Ok(())),
+    (b"A", "2 0 A/2 0", "J", Ok(())),
+];
+
+/// `A(3,1)=2147483648` and `A(3,2)=2147483648`.
+const FAULTY_ASSIGNMENTS: [Assignment; 2] = [
+    (b"A", "3 1", "2147483648", Err(FaultKind::F2)),
+    (b"A", "3 2", "2147483648", Err(FaultKind::F3)),
+];
+
+/// Assigns one after another, over the cells, and compares what they are then.
+fn assigns(
+    rt: &impl Abort,
+    alloc: Global,
+    rows: &[Assignment],
+    cells: &[i32],
+) -> Result<(), AllocError> {
     let mut store = Whole::new(alloc, &CELLS)?;
-    let at = two(alloc, constant(alloc, b"3")?, constant(alloc, b"1")?)?;
-    let sum = binary(
-        alloc,
-        Operator::Add,
-        element_at(alloc, b"2", b"0")?,
-        variable(alloc, b"I")?,
-    )?;
-    assert_eq!(rt; assign(&Fake, &mut store, b"A", &at, &sum)?, Ok(()));
-    let twice = binary(
-        alloc,
-        Operator::Multiply,
-        element_at(alloc, b"3", b"1")?,
-        constant(alloc, b"2")?,
-    )?;
-    assert_eq!(rt;
-        assign(&Fake, &mut store, b"J", &Exprs::Empty, &twice)?,
-        Ok(())
-    );
-    let inner = two(
-        alloc,
-        element_at(alloc, b"2", b"0")?,
-        constant(alloc, b"0")?,
-    )?;
-    let other = variable(alloc, b"J")?;
-    assert_eq!(rt; assign(&Fake, &mut store, b"A", &inner, &other)?, Ok(()));
-    let want = [7, 20, 3, 20, 30, 40, 10, 60];
-    assert!(rt; store.cells() == want.as_slice());
+    for (name, subscripts, text, want) in rows {
+        assert!(rt; store.cells().len() == 8, "as many cells as before");
+        let subscripts = list(rt, alloc, subscripts)?;
+        let expression = expression(rt, alloc, text)?;
+        let found = assign(&Fake, &mut store, name, &subscripts, &expression)?;
+        assert_eq!(rt; found, *want, "{text}");
+    }
+    assert!(rt; store.cells() == cells, "cells after assignments");
     Ok(())
 }
 
-/// `A(3,1)=2147483648` and `A(3,2)=2147483648`: the cells stay.
 #[test]
-fn assignments_that_fault(rt: HostRuntime) -> Result<(), Fail> {
-    let alloc = rt.alloc();
-    let mut store = Whole::new(alloc, &CELLS)?;
-    let at = two(alloc, constant(alloc, b"3")?, constant(alloc, b"1")?)?;
-    let great = constant(alloc, b"2147483648")?;
-    assert_eq!(rt;
-        assign(&Fake, &mut store, b"A", &at, &great)?,
-        Err(FaultKind::F2)
-    );
-    let outside = two(alloc, constant(alloc, b"3")?, constant(alloc, b"2")?)?;
-    assert_eq!(rt;
-        assign(&Fake, &mut store, b"A", &outside, &great)?,
-        Err(FaultKind::F3)
-    );
-    assert!(rt; store.cells() == CELLS.as_slice(), "cells after faults");
+fn assignments(rt: HostRuntime) -> Result<(), Fail> {
+    let behind = [7, 20, 3, 20, 30, 40, 10, 60];
+    assigns(&rt, rt.alloc(), &ASSIGNMENTS, &behind)?;
+    assigns(&rt, rt.alloc(), &FAULTY_ASSIGNMENTS, &CELLS)?;
     Ok(())
 }

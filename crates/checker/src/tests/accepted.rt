@@ -1,89 +1,113 @@
 // Programs that keep the rules.
 
-use super::building::Says::{Ends, Formats, Sets, Writes};
-use super::building::{Row, binary, of_two, operand, plain, signed, tree};
-use crate::check;
+use super::building::checked;
+use super::{arrays, loops};
 use format_edit::Descriptor;
-use meaning::syntax::{Exprs, Operator, Shape, Sign, Tree};
-use std::test::Fail;
+use std::alloc::Global;
+use std::process::Abort;
 
 /// Formats behind and before the statements that name them, labels with leading zeros, and the greatest constant.
-const ACCEPTED: [Row; 8] = [
-    (1, Some(1), Formats(b"")),
-    (2, None, Sets(b"NMAX", b"2147483647")),
-    (3, Some(99999), Sets(b"I", b"NMAX")),
-    (5, None, Writes(b"6", b"010", b"K")),
-    (6, None, Writes(b"*", b"00020", b"J")),
-    (7, Some(10), Formats(b"2X,I5")),
-    (8, Some(20), Formats(b"3I7")),
-    (9, Some(30), Ends),
+const ACCEPTED: [&str; 8] = [
+    "@1 #1 FORMAT/",
+    "@2 2147483647 NMAX=",
+    "@3 #99999 NMAX I=",
+    "@5 6 K WRITE/010",
+    "@6 J WRITE/00020",
+    "@7 #10 FORMAT/2X,I5",
+    "@8 #20 FORMAT/3I7",
+    "@9 #30 END",
 ];
 
-#[test]
-fn names_and_formats(rt: HostRuntime) -> Result<(), Fail> {
-    let program = check(rt.alloc(), tree(&rt, rt.alloc(), &ACCEPTED)?)?;
-    assert_eq!(rt; program.tree.body.len(), 8);
-    assert_eq!(rt; program.names.len(), 4);
-    let wanted: [&[u8]; 4] = [b"NMAX", b"I", b"K", b"J"];
-    for (name, want) in program.names.iter().zip(wanted) {
-        assert_eq!(rt; name.as_slice(), want);
+/// `2X,I5`
+const FIVE: [Descriptor; 2] = [
+    Descriptor::Skip(2),
+    Descriptor::Field {
+        repeat: 1,
+        width: 5,
+    },
+];
+
+/// `3I7`
+const SEVEN: [Descriptor; 1] = [Descriptor::Field {
+    repeat: 3,
+    width: 7,
+}];
+
+/// `I5`
+const OF_LOOPS: [Descriptor; 1] = [Descriptor::Field {
+    repeat: 1,
+    width: 5,
+}];
+
+/// Programs, labels, and the descriptors of the formats that have them.
+const FORMATS: [(&[&str], &[u8], Option<&[Descriptor]>); 14] = [
+    (&ACCEPTED, b"10", Some(&FIVE)),
+    (&ACCEPTED, b"010", Some(&FIVE)),
+    (&ACCEPTED, b"00010", Some(&FIVE)),
+    (&ACCEPTED, b"20", Some(&SEVEN)),
+    (&ACCEPTED, b"1", Some(&[])),
+    (&ACCEPTED, b"30", None),
+    (&ACCEPTED, b"99999", None),
+    (&ACCEPTED, b"2", None),
+    (&ACCEPTED, b"100", None),
+    (&ACCEPTED, b"4294967306", None),
+    (&loops::ACCEPTED, b"10", Some(&OF_LOOPS)),
+    (&loops::ACCEPTED, b"50", None),
+    (&loops::ACCEPTED, b"52", None),
+    (&loops::ACCEPTED, b"55", None),
+];
+
+/// Compares the format that a label has.
+fn has_format(
+    rt: &impl Abort,
+    alloc: Global,
+    texts: &[&str],
+    digits: &[u8],
+    want: Option<&[Descriptor]>,
+) {
+    let program = checked(rt, alloc, texts);
+    match program.format(digits) {
+        Some(format) => { assert_eq!(rt; Some(format.descriptors.as_slice()), want, "{digits:?}") }
+        None => assert!(rt; want.is_none(), "{digits:?}"),
     }
-    let five = [
-        Descriptor::Skip(2),
-        Descriptor::Field {
-            repeat: 1,
-            width: 5,
-        },
-    ];
-    for digits in [b"10".as_slice(), b"010", b"00010"] {
-        let format = program.format(digits).ok_or("label 10")?;
-        assert_eq!(rt;
-            format.descriptors.as_slice(),
-            five.as_slice(),
-            "{digits:?}"
-        );
-    }
-    let seven = [Descriptor::Field {
-        repeat: 3,
-        width: 7,
-    }];
-    let format = program.format(b"20").ok_or("label 20")?;
-    assert_eq!(rt; format.descriptors.as_slice(), seven.as_slice());
-    let empty = program.format(b"1").ok_or("label 1")?;
-    assert_eq!(rt; empty.descriptors.len(), 0);
-    Ok(())
 }
 
-/// Labels that no FORMAT statement has.
 #[test]
-fn labels_of_no_format(rt: HostRuntime) -> Result<(), Fail> {
-    let program = check(rt.alloc(), tree(&rt, rt.alloc(), &ACCEPTED)?)?;
-    for digits in [b"30".as_slice(), b"99999", b"2", b"100", b"4294967306"] {
-        assert!(rt; program.format(digits).is_none(), "{digits:?}");
+fn formats(rt: HostRuntime) {
+    for (texts, digits, want) in FORMATS {
+        has_format(&rt, rt.alloc(), texts, digits, want);
     }
-    Ok(())
 }
 
-/// `L=-(M*K)+(L-J)` gives the variables L, M, K and J.
-#[test]
-fn names_in_expressions(rt: HostRuntime) -> Result<(), Fail> {
-    let alloc = rt.alloc();
-    let product = of_two(alloc, b"M", Operator::Multiply, b"K")?;
-    let minus = signed(alloc, Sign::Minus, product)?;
-    let difference = of_two(alloc, b"L", Operator::Subtract, b"J")?;
-    let set = Shape::Assignment {
-        name: Vec::from_slice(alloc, b"L")?,
-        subscripts: Exprs::Empty,
-        value: binary(alloc, minus, Operator::Add, difference)?,
-    };
-    let mut body = Vec::new(alloc);
-    body.push(plain(&rt, 1, None, set))?;
-    body.push(plain(&rt, 2, None, Shape::End))?;
-    let program = check(alloc, Tree { body })?;
-    assert_eq!(rt; program.names.len(), 4);
-    let wanted: [&[u8]; 4] = [b"L", b"M", b"K", b"J"];
+/// Programs, how many members each has, and its variables and arrays in their order.
+const NAMES: [(&[&str], usize, &[&str]); 6] = [
+    (&ACCEPTED, 8, &["NMAX", "I", "K", "J"]),
+    (&loops::ACCEPTED, 6, &["I", "N", "L", "M", "J", "K"]),
+    (&loops::IN_PARENTHESES, 2, &["K", "N", "I"]),
+    (&[arrays::ACCEPTED], 6, &["X", "M", "L", "A", "J", "K"]),
+    // `L=-(M*K)+(L-J)`
+    (
+        &["@1 M K * neg L J - + L= @2 END"],
+        2,
+        &["L", "M", "K", "J"],
+    ),
+    // `I=-2147483647-1` has no constant that is too great.
+    (&["@1 2147483647 neg 1 - I= @2 END"], 2, &["I"]),
+];
+
+/// Compares the names of a program.
+fn has_names(rt: &impl Abort, alloc: Global, texts: &[&str], members: usize, wanted: &[&str]) {
+    let program = checked(rt, alloc, texts);
+    assert_eq!(rt; program.tree.body.len(), members, "{texts:?}");
+    assert_eq!(rt; program.names.len(), wanted.len(), "{texts:?}");
     for (name, want) in program.names.iter().zip(wanted) {
-        assert_eq!(rt; name.as_slice(), want);
+        assert_eq!(rt; name.as_slice(), want.as_bytes(), "{texts:?}");
     }
-    Ok(())
+}
+
+#[test]
+fn names(rt: HostRuntime) {
+    for (texts, members, wanted) in NAMES {
+        has_names(&rt, rt.alloc(), texts, members, wanted);
+    }
 }

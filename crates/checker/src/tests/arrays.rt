@@ -1,386 +1,126 @@
 // Type statements, arrays and their elements.
 
-use super::building::Says::{Ends, Loads, Sets, Stores, Types};
-use super::building::{Named, Row, tree};
-use crate::check;
-use meaning::refusal::{Refusal, Rule};
-use std::test::Fail;
+use super::bounds;
+use super::building::{Refused, checked};
+use meaning::refusal::Rule;
 use values::Dimension;
 
-const END: Row = (9, None, Ends);
-
-/// `M(2,0:3)`
-const M: Named = (b"M", &[(b"", b"2"), (b"0", b"3")]);
-
-/// Statements before END, and the rule and the line that are told.
-const REFUSED: [(&[Row], Rule, u32); 34] = [
+pub const REFUSED: [Refused; 34] = [
     // A name that is REAL, declared nowhere or in another statement.
-    (&[(1, None, Loads(b"I", b"X", &[b"1"])), END], Rule::K3, 1),
-    (&[(1, None, Stores(b"X", &[b"1"], b"1")), END], Rule::K3, 1),
-    (
-        &[
-            (1, None, Types(&[(b"A", &[])])),
-            (2, None, Sets(b"B", b"A")),
-            END,
-        ],
-        Rule::K3,
-        2,
-    ),
+    ("@1 1 X/1 I= @9 END", Rule::K3, 1),
+    ("@1 1 1 X= @9 END", Rule::K3, 1),
+    ("@1 A, INTEGER @2 A B= @9 END", Rule::K3, 2),
     // A bound with a name that is REAL.
-    (
-        &[(1, None, Types(&[(b"I", &[(b"", b"X")])])), END],
-        Rule::K3,
-        1,
-    ),
+    ("@1 X : I, INTEGER @9 END", Rule::K3, 1),
     // A name that is declared twice.
-    (
-        &[(1, None, Types(&[(b"I", &[]), (b"I", &[])])), END],
-        Rule::K4,
-        1,
-    ),
-    (
-        &[
-            (1, None, Types(&[(b"I", &[]), (b"J", &[])])),
-            (2, None, Types(&[(b"K", &[]), (b"I", &[(b"", b"2")])])),
-            END,
-        ],
-        Rule::K4,
-        2,
-    ),
+    ("@1 I, I, INTEGER @9 END", Rule::K4, 1),
+    ("@1 I, J, INTEGER @2 K, 2 : I, INTEGER @9 END", Rule::K4, 2),
     // A name that is a variable and a function.
-    (&[(1, None, Loads(b"I", b"I", &[b"1"])), END], Rule::K4, 1),
-    (
-        &[
-            (1, None, Sets(b"J", b"1")),
-            (2, None, Loads(b"I", b"J", &[b"1"])),
-            END,
-        ],
-        Rule::K4,
-        2,
-    ),
-    (
-        &[
-            (1, None, Loads(b"I", b"J", &[b"1"])),
-            (2, None, Sets(b"K", b"J")),
-            END,
-        ],
-        Rule::K13,
-        1,
-    ),
+    ("@1 1 I/1 I= @9 END", Rule::K4, 1),
+    ("@1 1 J= @2 1 J/1 I= @9 END", Rule::K4, 2),
+    ("@1 1 J/1 I= @2 J K= @9 END", Rule::K13, 1),
     // A bound that is no constant.
-    (
-        &[(1, None, Types(&[(b"I", &[(b"", b"N")])])), END],
-        Rule::K6,
-        1,
-    ),
-    (
-        &[(1, None, Types(&[(b"I", &[(b"N", b"2")])])), END],
-        Rule::K6,
-        1,
-    ),
-    (
-        &[(1, None, Types(&[(b"I", &[(b"", b"2147483648")])])), END],
-        Rule::K6,
-        1,
-    ),
+    ("@1 N : I, INTEGER @9 END", Rule::K6, 1),
+    ("@1 N 2 : I, INTEGER @9 END", Rule::K6, 1),
+    ("@1 2147483648 : I, INTEGER @9 END", Rule::K6, 1),
     // Eight dimensions, a lower bound above the upper one, too many elements.
     (
-        &[
-            (
-                1,
-                None,
-                Types(&[(
-                    b"I",
-                    &[
-                        (b"", b"1"),
-                        (b"", b"1"),
-                        (b"", b"1"),
-                        (b"", b"1"),
-                        (b"", b"1"),
-                        (b"", b"1"),
-                        (b"", b"1"),
-                        (b"", b"1"),
-                    ],
-                )]),
-            ),
-            END,
-        ],
+        "@1 1 : 1 : 1 : 1 : 1 : 1 : 1 : 1 : I, INTEGER @9 END",
         Rule::K7,
         1,
     ),
+    ("@1 2 1 : I, INTEGER @9 END", Rule::K7, 1),
+    ("@1 0 : I, INTEGER @9 END", Rule::K7, 1),
+    ("@1 1048577 : I, INTEGER @9 END", Rule::K7, 1),
+    ("@1 1024 : 1025 : I, INTEGER @9 END", Rule::K7, 1),
     (
-        &[(1, None, Types(&[(b"I", &[(b"2", b"1")])])), END],
-        Rule::K7,
-        1,
-    ),
-    (
-        &[(1, None, Types(&[(b"I", &[(b"", b"0")])])), END],
-        Rule::K7,
-        1,
-    ),
-    (
-        &[(1, None, Types(&[(b"I", &[(b"", b"1048577")])])), END],
-        Rule::K7,
-        1,
-    ),
-    (
-        &[
-            (1, None, Types(&[(b"I", &[(b"", b"1024"), (b"", b"1025")])])),
-            END,
-        ],
-        Rule::K7,
-        1,
-    ),
-    (
-        &[
-            (1, None, Types(&[(b"I", &[(b"", b"1048576")])])),
-            (2, None, Types(&[(b"J", &[]), (b"K", &[(b"", b"1")])])),
-            END,
-        ],
+        "@1 1048576 : I, INTEGER @2 J, 1 : K, INTEGER @9 END",
         Rule::K7,
         2,
     ),
-    (
-        &[
-            (
-                1,
-                None,
-                Types(&[(b"I", &[(b"", b"1048576")]), (b"K", &[(b"5", b"5")])]),
-            ),
-            END,
-        ],
-        Rule::K7,
-        1,
-    ),
+    ("@1 1048576 : I, 5 5 : K, INTEGER @9 END", Rule::K7, 1),
     // Sizes that 64 bits don't hold.
     (
-        &[
-            (
-                1,
-                None,
-                Types(&[(
-                    b"I",
-                    &[
-                        (b"", b"2147483647"),
-                        (b"", b"2147483647"),
-                        (b"", b"2147483647"),
-                    ],
-                )]),
-            ),
-            END,
-        ],
+        "@1 2147483647 : 2147483647 : 2147483647 : I, INTEGER @9 END",
         Rule::K7,
         1,
     ),
     // An array without subscripts, or with a wrong number of them.
+    ("@1 2 : 0 3 : M, INTEGER @2 M I= @9 END", Rule::K8, 2),
+    ("@1 2 : 0 3 : M, INTEGER @2 1 M= @9 END", Rule::K8, 2),
+    ("@1 2 : 0 3 : M, INTEGER @2 1 M/1 I= @9 END", Rule::K8, 2),
     (
-        &[(1, None, Types(&[M])), (2, None, Sets(b"I", b"M")), END],
+        "@1 2 : 0 3 : M, INTEGER @2 1 2 3 M/3 I= @9 END",
         Rule::K8,
         2,
     ),
-    (
-        &[(1, None, Types(&[M])), (2, None, Sets(b"M", b"1")), END],
-        Rule::K8,
-        2,
-    ),
-    (
-        &[
-            (1, None, Types(&[M])),
-            (2, None, Loads(b"I", b"M", &[b"1"])),
-            END,
-        ],
-        Rule::K8,
-        2,
-    ),
-    (
-        &[
-            (1, None, Types(&[M])),
-            (2, None, Loads(b"I", b"M", &[b"1", b"2", b"3"])),
-            END,
-        ],
-        Rule::K8,
-        2,
-    ),
-    (
-        &[
-            (1, None, Types(&[M])),
-            (2, None, Stores(b"M", &[b"1"], b"1")),
-            END,
-        ],
-        Rule::K8,
-        2,
-    ),
-    (
-        &[
-            (1, None, Types(&[M])),
-            (2, None, Stores(b"M", &[b"M", b"1"], b"1")),
-            END,
-        ],
-        Rule::K8,
-        2,
-    ),
+    ("@1 2 : 0 3 : M, INTEGER @2 1 1 M= @9 END", Rule::K8, 2),
+    ("@1 2 : 0 3 : M, INTEGER @2 M 1 1 M= @9 END", Rule::K8, 2),
     // An element of what is no array is set.
-    (&[(1, None, Stores(b"I", &[b"1"], b"1")), END], Rule::K12, 1),
-    (
-        &[
-            (1, None, Types(&[(b"I", &[])])),
-            (2, None, Stores(b"I", &[b"1"], b"1")),
-            END,
-        ],
-        Rule::K12,
-        2,
-    ),
+    ("@1 1 1 I= @9 END", Rule::K12, 1),
+    ("@1 I, INTEGER @2 1 1 I= @9 END", Rule::K12, 2),
     // A function.
-    (&[(1, None, Loads(b"I", b"J", &[b"1"])), END], Rule::K13, 1),
-    (
-        &[
-            (1, None, Types(&[(b"F", &[])])),
-            (2, None, Loads(b"I", b"F", &[b"1"])),
-            END,
-        ],
-        Rule::K13,
-        2,
-    ),
+    ("@1 1 J/1 I= @9 END", Rule::K13, 1),
+    ("@1 F, INTEGER @2 1 F/1 I= @9 END", Rule::K13, 2),
     // Of two rules at one line the least number.
-    (
-        &[(1, None, Loads(b"I", b"F", &[b"2147483648"])), END],
-        Rule::K3,
-        1,
-    ),
-    (
-        &[(1, None, Loads(b"I", b"I", &[b"2147483648"])), END],
-        Rule::K4,
-        1,
-    ),
-    (
-        &[
-            (1, None, Types(&[(b"I", &[(b"", b"0"), (b"", b"N")])])),
-            END,
-        ],
-        Rule::K6,
-        1,
-    ),
-    (
-        &[
-            (1, None, Types(&[M])),
-            (2, None, Stores(b"I", &[b"M"], b"1")),
-            END,
-        ],
-        Rule::K8,
-        2,
-    ),
+    ("@1 2147483648 F/1 I= @9 END", Rule::K3, 1),
+    ("@1 2147483648 I/1 I= @9 END", Rule::K4, 1),
+    ("@1 0 : N : I, INTEGER @9 END", Rule::K6, 1),
+    ("@1 2 : 0 3 : M, INTEGER @2 M 1 I= @9 END", Rule::K8, 2),
 ];
-
-#[test]
-fn refused(rt: HostRuntime) -> Result<(), Fail> {
-    for (rows, rule, line) in REFUSED {
-        let unit = tree(&rt, rt.alloc(), rows)?;
-        let refusal = check(rt.alloc(), unit).err();
-        assert_eq!(rt;
-            refusal,
-            Some(Refusal::Rule { rule, line }),
-            "{rule} {line}"
-        );
-    }
-    Ok(())
-}
 
 /// REAL names that are declared, an array that is never used, and one that is used before a variable.
-const ACCEPTED: [Row; 6] = [
-    (1, None, Types(&[(b"X", &[]), M, (b"L", &[(b"", b"5")])])),
-    (2, None, Types(&[(b"A", &[(b"2", b"4")])])),
-    (3, None, Sets(b"X", b"2")),
-    (4, None, Stores(b"M", &[b"X", b"J"], b"7")),
-    (5, None, Loads(b"X", b"A", &[b"K"])),
-    END,
-];
+pub const ACCEPTED: &str =
+    "@1 X, 2 : 0 3 : M, 5 : L, INTEGER @2 2 4 : A, INTEGER @3 2 X= @4 X J 7 M= @5 K A/1 X= @9 END";
 
 /// The names of that program, each with its first cell and its dimensions.
-const STORED: [(&[u8], usize, &[Dimension]); 6] = [
-    (b"X", 0, &[]),
+const STORED: [(&str, usize, &[Dimension]); 6] = [
+    ("X", 0, &[]),
     (
-        b"M",
+        "M",
         1,
         &[
             Dimension { lower: 1, upper: 2 },
             Dimension { lower: 0, upper: 3 },
         ],
     ),
-    (b"L", 9, &[Dimension { lower: 1, upper: 5 }]),
-    (b"A", 14, &[Dimension { lower: 2, upper: 4 }]),
-    (b"J", 17, &[]),
-    (b"K", 18, &[]),
+    ("L", 9, &[Dimension { lower: 1, upper: 5 }]),
+    ("A", 14, &[Dimension { lower: 2, upper: 4 }]),
+    ("J", 17, &[]),
+    ("K", 18, &[]),
 ];
 
 #[test]
-fn stored(rt: HostRuntime) -> Result<(), Fail> {
-    let program = check(rt.alloc(), tree(&rt, rt.alloc(), &ACCEPTED)?)?;
-    assert_eq!(rt; program.starts.len(), 19);
-    assert_eq!(rt; program.names.len(), STORED.len());
+fn stored(rt: HostRuntime) {
+    let program = checked(&rt, rt.alloc(), &[ACCEPTED]);
     assert_eq!(rt; program.storage.len(), STORED.len());
     for ((name, first, dimensions), storage) in STORED.iter().zip(&program.storage) {
-        assert_eq!(rt; storage.first, *first, "{name:?}");
-        assert_eq!(rt; storage.dimensions.as_slice(), *dimensions, "{name:?}");
+        assert_eq!(rt; storage.first, *first, "{name}");
+        assert_eq!(rt; storage.dimensions.as_slice(), *dimensions, "{name}");
     }
-    for (name, (want, _, _)) in program.names.iter().zip(STORED) {
-        assert_eq!(rt; name.as_slice(), want);
-    }
-    Ok(())
 }
 
 /// As many elements and dimensions as there may be, and how many cells they take.
-const GREATEST: [(&[Row], usize); 4] = [
+const GREATEST: [(&str, usize); 4] = [
+    ("@1 1048576 : I, J, INTEGER @9 END", 1_048_577),
+    ("@1 1024 : 1024 : I, INTEGER @9 END", 1_048_576),
     (
-        &[
-            (1, None, Types(&[(b"I", &[(b"", b"1048576")]), (b"J", &[])])),
-            END,
-        ],
-        1_048_577,
-    ),
-    (
-        &[
-            (1, None, Types(&[(b"I", &[(b"", b"1024"), (b"", b"1024")])])),
-            END,
-        ],
+        "@1 1048575 : I, INTEGER @2 2 2 : J, INTEGER @9 END",
         1_048_576,
     ),
-    (
-        &[
-            (1, None, Types(&[(b"I", &[(b"", b"1048575")])])),
-            (2, None, Types(&[(b"J", &[(b"2", b"2")])])),
-            END,
-        ],
-        1_048_576,
-    ),
-    (
-        &[
-            (
-                1,
-                None,
-                Types(&[(
-                    b"I",
-                    &[
-                        (b"", b"1"),
-                        (b"", b"1"),
-                        (b"", b"2"),
-                        (b"", b"1"),
-                        (b"", b"1"),
-                        (b"", b"1"),
-                        (b"", b"1"),
-                    ],
-                )]),
-            ),
-            END,
-        ],
-        2,
-    ),
+    ("@1 1 : 1 : 2 : 1 : 1 : 1 : 1 : I, INTEGER @9 END", 2),
 ];
 
 #[test]
-fn greatest_arrays(rt: HostRuntime) -> Result<(), Fail> {
-    for (rows, cells) in GREATEST {
-        let program = check(rt.alloc(), tree(&rt, rt.alloc(), rows)?)?;
-        assert_eq!(rt; program.starts.len(), cells);
+fn counts_of_cells(rt: HostRuntime) {
+    for table in [
+        GREATEST.as_slice(),
+        bounds::CONSTANTS.as_slice(),
+        [(ACCEPTED, 19), ("@1 END", 0)].as_slice(),
+    ] {
+        for (text, cells) in table {
+            let program = checked(&rt, rt.alloc(), [*text].as_slice());
+            assert_eq!(rt; program.starts.len(), *cells, "{text}");
+        }
     }
-    Ok(())
 }

@@ -1,49 +1,19 @@
-// Program units built by hand.
+// Program units that texts give in postfix notation.
 
 ghost use Rattle.std.specs.Prelude.{◌≤◌, length, map, option_map};
 ghost use Rattle.meaning.specs.Spelling.{spell, spell_behind, spell_bounds, spell_declarator, spell_expr, spell_exprs, spell_limits, spell_list, spell_lower, spell_more, spell_more_bounds, spell_more_declarators, spell_step, spell_unit};
 ghost use Rattle.meaning.specs.Syntax.{bounds_tree, declarator_tree, expr_tree, exprs_tree, exprs_trees, limits_tree, shape_tree, unit_tree};
+ghost use Rattle.checker.specs.Checked.{IsNumbered};
 
+use crate::{Program, check};
+use meaning::refusal::{Refusal, Rule};
 use meaning::syntax::{
     Bounds, Declarator, Expr, Exprs, Form, Item, Limits, Loop, Member, Operator, Shape, Sign, Tree,
     Unit,
 };
 use std::alloc::{AllocError, Global};
+use std::mem::replace;
 use std::process::Abort;
-
-/// What a statement of a table says. Each operand and each limit is the digits of a constant or a name.
-#[derive(Clone, Copy)]
-pub enum Says {
-    /// `name=operand`
-    Sets(&'static [u8], &'static [u8]),
-    /// `name(operands)=operand`
-    Stores(&'static [u8], &'static [&'static [u8]], &'static [u8]),
-    /// `name=name(operands)`
-    Loads(&'static [u8], &'static [u8], &'static [&'static [u8]]),
-    /// `name(operands)=name(operands)`
-    Moves(&'static [u8], &'static [&'static [u8]], &'static [u8], &'static [&'static [u8]]),
-    /// `INTEGER` and names with bounds.
-    Types(&'static [Named]),
-    /// `WRITE(operand,label)operand`, or an asterisk as the unit.
-    Writes(&'static [u8], &'static [u8], &'static [u8]),
-    /// `FORMAT(text)`
-    Formats(&'static [u8]),
-    /// `DO 50 variable=first,last,step`, without the step where it is empty, and its range.
-    Does(&'static [u8], Range, &'static [Row]),
-    /// `CONTINUE`
-    Goes,
-    /// `END`
-    Ends,
-}
-
-/// The limits of a DO statement, the step empty where it isn't written.
-pub type Range = (&'static [u8], &'static [u8], &'static [u8]);
-
-/// A name and the bounds of its dimensions, a lower bound empty where it isn't written.
-pub type Named = (&'static [u8], &'static [(&'static [u8], &'static [u8])]);
-
-/// A statement of a table: its line, its label and what it says.
-pub type Row = (u32, Option<u32>, Says);
 
 // At least the length of a spelling that has room in a statement.
 #[cycle(length)]
@@ -213,189 +183,353 @@ fn shape_length(shape: &Shape) -> usize
     }
 }
 
-/// A statement in its place.
-pub fn item(rt: &impl Abort, line: u32, label: Option<u32>, shape: Shape) -> Item {
-    let length = shape_length(&shape);
-    assert!(rt; length <= 1320, "a statement is too long");
-    Item {
-        line,
-        label,
-        form: Form { shape },
+/// Takes an expression from the end of a stack.
+fn popped(rt: &impl Abort, stack: &mut Vec<Expr>) -> Expr {
+    stack.pop().expect(rt, "an operand is missing")
+}
+
+/// Takes a list of so many expressions from the end of a stack.
+fn popped_list(
+    rt: &impl Abort,
+    alloc: Global,
+    stack: &mut Vec<Expr>,
+    count: usize,
+) -> Result<Exprs, AllocError> {
+    let mut list = Exprs::Empty;
+    for _ in 0..count {
+        list = Exprs::More(popped(rt, stack), Box::new(alloc, list)?);
     }
+    Ok(list)
 }
 
-/// A statement outside the ranges of DO statements.
-pub fn plain(rt: &impl Abort, line: u32, label: Option<u32>, shape: Shape) -> Member {
-    Member::Plain(item(rt, line, label, shape))
+fn signed(
+    rt: &impl Abort,
+    alloc: Global,
+    stack: &mut Vec<Expr>,
+    sign: Sign,
+) -> Result<Expr, AllocError> {
+    Ok(Expr::Signed(sign, Box::new(alloc, popped(rt, stack))?))
 }
 
-/// A constant where a digit comes first, else a variable.
-pub fn operand(alloc: Global, text: &[u8]) -> Result<Expr, AllocError> {
-    let own = Vec::from_slice(alloc, text)?;
-    match text.first() {
+fn binary(
+    rt: &impl Abort,
+    alloc: Global,
+    stack: &mut Vec<Expr>,
+    operator: Operator,
+) -> Result<Expr, AllocError> {
+    let right = Box::new(alloc, popped(rt, stack))?;
+    let left = Box::new(alloc, popped(rt, stack))?;
+    Ok(Expr::Binary(operator, left, right))
+}
+
+fn paren(rt: &impl Abort, alloc: Global, stack: &mut Vec<Expr>) -> Result<Expr, AllocError> {
+    Ok(Expr::Paren(Box::new(alloc, popped(rt, stack))?))
+}
+
+fn number(rt: &impl Abort, digits: &str) -> u32 {
+    digits.parse::<u32>().expect(rt, "digits are wanted")
+}
+
+/// A constant, a variable, or an element, whose name has a slash and the number of its subscripts behind it.
+fn operand(
+    rt: &impl Abort,
+    alloc: Global,
+    stack: &mut Vec<Expr>,
+    word: &str,
+) -> Result<Expr, AllocError> {
+    if let Some((name, count)) = word.split_once('/') {
+        let own = Vec::from_slice(alloc, name.as_bytes())?;
+        let subscripts = popped_list(rt, alloc, stack, number(rt, count) as usize)?;
+        return Ok(Expr::Element(own, Box::new(alloc, subscripts)?));
+    }
+    let own = Vec::from_slice(alloc, word.as_bytes())?;
+    match word.as_bytes().first() {
         Some(first) if first.is_ascii_digit() => Ok(Expr::Number(own)),
         _ => Ok(Expr::Name(own)),
     }
 }
 
-pub fn signed(alloc: Global, sign: Sign, operand: Expr) -> Result<Expr, AllocError> {
-    Ok(Expr::Signed(sign, Box::new(alloc, operand)?))
-}
-
-pub fn paren(alloc: Global, operand: Expr) -> Result<Expr, AllocError> {
-    Ok(Expr::Paren(Box::new(alloc, operand)?))
-}
-
-pub fn binary(
+/// What a word makes of the expressions at the end of a stack.
+fn made(
+    rt: &impl Abort,
     alloc: Global,
-    left: Expr,
-    operator: Operator,
-    right: Expr,
+    stack: &mut Vec<Expr>,
+    word: &str,
 ) -> Result<Expr, AllocError> {
-    let left = Box::new(alloc, left)?;
-    Ok(Expr::Binary(operator, left, Box::new(alloc, right)?))
+    match word {
+        "neg" => signed(rt, alloc, stack, Sign::Minus),
+        "pos" => signed(rt, alloc, stack, Sign::Plus),
+        "()" => paren(rt, alloc, stack),
+        "+" => binary(rt, alloc, stack, Operator::Add),
+        "-" => binary(rt, alloc, stack, Operator::Subtract),
+        "*" => binary(rt, alloc, stack, Operator::Multiply),
+        _ => operand(rt, alloc, stack, word),
+    }
 }
 
-/// Two operands and an operator between.
-pub fn of_two(
+/// A program unit that is read word by word.
+#[derive(Drop)]
+struct Draft {
+    line: u32,
+    label: Option<u32>,
+    /// The expressions, the dimensions and the declarators of the statement that is read.
+    stack: Vec<Expr>,
+    bounds: Vec<Bounds>,
+    declarators: Vec<Declarator>,
+    /// The DO statements whose ranges are open, the outermost first.
+    open: Vec<Loop>,
+    body: Vec<Member>,
+}
+
+fn add_member(draft: &mut Draft, member: Member) -> Result<(), AllocError> {
+    match draft.open.last_mut() {
+        Some(innermost) => innermost.range.push(member)?,
+        None => draft.body.push(member)?,
+    }
+    Ok(())
+}
+
+/// The statement of this shape, in its place.
+fn item(rt: &impl Abort, draft: &Draft, shape: Shape) -> Item {
+    let length = shape_length(&shape);
+    assert!(rt; length <= 1320, "a statement is too long");
+    Item {
+        line: draft.line,
+        label: draft.label,
+        form: Form { shape },
+    }
+}
+
+fn add(rt: &impl Abort, draft: &mut Draft, shape: Shape) -> Result<(), AllocError> {
+    let item = item(rt, draft, shape);
+    add_member(draft, Member::Plain(item))
+}
+
+/// One dimension: its upper bound, and before it the lower one, where there is one.
+fn add_bounds(rt: &impl Abort, draft: &mut Draft) -> Result<(), AllocError> {
+    let upper = popped(rt, &mut draft.stack);
+    let lower = draft.stack.pop();
+    draft.bounds.push(Bounds { lower, upper })?;
+    Ok(())
+}
+
+/// A name, and the dimensions before it.
+fn add_declarator(alloc: Global, draft: &mut Draft, name: &str) -> Result<(), AllocError> {
+    let name = Vec::from_slice(alloc, name.as_bytes())?;
+    let bounds = replace(&mut draft.bounds, Vec::new(alloc));
+    draft.declarators.push(Declarator { name, bounds })?;
+    Ok(())
+}
+
+fn add_type(rt: &impl Abort, alloc: Global, draft: &mut Draft) -> Result<(), AllocError> {
+    let declarators = replace(&mut draft.declarators, Vec::new(alloc));
+    add(rt, draft, Shape::Integer(declarators))
+}
+
+/// Subscripts, if any, and the value behind them.
+fn add_assignment(
+    rt: &impl Abort,
     alloc: Global,
-    left: &[u8],
-    operator: Operator,
-    right: &[u8],
-) -> Result<Expr, AllocError> {
-    binary(
-        alloc,
-        operand(alloc, left)?,
-        operator,
-        operand(alloc, right)?,
-    )
+    draft: &mut Draft,
+    name: &str,
+) -> Result<(), AllocError> {
+    let name = Vec::from_slice(alloc, name.as_bytes())?;
+    let value = popped(rt, &mut draft.stack);
+    let count = draft.stack.len();
+    let subscripts = popped_list(rt, alloc, &mut draft.stack, count)?;
+    let shape = Shape::Assignment {
+        name,
+        subscripts,
+        value,
+    };
+    add(rt, draft, shape)
 }
 
-/// A list of one expression.
-pub fn one(alloc: Global, item: Expr) -> Result<Exprs, AllocError> {
-    Ok(Exprs::More(item, Box::new(alloc, Exprs::Empty)?))
+/// The unit, or none for an asterisk, and one item.
+fn add_write(
+    rt: &impl Abort,
+    alloc: Global,
+    draft: &mut Draft,
+    label: &str,
+) -> Result<(), AllocError> {
+    let label = Vec::from_slice(alloc, label.as_bytes())?;
+    let list = popped_list(rt, alloc, &mut draft.stack, 1)?;
+    let unit = match draft.stack.pop() {
+        None => Unit::Star,
+        Some(number) => Unit::Number(number),
+    };
+    add(rt, draft, Shape::Write { unit, label, list })
 }
 
-/// A list of operands.
-pub fn operands(alloc: Global, texts: &[&[u8]]) -> Result<Exprs, AllocError> {
-    let mut list = Exprs::Empty;
-    for text in texts.iter().rev() {
-        list = Exprs::More(operand(alloc, text)?, Box::new(alloc, list)?);
-    }
-    Ok(list)
-}
-
-/// A name with operands as its subscripts.
-pub fn element(alloc: Global, name: &[u8], subscripts: &[&[u8]]) -> Result<Expr, AllocError> {
-    let own = Vec::from_slice(alloc, name)?;
-    let list = operands(alloc, subscripts)?;
-    Ok(Expr::Element(own, Box::new(alloc, list)?))
-}
-
-fn bounds_of(alloc: Global, lower: &[u8], upper: &[u8]) -> Result<Bounds, AllocError> {
-    Ok(Bounds {
-        lower: if lower.is_empty() {
-            None
-        } else {
-            Some(operand(alloc, lower)?)
-        },
-        upper: operand(alloc, upper)?,
-    })
-}
-
-fn declared(alloc: Global, declarators: &[Named]) -> Result<Vec<Declarator>, AllocError> {
-    let mut found = Vec::new(alloc);
-    for (name, dimensions) in declarators {
-        let mut bounds = Vec::new(alloc);
-        for (lower, upper) in *dimensions {
-            bounds.push(bounds_of(alloc, lower, upper)?)?;
-        }
-        let name = Vec::from_slice(alloc, name)?;
-        found.push(Declarator { name, bounds })?;
-    }
-    Ok(found)
-}
-
-fn unit(alloc: Global, text: &[u8]) -> Result<Unit, AllocError> {
-    if text == b"*".as_slice() {
-        Ok(Unit::Star)
+/// The first and the last value, and the step, where there is one.
+fn limits(rt: &impl Abort, draft: &mut Draft) -> Limits {
+    let step = if draft.stack.len() > 2 {
+        draft.stack.pop()
     } else {
-        Ok(Unit::Number(operand(alloc, text)?))
+        None
+    };
+    let last = popped(rt, &mut draft.stack);
+    let first = popped(rt, &mut draft.stack);
+    Limits { first, last, step }
+}
+
+/// Opens the range of a DO statement.
+fn open_range(
+    rt: &impl Abort,
+    alloc: Global,
+    draft: &mut Draft,
+    variable: &str,
+) -> Result<(), AllocError> {
+    let label = Vec::from_slice(alloc, b"50")?;
+    let variable = Vec::from_slice(alloc, variable.as_bytes())?;
+    let limits = limits(rt, draft);
+    let shape = Shape::Do {
+        label,
+        comma: limits.step.is_some(),
+        variable,
+        limits,
+    };
+    let head = item(rt, draft, shape);
+    let range = Vec::new(alloc);
+    draft.open.push(Loop { head, range })?;
+    Ok(())
+}
+
+fn close_range(rt: &impl Abort, draft: &mut Draft) -> Result<(), AllocError> {
+    let closed = draft.open.pop().expect(rt, "no range is open");
+    add_member(draft, Member::Loop(closed))
+}
+
+fn add_format(
+    rt: &impl Abort,
+    alloc: Global,
+    draft: &mut Draft,
+    text: &str,
+) -> Result<(), AllocError> {
+    let text = Vec::from_slice(alloc, text.as_bytes())?;
+    add(rt, draft, Shape::Format(text))
+}
+
+fn add_expression(
+    rt: &impl Abort,
+    alloc: Global,
+    draft: &mut Draft,
+    word: &str,
+) -> Result<(), AllocError> {
+    let expression = made(rt, alloc, &mut draft.stack, word)?;
+    draft.stack.push(expression)?;
+    Ok(())
+}
+
+fn read_slashed(
+    rt: &impl Abort,
+    alloc: Global,
+    draft: &mut Draft,
+    word: &str,
+) -> Result<(), AllocError> {
+    match word.split_once('/') {
+        Some(("FORMAT", text)) => add_format(rt, alloc, draft, text),
+        Some(("WRITE", label)) => add_write(rt, alloc, draft, label),
+        Some(("DO", variable)) => open_range(rt, alloc, draft, variable),
+        _ => add_expression(rt, alloc, draft, word),
     }
 }
 
-fn limits_of(alloc: Global, limits: Range) -> Result<Limits, AllocError> {
-    let (first, last, step) = limits;
-    Ok(Limits {
-        first: operand(alloc, first)?,
-        last: operand(alloc, last)?,
-        step: if step.is_empty() {
-            None
-        } else {
-            Some(operand(alloc, step)?)
-        },
-    })
-}
-
-fn shape(alloc: Global, says: Says) -> Result<Shape, AllocError> {
-    match says {
-        Says::Sets(name, value) => Ok(Shape::Assignment {
-            name: Vec::from_slice(alloc, name)?,
-            subscripts: Exprs::Empty,
-            value: operand(alloc, value)?,
-        }),
-        Says::Stores(name, subscripts, value) => Ok(Shape::Assignment {
-            name: Vec::from_slice(alloc, name)?,
-            subscripts: operands(alloc, subscripts)?,
-            value: operand(alloc, value)?,
-        }),
-        Says::Loads(name, from, subscripts) => Ok(Shape::Assignment {
-            name: Vec::from_slice(alloc, name)?,
-            subscripts: Exprs::Empty,
-            value: element(alloc, from, subscripts)?,
-        }),
-        Says::Moves(name, subscripts, from, others) => Ok(Shape::Assignment {
-            name: Vec::from_slice(alloc, name)?,
-            subscripts: operands(alloc, subscripts)?,
-            value: element(alloc, from, others)?,
-        }),
-        Says::Types(declarators) => Ok(Shape::Integer(declared(alloc, declarators)?)),
-        Says::Writes(to, label, item) => Ok(Shape::Write {
-            unit: unit(alloc, to)?,
-            label: Vec::from_slice(alloc, label)?,
-            list: one(alloc, operand(alloc, item)?)?,
-        }),
-        Says::Formats(text) => Ok(Shape::Format(Vec::from_slice(alloc, text)?)),
-        Says::Does(variable, limits, _) => Ok(Shape::Do {
-            label: Vec::from_slice(alloc, b"50")?,
-            comma: false,
-            variable: Vec::from_slice(alloc, variable)?,
-            limits: limits_of(alloc, limits)?,
-        }),
-        Says::Goes => Ok(Shape::Continue),
-        Says::Ends => Ok(Shape::End),
+fn read_marked(
+    rt: &impl Abort,
+    alloc: Global,
+    draft: &mut Draft,
+    word: &str,
+) -> Result<(), AllocError> {
+    if let Some(line) = word.strip_prefix('@') {
+        draft.line = number(rt, line);
+        draft.label = None;
+        Ok(())
+    } else if let Some(label) = word.strip_prefix('#') {
+        draft.label = Some(number(rt, label));
+        Ok(())
+    } else if let Some(name) = word.strip_suffix(',') {
+        add_declarator(alloc, draft, name)
+    } else if let Some(name) = word.strip_suffix('=') {
+        add_assignment(rt, alloc, draft, name)
+    } else {
+        read_slashed(rt, alloc, draft, word)
     }
 }
 
-/// The members of a list of rows.
-fn members(rt: &impl Abort, alloc: Global, rows: &[Row]) -> Result<Vec<Member>, AllocError> {
-    let mut found = Vec::new(alloc);
-    for (line, label, says) in rows {
-        let head = item(rt, *line, *label, shape(alloc, *says)?);
-        match says {
-            Says::Does(_, _, range) => {
-                let range = members(rt, alloc, range)?;
-                found.push(Member::Loop(Loop { head, range }))?;
-            }
-            _ => found.push(Member::Plain(head))?,
-        }
+fn read_word(
+    rt: &impl Abort,
+    alloc: Global,
+    draft: &mut Draft,
+    word: &str,
+) -> Result<(), AllocError> {
+    match word {
+        ":" => add_bounds(rt, draft),
+        ")" => close_range(rt, draft),
+        "INTEGER" => add_type(rt, alloc, draft),
+        "CONTINUE" => add(rt, draft, Shape::Continue),
+        "END" => add(rt, draft, Shape::End),
+        _ => read_marked(rt, alloc, draft, word),
     }
-    Ok(found)
 }
 
-/// The program unit of a table.
-pub fn tree(rt: &impl Abort, alloc: Global, rows: &[Row]) -> Result<Tree, AllocError> {
-    Ok(Tree {
-        body: members(rt, alloc, rows)?,
-    })
+fn read(rt: &impl Abort, alloc: Global, draft: &mut Draft, text: &str) -> Result<(), AllocError> {
+    for word in text.split_whitespace() {
+        read_word(rt, alloc, draft, word)?;
+    }
+    Ok(())
+}
+
+/// The program unit of texts that are read one behind the other. Each statement begins with its line, as `@3`, and its label,
+/// if any, as `#10`. Behind them stand its expressions in postfix notation: digits, names, operators, `neg` and `pos` for a
+/// sign, `()` for parentheses, and `A/2` for an element of A with two subscripts. A word that takes all of them ends it:
+///
+/// | Text | Statement |
+/// |---|---|
+/// | `2 I 1 + A=` | `A(2)=I+1` |
+/// | `6 I WRITE/10`, `I WRITE/10` | `WRITE(6,10)I`, `WRITE(*,10)I` |
+/// | `FORMAT/I5` | `FORMAT(I5)` |
+/// | `1 9 DO/I` | `DO 50 I=1,9`, whose range goes up to `)` |
+/// | `2 : 0 3 : M, X, INTEGER` | `INTEGER M(2,0:3),X` |
+/// | `CONTINUE`, `END` | `CONTINUE`, `END` |
+pub fn tree(rt: &impl Abort, alloc: Global, texts: &[&str]) -> Result<Tree, AllocError> {
+    let mut draft = Draft {
+        line: 0,
+        label: None,
+        stack: Vec::new(alloc),
+        bounds: Vec::new(alloc),
+        declarators: Vec::new(alloc),
+        open: Vec::new(alloc),
+        body: Vec::new(alloc),
+    };
+    for text in texts {
+        read(rt, alloc, &mut draft, text)?;
+    }
+    let Draft { body, .. } = draft;
+    Ok(Tree { body })
+}
+
+/// The program of texts, which break no rule.
+pub fn checked(rt: &impl Abort, alloc: Global, texts: &[&str]) -> Program
+    ensures { IsNumbered result }
+{
+    let unit = tree(rt, alloc, texts).expect(rt, "memory");
+    check(alloc, unit).expect(rt, "a program that keeps the rules")
+}
+
+/// Checks the program unit of texts, and compares the broken rule and its line that are told.
+pub fn refuses(rt: &impl Abort, alloc: Global, texts: &[&str], rule: Rule, line: u32) {
+    let unit = tree(rt, alloc, texts).expect(rt, "memory");
+    let refusal = check(alloc, unit).err();
+    assert_eq!(rt; refusal, Some(Refusal::Rule { rule, line }), "{texts:?}");
+}
+
+/// A program unit, and the broken rule and its line that are told.
+pub type Refused = (&'static str, Rule, u32);
+
+/// Checks each of a table.
+pub fn refuses_all(rt: &impl Abort, alloc: Global, table: &[Refused]) {
+    for (text, rule, line) in table {
+        refuses(rt, alloc, [*text].as_slice(), *rule, *line);
+    }
 }

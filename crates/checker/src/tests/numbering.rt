@@ -4,27 +4,12 @@ ghost use Rattle.std.specs.Prelude.{◌<◌, ◌^◌};
 ghost use Rattle.values.specs.Places.{limit};
 ghost use Rattle.checker.specs.Checked.{IsNumbered};
 
-use super::building::Says::{Ends, Sets, Stores, Types};
-use super::building::{Row, tree};
-use crate::{Program, check};
-use std::test::Fail;
+use super::building::checked;
+use crate::Program;
 use values::{Numbering, Place};
 
 /// A variable and arrays that are declared, of which `L` isn't used, and two variables that aren't.
-const ROWS: [Row; 4] = [
-    (
-        1,
-        None,
-        Types(&[
-            (b"N", &[]),
-            (b"A", &[(b"", b"2"), (b"", b"3")]),
-            (b"L", &[(b"0", b"1"), (b"2", b"4")]),
-        ]),
-    ),
-    (2, None, Sets(b"I", b"N")),
-    (3, None, Stores(b"A", &[b"J", b"1"], b"I")),
-    (4, None, Ends),
-];
+const TEXT: &str = "@1 N, 2 : 3 : A, 0 1 : 2 4 : L, INTEGER @2 N I= @3 J 1 I A= @4 END";
 
 /// The number of the cell that a place leads to by subscripts.
 fn cell_behind(place: Place<'_>, subscripts: &[i32]) -> Option<usize>
@@ -47,66 +32,40 @@ fn cell_of(program: &Program, name: &[u8], subscripts: &[i32]) -> Option<usize>
 }
 
 /// Variables, and elements by their subscripts, of which the first varies fastest, and their cells.
-const CELLS: [(&[u8], &[i32], usize); 13] = [
-    (b"N", &[], 0),
-    (b"A", &[1, 1], 1),
-    (b"A", &[2, 1], 2),
-    (b"A", &[1, 2], 3),
-    (b"A", &[2, 2], 4),
-    (b"A", &[1, 3], 5),
-    (b"A", &[2, 3], 6),
-    (b"L", &[0, 2], 7),
-    (b"L", &[1, 2], 8),
-    (b"L", &[0, 3], 9),
-    (b"L", &[1, 4], 12),
-    (b"I", &[], 13),
-    (b"J", &[], 14),
+const CELLS: [(&[u8], &[i32], Option<usize>); 24] = [
+    (b"N", &[], Some(0)),
+    (b"A", &[1, 1], Some(1)),
+    (b"A", &[2, 1], Some(2)),
+    (b"A", &[1, 2], Some(3)),
+    (b"A", &[2, 2], Some(4)),
+    (b"A", &[1, 3], Some(5)),
+    (b"A", &[2, 3], Some(6)),
+    (b"L", &[0, 2], Some(7)),
+    (b"L", &[1, 2], Some(8)),
+    (b"L", &[0, 3], Some(9)),
+    (b"L", &[1, 4], Some(12)),
+    (b"I", &[], Some(13)),
+    (b"J", &[], Some(14)),
+    // Subscripts outside their bounds, too many and too few of them, and a name that doesn't appear.
+    (b"A", &[0, 1], None),
+    (b"A", &[3, 1], None),
+    (b"A", &[1, 0], None),
+    (b"A", &[1, 4], None),
+    (b"L", &[2, 2], None),
+    (b"L", &[-1, 3], None),
+    (b"A", &[1, 1, 1], None),
+    (b"A", &[1], None),
+    (b"A", &[], None),
+    (b"I", &[1], None),
+    (b"M", &[], None),
 ];
 
 #[test]
-fn cells(rt: HostRuntime) -> Result<(), Fail> {
-    let program = check(rt.alloc(), tree(&rt, rt.alloc(), &ROWS)?)?;
+fn cells(rt: HostRuntime) {
+    let program = checked(&rt, rt.alloc(), &[TEXT]);
+    assert!(rt; program.starts.as_slice() == [0; 15].as_slice());
     for (name, subscripts, cell) in CELLS {
         let found = cell_of(&program, name, subscripts);
-        assert_eq!(rt; found, Some(cell), "{name:?} {subscripts:?}");
+        assert_eq!(rt; found, cell, "{name:?} {subscripts:?}");
     }
-    Ok(())
-}
-
-/// Subscripts outside their bounds, too many and too few of them, and a name that doesn't appear.
-const NONE: [(&[u8], &[i32]); 11] = [
-    (b"A", &[0, 1]),
-    (b"A", &[3, 1]),
-    (b"A", &[1, 0]),
-    (b"A", &[1, 4]),
-    (b"L", &[2, 2]),
-    (b"L", &[-1, 3]),
-    (b"A", &[1, 1, 1]),
-    (b"A", &[1]),
-    (b"A", &[]),
-    (b"I", &[1]),
-    (b"M", &[]),
-];
-
-#[test]
-fn no_cells(rt: HostRuntime) -> Result<(), Fail> {
-    let program = check(rt.alloc(), tree(&rt, rt.alloc(), &ROWS)?)?;
-    for (name, subscripts) in NONE {
-        let found = cell_of(&program, name, subscripts);
-        assert_eq!(rt; found, None, "{name:?} {subscripts:?}");
-    }
-    Ok(())
-}
-
-/// Each of the cells starts with 0.
-#[test]
-fn starts(rt: HostRuntime) -> Result<(), Fail> {
-    let program = check(rt.alloc(), tree(&rt, rt.alloc(), &ROWS)?)?;
-    assert_eq!(rt; program.starts.len(), 15);
-    for start in &program.starts {
-        assert_eq!(rt; *start, 0);
-    }
-    let empty = check(rt.alloc(), tree(&rt, rt.alloc(), &[(1, None, Ends)])?)?;
-    assert_eq!(rt; empty.starts.len(), 0);
-    Ok(())
 }

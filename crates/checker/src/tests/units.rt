@@ -1,110 +1,49 @@
 // Units of WRITE statements.
 
-use super::building::{binary, of_two, one, operand, paren, plain, signed};
-use crate::check;
-use meaning::refusal::{Refusal, Rule};
-use meaning::syntax::{Expr, Operator, Shape, Sign, Tree, Unit};
-use std::alloc::{AllocError, Global};
-use std::process::Abort;
-use std::test::Fail;
+use super::building::{checked, refuses};
+use meaning::refusal::Rule;
 
-/// `WRITE(unit,10)I`, its format and END.
-fn writing(rt: &impl Abort, alloc: Global, unit: Unit) -> Result<Tree, AllocError> {
-    let write = Shape::Write {
-        unit,
-        label: Vec::from_slice(alloc, b"10")?,
-        list: one(alloc, operand(alloc, b"I")?)?,
-    };
-    let format = Shape::Format(Vec::from_slice(alloc, b"I5")?);
-    let mut body = Vec::new(alloc);
-    body.push(plain(rt, 4, None, write))?;
-    body.push(plain(rt, 5, Some(10), format))?;
-    body.push(plain(rt, 6, None, Shape::End))?;
-    Ok(Tree { body })
-}
+/// What stands behind the unit: `WRITE(unit,10)I`, its format and END.
+const BEHIND: &str = "I WRITE/10 @5 #10 FORMAT/I5 @6 END";
 
-fn accepts(rt: &impl Abort, alloc: Global, unit: Expr) -> Result<(), AllocError> {
-    let unit = writing(rt, alloc, Unit::Number(unit))?;
-    assert_eq!(rt; check(alloc, unit).err(), None);
-    Ok(())
-}
+/// The last is an asterisk.
+const OF_VALUE_SIX: [&str; 10] = [
+    "6",
+    "0006",
+    "6 pos",
+    "3 3 +",
+    "3 2 *",
+    "12 6 -",
+    "0 0 6 - -",
+    "6 neg 12 +",
+    "6 ()",
+    "",
+];
 
-fn refuses(rt: &impl Abort, alloc: Global, unit: Expr) -> Result<(), AllocError> {
-    let unit = writing(rt, alloc, Unit::Number(unit))?;
-    let told = Refusal::Rule {
-        rule: Rule::K11,
-        line: 4,
-    };
-    assert_eq!(rt; check(alloc, unit).err(), Some(told));
-    Ok(())
-}
-
-#[test]
-fn of_value_six(rt: HostRuntime) -> Result<(), Fail> {
-    let alloc = rt.alloc();
-    accepts(&rt, alloc, operand(alloc, b"6")?)?;
-    accepts(&rt, alloc, operand(alloc, b"0006")?)?;
-    accepts(
-        &rt,
-        alloc,
-        signed(alloc, Sign::Plus, operand(alloc, b"6")?)?,
-    )?;
-    accepts(&rt, alloc, of_two(alloc, b"3", Operator::Add, b"3")?)?;
-    accepts(&rt, alloc, of_two(alloc, b"3", Operator::Multiply, b"2")?)?;
-    accepts(&rt, alloc, of_two(alloc, b"12", Operator::Subtract, b"6")?)?;
-    let below = of_two(alloc, b"0", Operator::Subtract, b"6")?;
-    accepts(
-        &rt,
-        alloc,
-        binary(alloc, operand(alloc, b"0")?, Operator::Subtract, below)?,
-    )?;
-    let minus_six = signed(alloc, Sign::Minus, operand(alloc, b"6")?)?;
-    accepts(
-        &rt,
-        alloc,
-        binary(alloc, minus_six, Operator::Add, operand(alloc, b"12")?)?,
-    )?;
-    accepts(&rt, alloc, paren(alloc, operand(alloc, b"6")?)?)?;
-    let star = writing(&rt, alloc, Unit::Star)?;
-    assert_eq!(rt; check(alloc, star).err(), None);
-    Ok(())
-}
-
-#[test]
-fn of_other_values(rt: HostRuntime) -> Result<(), Fail> {
-    let alloc = rt.alloc();
-    refuses(&rt, alloc, operand(alloc, b"5")?)?;
-    refuses(&rt, alloc, operand(alloc, b"7")?)?;
-    refuses(&rt, alloc, operand(alloc, b"0")?)?;
-    refuses(
-        &rt,
-        alloc,
-        signed(alloc, Sign::Minus, operand(alloc, b"6")?)?,
-    )?;
-    refuses(&rt, alloc, of_two(alloc, b"3", Operator::Add, b"4")?)?;
-    refuses(&rt, alloc, of_two(alloc, b"6", Operator::Subtract, b"12")?)?;
+const OTHERS: [&str; 12] = [
+    "5",
+    "7",
+    "0",
+    "6 neg",
+    "3 4 +",
+    "6 12 -",
     // The sum is outside the range of INTEGER.
-    refuses(
-        &rt,
-        alloc,
-        of_two(alloc, b"2147483647", Operator::Add, b"1")?,
-    )?;
-    Ok(())
-}
+    "2147483647 1 +",
+    // A name isn't allowed, though its variable is 0 at the start.
+    "I",
+    "I 6 +",
+    "6 N -",
+    "J neg",
+    "6 I + ()",
+];
 
-/// A name isn't allowed, though its variable is 0 at the start.
 #[test]
-fn with_names(rt: HostRuntime) -> Result<(), Fail> {
-    let alloc = rt.alloc();
-    refuses(&rt, alloc, operand(alloc, b"I")?)?;
-    refuses(&rt, alloc, of_two(alloc, b"I", Operator::Add, b"6")?)?;
-    refuses(&rt, alloc, of_two(alloc, b"6", Operator::Subtract, b"N")?)?;
-    refuses(
-        &rt,
-        alloc,
-        signed(alloc, Sign::Minus, operand(alloc, b"J")?)?,
-    )?;
-    let sum = of_two(alloc, b"6", Operator::Add, b"I")?;
-    refuses(&rt, alloc, paren(alloc, sum)?)?;
-    Ok(())
+fn units(rt: HostRuntime) {
+    for unit in OF_VALUE_SIX {
+        let program = checked(&rt, rt.alloc(), &["@4", unit, BEHIND]);
+        assert_eq!(rt; program.names.len(), 1, "{unit}");
+    }
+    for unit in OTHERS {
+        refuses(&rt, rt.alloc(), &["@4", unit, BEHIND], Rule::K11, 4);
+    }
 }
