@@ -15,7 +15,7 @@ use Rattle.meaning.specs.Refusals.{unless, with_first}
 use Rattle.meaning.specs.Lines.{lines_of, is_initial, label_field, statement_field, StatementLine, statement_lines}
 use Rattle.meaning.specs.Statements.{Entry, entry_in, groups, continuations, is_too_long, statements_in, statements_of}
 use Rattle.source_columns.specs.Continuing.{rule_behind, first_broken, behind}
-use Rattle.source_columns.proofs.Laws.{continues, continues_not, behind_initial, behind_other, first_broken_next}
+use Rattle.source_columns.proofs.Laws.{continues, behind_initial, behind_other, first_broken_next}
 
 -- columns 7 to 72 of lines, joined
 abbrev pub fields : List StatementLine → List ℕ
@@ -46,12 +46,6 @@ pub text_done : (count : ℕ) (text : List ℕ) (lines : List StatementLine) (to
 unfolding first_broken
 text_done count text lines total none so_far =
     sym so_far ∙ rw none (ap (λ (xs : List ℕ). Ok xs) (append-nil text))
-
-pub none_left : (lines : List StatementLine) → lines ≡ [] → continuations lines ≡ []
-none_left lines none = rw none refl
-
-pub initial_left : (line : StatementLine) (lines ls : List StatementLine) → lines ≡ line ∷ ls → is_initial line.columns ≡ true → continuations lines ≡ []
-initial_left line lines ls parts e = rw parts (continues_not line ls e)
 
 pub left_done : (lines : List StatementLine) → continuations lines ≡ [] → behind lines ≡ lines
 unfolding behind

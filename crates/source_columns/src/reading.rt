@@ -14,7 +14,7 @@ use crate::cards::{
 };
 use crate::labels::{is_label_or_blank, label_in};
 use crate::lines::line_count;
-use crate::statement_lines::{StatementLine, first_statement_line};
+use crate::statement_lines::{StatementLine, first_continuation_line, first_statement_line};
 use meaning::refusal::{Refusal, Rule};
 use meaning::statement::Statement;
 use std::alloc::Global;
@@ -61,10 +61,7 @@ fn is_text_paired(first: &StatementLine) -> bool
     let mut paired = is_paired(text_columns(&first.columns));
     let mut number = first.number + 1;
     let mut rest = first.behind;
-    while let Some(line) = first_statement_line(number, rest) {
-        if is_initial_line(&line.columns) {
-            return paired;
-        }
+    while let Some(line) = first_continuation_line(number, rest) {
         if !is_paired(text_columns(&line.columns)) {
             paired = !paired;
         }
@@ -101,23 +98,20 @@ fn rule_broken(count: usize, columns: &[u8; COLUMNS]) -> Option<Rule>
 }
 
 /// The text of a statement, whose initial line holds the text so far, and what stands behind its continuation lines.
-fn joined_text<'a>(text: Vec<u8>, number: u32, source: &'a [u8]) -> Result<Continued<'a>, Refusal>
-    requires counted { number + length (lines_of source.now) ≤ 65536 }
+fn joined_text<'a>(text: Vec<u8>, first: u32, source: &'a [u8]) -> Result<Continued<'a>, Refusal>
+    requires counted { first + length (lines_of source.now) ≤ 65536 }
     requires one_line { vec_len text ≡ 66 }
-    ensures joined { Gives (λ c. c.text.items) result (unless (first_broken 0 (continuations (statement_lines number (lines_of source.now)))) (text.items ++ flat_map (λ l. statement_field l.columns) (continuations (statement_lines number (lines_of source.now))))) }
-    ensures behind { IfOk result (λ c. statement_lines c.number (lines_of c.behind.now) ≡ behind (statement_lines number (lines_of source.now))) }
+    ensures joined { Gives (λ c. c.text.items) result (unless (first_broken 0 (continuations (statement_lines first (lines_of source.now)))) (text.items ++ flat_map (λ l. statement_field l.columns) (continuations (statement_lines first (lines_of source.now))))) }
+    ensures behind { IfOk result (λ c. statement_lines c.number (lines_of c.behind.now) ≡ behind (statement_lines first (lines_of source.now))) }
     ensures counted { IfOk result (λ c. c.number + length (lines_of c.behind.now) ≤ 65536) }
     ensures short { IfOk result (λ c. vec_len c.text ≤ 1320) }
     ensures shorter { IfOk result (λ c. length c.behind.now ≤ length source.now) }
 {
     let mut text = text;
     let mut count = 0;
-    let mut number = number;
+    let mut number = first;
     let mut rest = source;
-    while let Some(line) = first_statement_line(number, rest) {
-        if is_initial_line(&line.columns) {
-            break;
-        }
+    while let Some(line) = first_continuation_line(number, rest) {
         if let Some(rule) = rule_broken(count, &line.columns) {
             return Err(broken(line.number, rule));
         }

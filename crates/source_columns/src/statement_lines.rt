@@ -1,10 +1,11 @@
 //! The lines of a source that are no comments (ANSI X3.9-1978, 3.2).
 
-ghost use Rattle.std.specs.Prelude.{◌≡◌, ◌+◌, ◌≤◌, ◌<◌, ◌∷◌, [], length, MatchOption};
-ghost use Rattle.meaning.specs.Lines.{lines_of, statement_lines};
+ghost use Rattle.std.specs.Prelude.{◌≡◌, ◌+◌, ◌≤◌, ◌<◌, ◌∷◌, [], length, false, MatchOption};
+ghost use Rattle.meaning.specs.Lines.{lines_of, is_initial, statement_lines};
+ghost use Rattle.meaning.specs.Statements.{continuations};
 ghost use Rattle.source_columns.specs.Views.{line_of};
 
-use crate::cards::{COLUMNS, card_of, is_comment_line};
+use crate::cards::{COLUMNS, card_of, is_comment_line, is_initial_line};
 use crate::lines::first_line;
 
 /// An initial line or a continuation line, and what stands behind it.
@@ -40,4 +41,20 @@ pub fn first_statement_line(number: u32, source: &[u8]) -> Option<StatementLine>
         rest = behind;
     }
     None
+}
+
+/// The first line of a source that is no comment, if it is a continuation line, where the source begins with the line of
+/// this number.
+pub fn first_continuation_line(number: u32, source: &[u8]) -> Option<StatementLine>
+    requires { number + length (lines_of source.now) ≤ 65536 }
+    ensures first { MatchOption result (continuations (statement_lines number (lines_of source.now)) ≡ []) (λ l. statement_lines number (lines_of source.now) ≡ line_of l ∷ statement_lines (l.number + 1) (lines_of l.behind.now)) }
+    ensures continues { MatchOption result (Unit {0}) (λ l. is_initial l.columns ≡ false) }
+    ensures counted { MatchOption result (Unit {0}) (λ l. l.number + 1 + length (lines_of l.behind.now) ≤ 65536) }
+    ensures shorter { MatchOption result (Unit {0}) (λ l. length l.behind.now < length source.now) }
+{
+    let line = first_statement_line(number, source)?;
+    if is_initial_line(&line.columns) {
+        return None;
+    }
+    Some(line)
 }
