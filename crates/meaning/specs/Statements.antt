@@ -1,5 +1,5 @@
 -- The statements of a source, and the rules on lines (ANSI X3.9-1978, 3.2 to 3.4).
-use Rattle.std.specs.Prelude.{ℕ, ◌%◌, Bool, true, false, ◌&&◌, ◌||◌, not, List, [], ◌∷◌, ◌++◌, map, drop, length, nat_lt, nat_le, ◌==◌, if◌then◌else◌, Option, Some, None, Result, Err, count_by}
+use Rattle.std.specs.Prelude.{◌≡◌, ℕ, ◌%◌, Bool, true, false, ◌&&◌, ◌||◌, not, List, [], ◌∷◌, ◌++◌, map, drop, length, nat_lt, nat_le, ◌==◌, if◌then◌else◌, Option, Some, None, Result, Err, count_by}
 use Rattle.std.specs.List.{list_all, list_any, filter, flat_map, take_while}
 use Rattle.meaning.specs.declared.refusal.Broken.{Broken}
 use Rattle.meaning.specs.declared.refusal.Rule.{Rule}
@@ -20,6 +20,9 @@ pub record Group : Type 0 where
   pub initial : StatementLine
   pub continued : List StatementLine
 
+abbrev pub lines_in : Group → List StatementLine
+lines_in g = g.initial ∷ g.continued
+
 -- a group for each initial line
 unfoldable pub groups : List StatementLine → List Group
 groups [] = []
@@ -28,7 +31,15 @@ groups (l ∷ ls) =
 
 -- columns 7 to 72 of the lines, joined
 abbrev pub text_of : Group → List ℕ
-text_of g = flat_map (λ l. statement_field l.columns) (g.initial ∷ g.continued)
+text_of g = flat_map (λ l. statement_field l.columns) (lines_in g)
+
+abbrev pub is_group : Group → Bool
+is_group g = is_initial g.initial.columns && list_all (λ l. not (is_initial l.columns)) g.continued
+
+-- the lines, in order, are those with no initial line before them and then the groups
+pub record IsGrouped (ls : List StatementLine) : Type 0 where
+  pub in_order : continuations ls ++ flat_map lines_in (groups ls) ≡ ls
+  pub formed : list_all is_group (groups ls) ≡ true
 
 -- the statement label in columns 1 to 5 (3.4): their digits, without the blanks
 abbrev pub label_of : List ℕ → Option ℕ
@@ -76,7 +87,7 @@ broken_in_line l =
 abbrev pub broken_alone : StatementLine → Broken
 broken_alone l = record { line = l.line; rule = C4 }
 
--- the first of the lines past the nineteenth continuation line
+-- the first of the continuation lines past the nineteenth
 abbrev pub broken_past : List StatementLine → List Broken
 broken_past [] = []
 broken_past (l ∷ ls) = record { line = l.line; rule = C5 } ∷ []
