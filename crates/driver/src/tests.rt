@@ -86,6 +86,11 @@ fn worked_programs(rt: HostRuntime) {
             "C \u{e9}\n      k = 2 * 3 - 10\n      w r i t e (6, 0 1 0) k                                               X\n   10 f o r m a t (i 3)\n* THE END\n      e n d\n",
             " -4\n",
         ),
+        // nor has where a statement is cut into lines
+        (
+            "      WRI\n* here\n     1TE (6,1\n     20) 4\n     X2\n   10 FORMAT (1X,\n\n     1I5)\n      END\n",
+            FORTY_TWO,
+        ),
         // a sign takes a whole term, and operators of one level group from the left
         (
             "      I=5\n      WRITE (6,10) -I*2+1,I-1-2,+7\n   10 FORMAT (3I4)\n      END\n",
@@ -111,7 +116,13 @@ fn refused_sources(rt: HostRuntime) {
         ("      I=\t1\n      END\n", Rule::C1, 1),
         ("   A  I=1\n      END\n", Rule::C2, 1),
         ("  00  I=1\n      END\n", Rule::C2, 1),
-        ("      I=1\n     1+2\n      END\n", Rule::C4, 2),
+        ("      I=1\n1    1+2\n      END\n", Rule::C3, 2),
+        ("     1+2\n      END\n", Rule::C4, 1),
+        (
+            "      I=1\n     1+1\n     1+1\n     1+1\n     1+1\n     1+1\n     1+1\n     1+1\n     1+1\n     1+1\n     1+1\n     1+1\n     1+1\n     1+1\n     1+1\n     1+1\n     1+1\n     1+1\n     1+1\n     1+1\n     1+1\n      END\n",
+            Rule::C5,
+            21,
+        ),
         ("      I='A\n      END\n", Rule::C6, 1),
         ("      I='A'\n      END\n", Rule::G1, 1),
         ("      READ (5,*) N\n      END\n", Rule::G2, 1),

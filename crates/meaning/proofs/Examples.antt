@@ -5,14 +5,14 @@ use Rattle.std.specs.Fmt.{digits}
 use Rattle.meaning.specs.declared.syntax.Sign.TheVariants as signs
 use Rattle.meaning.specs.declared.syntax.Operator.TheVariants as operators
 use Rattle.meaning.specs.declared.syntax.Kind.TheVariants as kinds
-use Rattle.meaning.specs.declared.refusal.Rule.TheVariants.{G1, G2}
+use Rattle.meaning.specs.declared.refusal.Rule.TheVariants.{C3, C4, C5, C6, G1, G2}
 use Rattle.meaning.specs.declared.ending.Ending.TheVariants as endings
 use Rattle.meaning.specs.declared.ending.Value.TheVariants as values
 use Rattle.meaning.specs.declared.ending.FaultKind.TheVariants.{F7}
 use Rattle.meaning.specs.Syntax.{number, name, signed, binary, paren, no_exprs, assignment, doing}
 use Rattle.meaning.specs.Answers.{answer, program_of, members_of, run_of}
-use Rattle.meaning.specs.Statements.{statements_of, broken_lines, entries}
-use Rattle.meaning.specs.Lines.{lines_of, pieces, without_return, card}
+use Rattle.meaning.specs.Statements.{statements_of, statements_in, groups}
+use Rattle.meaning.specs.Lines.{lines_of, pieces, without_return, card, statement_lines}
 use Rattle.meaning.specs.BareText.{bare, bare_behind}
 use Rattle.meaning.specs.Reading.{read_shape, shape_of, assignment_of, writing_of, format_of, ending_of, before_last_parenthesis, doing_of, continuing_of, typing_of, declarator_at, dimensions_at, bounds_at, separated_at, name_or_element_at, subscripts_at, exprs_at, limits_at, comma_at, label_at, unit_at, list_of, expressions_at, whole_expression_at, expression_at, operations_at, front_at, primary_at, paren_at, name_at, operator_at, sign_at, run, after, most_open, is_left_out}
 use Rattle.meaning.specs.Kinds.{kind_of, marks_at, has_limits}
@@ -29,7 +29,7 @@ use Rattle.meaning.specs.Records.{edited, outcome_of, written, text_of, laid, co
 
 -- every definition that stays folded elsewhere
 all_definitions : Unit {0}
-unfolding answer program_of members_of statements_of lines_of pieces without_return card broken_lines entries bare bare_behind read_shape shape_of kind_of marks_at has_limits assignment_of writing_of format_of ending_of doing_of continuing_of typing_of declarator_at dimensions_at bounds_at separated_at name_or_element_at subscripts_at exprs_at limits_at comma_at paren_at balanced before_last_parenthesis label_at unit_at list_of expressions_at whole_expression_at expression_at operations_at front_at primary_at name_at operator_at sign_at run after most_open is_left_out nest past breaks missing_end checked repeated_labels reset_variables repeats disputed_names have_too_large large_arrays dimensions_given arrays_by descriptors_of descriptors_at descriptor_at behind_count run_of exec fuelled pass_over looped fold_trips goes_on span_of format_found with_ok turn more value values_of integer put start map_by edited outcome_of written text_of laid course digits
+unfolding answer program_of members_of statements_of lines_of pieces without_return card statement_lines statements_in groups bare bare_behind read_shape shape_of kind_of marks_at has_limits assignment_of writing_of format_of ending_of doing_of continuing_of typing_of declarator_at dimensions_at bounds_at separated_at name_or_element_at subscripts_at exprs_at limits_at comma_at paren_at balanced before_last_parenthesis label_at unit_at list_of expressions_at whole_expression_at expression_at operations_at front_at primary_at name_at operator_at sign_at run after most_open is_left_out nest past breaks missing_end checked repeated_labels reset_variables repeats disputed_names have_too_large large_arrays dimensions_given arrays_by descriptors_of descriptors_at descriptor_at behind_count run_of exec fuelled pass_over looped fold_trips goes_on span_of format_found with_ok turn more value values_of integer put start map_by edited outcome_of written text_of laid course digits
 all_definitions = tt
 
 -- blanks have no meaning outside apostrophes, and letters are raised there
@@ -122,6 +122,33 @@ first_program = codes "      WRITE (6,10) 42\n   10 FORMAT (1X,I5)\n      END\n"
 first_answer : answer first_program 1000000000 ≡ record { pieces = codes "    42\n" ∷ []; ending = endings.Ended }
 unfolding all_definitions
 first_answer = refl
+
+-- the same, cut into lines in the middle of a name and of a number, with a comment between
+abbrev cut_program : List ℕ
+cut_program =
+    codes "      WRI\nC\n     1TE (6,1\n     20) 42\n   10 FORMAT (1X,I5)\n      END\n"
+
+cut_answer : answer cut_program 1000000000 ≡ answer first_program 1000000000
+unfolding all_definitions
+cut_answer = refl
+
+-- the apostrophes are counted over all lines of a statement, and C6 is told at the initial line
+unpaired_text : statements_of (codes "C\n      I='\n     1'A'\nC'\n      END\n") ≡ Err (record { line = 2; rule = C6 })
+unfolding all_definitions
+unpaired_text = refl
+
+nothing_continued : statements_of (codes "C\n     1 END\n      END\n") ≡ Err (record { line = 2; rule = C4 })
+unfolding all_definitions
+nothing_continued = refl
+
+label_continued : statements_of (codes "      END\n    1X\n") ≡ Err (record { line = 2; rule = C3 })
+unfolding all_definitions
+label_continued = refl
+
+-- an initial line and twenty continuation lines
+too_many_lines : statements_of (codes "      E\n     1\n     1\n     1\n     1\n     1\n     1\n     1\n     1\n     1\n     1\n     1\n     1\n     1\n     1\n     1\n     1\n     1\n     1\n     1\n     1\n") ≡ Err (record { line = 21; rule = C5 })
+unfolding all_definitions
+too_many_lines = refl
 
 -- a DO statement whose terminal statement is shared: after the last trip each variable is one step on
 abbrev shared_terminal : List ℕ

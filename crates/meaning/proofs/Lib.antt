@@ -6,3 +6,4 @@ pub mod Examples
 pub mod Stores
 pub mod Maps
 pub mod Elements
+pub mod Groups

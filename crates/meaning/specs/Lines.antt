@@ -1,5 +1,5 @@
 -- The lines of a source, their columns and their classes (ANSI X3.9-1978, 3.2).
-use Rattle.std.specs.Prelude.{ℕ, Bool, ◌||◌, List, [], ◌∷◌, ◌++◌, map, take, drop, replicate, get_or, ◌==◌, if◌then◌else◌}
+use Rattle.std.specs.Prelude.{ℕ, ◌+◌, Bool, ◌||◌, List, [], ◌∷◌, ◌++◌, map, take, drop, replicate, get_or, ◌==◌, if◌then◌else◌}
 use Rattle.std.specs.List.{list_all}
 use Rattle.meaning.specs.Characters.{blank}
 
@@ -36,18 +36,24 @@ continuation_field columns = get_or columns 5 blank
 abbrev pub statement_field : List ℕ → List ℕ
 statement_field columns = drop 6 columns
 
-pub data Class : Type 0 where
-  comment : Class
-  initial : Class
-  continuation : Class
-
--- a comment line has C or an asterisk in column 1, or blanks alone (3.2.1); of the others an initial line has a blank
--- or 0 in column 6 (3.2.2), and a continuation line any other character (3.2.3)
+-- a comment line has C or an asterisk in column 1, or blanks alone (3.2.1)
 abbrev pub is_comment : List ℕ → Bool
 is_comment columns =
     (get_or columns 0 blank == 67) || (get_or columns 0 blank == 99) || (get_or columns 0 blank == 42) || list_all (λ c. c == blank) columns
 
-abbrev pub class_of : List ℕ → Class
-class_of columns =
-    if is_comment columns then comment
-    else (if (continuation_field columns == blank) || (continuation_field columns == 48) then initial else continuation)
+-- of the other lines an initial line has a blank or 0 in column 6 (3.2.2), and a continuation line any other character
+-- (3.2.3)
+abbrev pub is_initial : List ℕ → Bool
+is_initial columns = (continuation_field columns == blank) || (continuation_field columns == 48)
+
+-- a line that is no comment: its number and its columns
+pub record StatementLine : Type 0 where
+  pub line : ℕ
+  pub columns : List ℕ
+
+-- the lines that are no comments; comments are counted, and the first line has this number
+unfoldable pub statement_lines : ℕ → List (List ℕ) → List StatementLine
+statement_lines line [] = []
+statement_lines line (l ∷ ls) =
+    if is_comment (card l) then statement_lines (line + 1) ls
+    else record { line = line; columns = card l } ∷ statement_lines (line + 1) ls

@@ -1,8 +1,17 @@
-//! Laws of execution and of cells (ANSI X3.9-1978, chapters 5 and 10 to 12), for those who build on their parts.
+//! Laws of lines, of execution and of cells (ANSI X3.9-1978, chapters 3, 5 and 10 to 12), for those who build on their
+//! parts.
 
 ghost use Rattle.std.specs.Prelude.{List};
 ghost use Rattle.meaning.specs.Arrays.{Dimension, Named, AreOneToOne, HaveOwnCells};
+ghost use Rattle.meaning.specs.Lines.{StatementLine};
+ghost use Rattle.meaning.specs.Statements.{IsGrouped};
 ghost use Rattle.meaning.specs.Turns.{IsItsPass, UsesWhatIsGiven, MoreTurnsChangeNothing, TripsSplit};
+
+/// The lines of a source that are no comments are, in order, those with no initial line before them and then groups of an
+/// initial line and the continuation lines behind it.
+pub fn lines_are_grouped()
+    ensures { (lines : List StatementLine) → IsGrouped lines }
+{}
 
 /// Executing a list of statements is one pass over it, in which each range is executed likewise.
 pub fn execution_is_its_pass()

@@ -15,8 +15,12 @@ pub enum Rule {
     C1,
     /// Columns 1 to 5 of an initial line hold no statement label and aren't blank.
     C2,
-    /// A continuation line that continues nothing.
+    /// A continuation line that isn't blank in columns 1 to 5.
+    C3,
+    /// A continuation line with no initial line before it.
     C4,
+    /// More than 19 continuation lines.
+    C5,
     /// An odd number of apostrophes in a statement.
     C6,
     /// A source that is too long.
@@ -65,9 +69,9 @@ impl Rule {
         match self {
             Rule::C1 | Rule::G1 | Rule::N1 | Rule::K1 => 1,
             Rule::C2 | Rule::G2 | Rule::N2 => 2,
-            Rule::G3 | Rule::K3 => 3,
+            Rule::C3 | Rule::G3 | Rule::K3 => 3,
             Rule::C4 | Rule::N4 | Rule::K4 => 4,
-            Rule::N5 => 5,
+            Rule::C5 | Rule::N5 => 5,
             Rule::C6 | Rule::K6 => 6,
             Rule::C7 | Rule::K7 => 7,
             Rule::K8 => 8,
@@ -84,7 +88,9 @@ impl fmt::Display for Rule {
         let name = match self {
             Rule::C1 => "C1",
             Rule::C2 => "C2",
+            Rule::C3 => "C3",
             Rule::C4 => "C4",
+            Rule::C5 => "C5",
             Rule::C6 => "C6",
             Rule::C7 => "C7",
             Rule::G1 => "G1",

@@ -1,6 +1,6 @@
 use crate::laws::{
-    cells_are_own, elements_have_places, execution_is_its_pass, more_turns_change_nothing,
-    trips_split, turns_used_are_given,
+    cells_are_own, elements_have_places, execution_is_its_pass, lines_are_grouped,
+    more_turns_change_nothing, trips_split, turns_used_are_given,
 };
 use crate::number::number;
 use crate::refusal::{Broken, Rule, lesser};
@@ -44,6 +44,7 @@ fn lesser_pairs(rt: HostRuntime) {
 
 #[test]
 fn laws_can_be_called() {
+    lines_are_grouped();
     execution_is_its_pass();
     turns_used_are_given();
     more_turns_change_nothing();

@@ -1,4 +1,7 @@
 pub mod Pieces
 pub mod Fields
 pub mod Order
-pub mod Rest
+pub mod Ascending
+pub mod Laws
+pub mod Apostrophes
+pub mod Texts

@@ -3,8 +3,8 @@
 ghost use Rattle.std.specs.Prelude.{◌≡◌, ◌≤◌, ◌==◌, ◌||◌, length, drop, ◌++◌, not};
 ghost use Rattle.std.specs.List.{list_all};
 ghost use Rattle.meaning.specs.Characters.{blank};
-ghost use Rattle.meaning.specs.Lines.{card, is_comment, label_field, continuation_field, statement_field};
-ghost use Rattle.meaning.specs.Statements.{is_unpaired, is_printable};
+ghost use Rattle.meaning.specs.Lines.{card, is_comment, is_initial, label_field, statement_field};
+ghost use Rattle.meaning.specs.Statements.{is_unpaired, is_printable, is_blank_field};
 
 /// The columns of a line that are read.
 pub const COLUMNS: usize = 72;
@@ -27,9 +27,9 @@ fn put(columns: &mut [u8], front: &[u8])
     columns[..front.len()].copy_from_slice(front);
 }
 
-/// Whether each column is blank.
-fn is_blank(columns: &[u8]) -> bool
-    ensures { result ≡ list_all (λ c. c == blank) columns.now }
+/// Whether columns are blank.
+pub fn is_blank(columns: &[u8]) -> bool
+    ensures { result ≡ is_blank_field columns.now }
 {
     columns.iter().all(|c| *c == b' ')
 }
@@ -44,7 +44,7 @@ pub fn is_comment_line(columns: &[u8; COLUMNS]) -> bool
 
 /// Whether a line that is no comment is an initial line.
 pub fn is_initial_line(columns: &[u8; COLUMNS]) -> bool
-    ensures { result ≡ ((continuation_field columns.now == blank) || (continuation_field columns.now == 48)) }
+    ensures { result ≡ is_initial columns.now }
 {
     columns[5] == b' ' || columns[5] == b'0'
 }

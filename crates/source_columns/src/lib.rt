@@ -5,6 +5,7 @@ mod cards;
 mod labels;
 mod lines;
 mod reading;
+mod statement_lines;
 
 pub use reading::statements;
 

@@ -1,17 +1,20 @@
 //! The statements of a source, or the rule that it breaks (ANSI X3.9-1978, 3.2 to 3.4).
 
-ghost use Rattle.std.specs.Prelude.{◌≡◌, map, option_to_list};
-ghost use Rattle.meaning.specs.Lines.{class_of};
-ghost use Rattle.meaning.specs.Refusals.{least, unless};
-ghost use Rattle.meaning.specs.Reports.{Gives};
-ghost use Rattle.meaning.specs.Statements.{broken_in_class, entry_in_class, entry_of, is_too_long, statements_of};
+ghost use Rattle.std.specs.Prelude.{◌≡◌, ◌+◌, ◌≤◌, ◌<◌, ◌∷◌, ◌++◌, [], map, not, length, IfOk, MatchResult, vec_len, if◌then◌else◌};
+ghost use Rattle.std.specs.List.{flat_map};
+ghost use Rattle.meaning.specs.Lines.{lines_of, statement_field, statement_lines};
+ghost use Rattle.meaning.specs.Refusals.{unless, with_first};
+ghost use Rattle.meaning.specs.Reports.{Gives, Tells};
+ghost use Rattle.meaning.specs.Statements.{is_blank_field, is_unpaired, text_of, continuations, entry_of, is_too_long, statements_in, statements_of};
+ghost use Rattle.source_columns.specs.Views.{line_of};
+ghost use Rattle.source_columns.specs.Continuing.{rule_behind, first_broken, behind};
 
 use crate::cards::{
-    COLUMNS, are_printable, card_of, is_comment_line, is_initial_line, is_paired, label_columns,
-    text_columns,
+    COLUMNS, are_printable, is_blank, is_initial_line, is_paired, label_columns, text_columns,
 };
 use crate::labels::{is_label_or_blank, label_in};
-use crate::lines::{first_line, line_count};
+use crate::lines::line_count;
+use crate::statement_lines::{StatementLine, first_continuation_line, first_statement_line};
 use meaning::refusal::{Refusal, Rule};
 use meaning::statement::Statement;
 use std::alloc::Global;
@@ -22,6 +25,27 @@ const MAX_BYTES: usize = 1_048_576;
 /// The most lines that a source may have.
 const MAX_LINES: usize = 65_535;
 
+/// The most continuation lines that a statement may have.
+const MAX_CONTINUATIONS: usize = 19;
+
+/// A statement, and what stands behind it.
+#[derive(Drop)]
+struct Split<'a> {
+    statement: Statement,
+    /// The number of the first line behind it.
+    number: u32,
+    behind: &'a [u8],
+}
+
+/// The text of a statement, and what stands behind it.
+#[derive(Drop)]
+struct Continued<'a> {
+    text: Vec<u8>,
+    /// The number of the first line behind it.
+    number: u32,
+    behind: &'a [u8],
+}
+
 /// The refusal for a rule that is broken at a line.
 fn broken(line: u32, rule: Rule) -> Refusal
     ensures { result ≡ Refusal.Rule rule line }
@@ -29,37 +53,116 @@ fn broken(line: u32, rule: Rule) -> Refusal
     Refusal::Rule { rule, line }
 }
 
-/// The statement that a line holds, if it is no comment line, or the least rule that it breaks.
-fn statement_at(
-    alloc: Global,
-    line: u32,
-    card: &[u8; COLUMNS],
-) -> Result<Option<Statement>, Refusal>
-    ensures { Gives (λ o. map entry_of (option_to_list o)) result (unless (least (broken_in_class (class_of card.now) line card.now)) (entry_in_class (class_of card.now) line card.now)) }
+/// Whether the apostrophes of a statement come in pairs, over all its lines.
+fn is_text_paired(first: &StatementLine) -> bool
+    requires { first.now.number + 1 + length (lines_of first.now.behind.now) ≤ 65536 }
+    ensures { result ≡ not (is_unpaired (text_of (record { initial = line_of first.now; continued = continuations (statement_lines (first.now.number + 1) (lines_of first.now.behind.now)) }))) }
 {
-    if is_comment_line(card) {
-        return Ok(None);
+    let mut paired = is_paired(text_columns(&first.columns));
+    let mut number = first.number + 1;
+    let mut rest = first.behind;
+    while let Some(line) = first_continuation_line(number, rest) {
+        if !is_paired(text_columns(&line.columns)) {
+            paired = !paired;
+        }
+        number = line.number + 1;
+        rest = line.behind;
     }
-    if !are_printable(card) {
-        return Err(broken(line, Rule::C1));
+    paired
+}
+
+/// The rule that a continuation line with no initial line before it breaks.
+fn rule_alone(label_columns: &[u8]) -> Rule
+    ensures { result ≡ (if is_blank_field label_columns.now then Rule.C4 else Rule.C3) }
+{
+    if is_blank(label_columns) {
+        Rule::C4
+    } else {
+        Rule::C3
     }
-    if !is_initial_line(card) {
-        return Err(broken(line, Rule::C4));
+}
+
+/// The least rule that a continuation line breaks, so many others being before it.
+fn rule_broken(count: usize, columns: &[u8; COLUMNS]) -> Option<Rule>
+    ensures { result ≡ rule_behind count columns.now }
+{
+    if !are_printable(columns) {
+        Some(Rule::C1)
+    } else if !is_blank(label_columns(columns)) {
+        Some(Rule::C3)
+    } else if count == MAX_CONTINUATIONS {
+        Some(Rule::C5)
+    } else {
+        None
     }
-    let label_columns = label_columns(card);
+}
+
+/// The text of a statement, whose initial line holds the text so far, and what stands behind its continuation lines.
+fn joined_text<'a>(text: Vec<u8>, first: u32, source: &'a [u8]) -> Result<Continued<'a>, Refusal>
+    requires counted { first + length (lines_of source.now) ≤ 65536 }
+    requires one_line { vec_len text ≡ 66 }
+    ensures joined { Gives (λ c. c.text.items) result (unless (first_broken 0 (continuations (statement_lines first (lines_of source.now)))) (text.items ++ flat_map (λ l. statement_field l.columns) (continuations (statement_lines first (lines_of source.now))))) }
+    ensures behind { IfOk result (λ c. statement_lines c.number (lines_of c.behind.now) ≡ behind (statement_lines first (lines_of source.now))) }
+    ensures counted { IfOk result (λ c. c.number + length (lines_of c.behind.now) ≤ 65536) }
+    ensures short { IfOk result (λ c. vec_len c.text ≤ 1320) }
+    ensures shorter { IfOk result (λ c. length c.behind.now ≤ length source.now) }
+{
+    let mut text = text;
+    let mut count = 0;
+    let mut number = first;
+    let mut rest = source;
+    while let Some(line) = first_continuation_line(number, rest) {
+        if let Some(rule) = rule_broken(count, &line.columns) {
+            return Err(broken(line.number, rule));
+        }
+        text.extend_from_slice(text_columns(&line.columns))?;
+        count += 1;
+        number = line.number + 1;
+        rest = line.behind;
+    }
+    Ok(Continued {
+        text,
+        number,
+        behind: rest,
+    })
+}
+
+/// The statement that a line begins, and what stands behind it, or the least rule that is broken from this line on.
+fn statement_at<'a>(alloc: Global, line: &StatementLine<'a>) -> Result<Split<'a>, Refusal>
+    requires { line.now.number + 1 + length (lines_of line.now.behind.now) ≤ 65536 }
+    ensures exact { MatchResult result (λ s. statements_in (line_of line.now ∷ statement_lines (line.now.number + 1) (lines_of line.now.behind.now)) ≡ with_first (Ok (entry_of s.statement)) (statements_in (statement_lines s.number (lines_of s.behind.now)))) (λ e. Tells (statements_in (line_of line.now ∷ statement_lines (line.now.number + 1) (lines_of line.now.behind.now))) e) }
+    ensures counted { IfOk result (λ s. s.number + length (lines_of s.behind.now) ≤ 65536) }
+    ensures shorter { IfOk result (λ s. length s.behind.now ≤ length line.now.behind.now) }
+{
+    let label_columns = label_columns(&line.columns);
+    if !are_printable(&line.columns) {
+        return Err(broken(line.number, Rule::C1));
+    }
+    if !is_initial_line(&line.columns) {
+        return Err(broken(line.number, rule_alone(label_columns)));
+    }
     if !is_label_or_blank(label_columns) {
-        return Err(broken(line, Rule::C2));
+        return Err(broken(line.number, Rule::C2));
     }
-    let text_columns = text_columns(card);
-    if !is_paired(text_columns) {
-        return Err(broken(line, Rule::C6));
+    if !is_text_paired(line) {
+        return Err(broken(line.number, Rule::C6));
     }
-    let text = Vec::from_slice(alloc, text_columns)?;
-    Ok(Some(Statement {
-        line,
+    let text = Vec::from_slice(alloc, text_columns(&line.columns))?;
+    let Continued {
+        text,
+        number,
+        behind,
+    } = joined_text(text, line.number + 1, line.behind)?;
+    let statement = Statement {
+        line: line.number,
         label: label_in(label_columns),
         text,
-    }))
+    };
+    Ok(Split {
+        statement,
+        number,
+        behind,
+    })
 }
 
 /// Whether a source has too many bytes or too many lines.
@@ -69,13 +172,13 @@ fn is_long(source: &[u8]) -> bool
     source.len() > MAX_BYTES || line_count(source) > MAX_LINES
 }
 
-/// The statements of a source in order, each with the number of its initial line, its label and columns 7 to 72.
-/// Comment lines are counted and left out (ANSI X3.9-1978, 3.2 to 3.4).
+/// The statements of a source in order, each with the number of its initial line, its label and columns 7 to 72 of its
+/// lines. Comment lines are counted and left out (ANSI X3.9-1978, 3.2 to 3.4).
 ///
 /// # Errors
 ///
 /// `Refusal::Rule` with C7 at line 1 if the source is too long; else with the least broken rule of the least line that
-/// breaks one of C1, C2, C4 and C6. `Refusal::Memory` if a growth was refused.
+/// breaks one of C1 to C6. `Refusal::Memory` if a growth was refused.
 pub fn statements(alloc: Global, source: &[u8]) -> Result<Vec<Statement>, Refusal>
     ensures exact { Gives (λ v. map entry_of v.items) result (statements_of source.now) }
 {
@@ -83,14 +186,13 @@ pub fn statements(alloc: Global, source: &[u8]) -> Result<Vec<Statement>, Refusa
         return Err(broken(1, Rule::C7));
     }
     let mut statements = Vec::new(alloc);
-    let mut rest = source;
     let mut number = 1;
-    while let Some((line, behind)) = first_line(rest) {
-        if let Some(statement) = statement_at(alloc, number, &card_of(line))? {
-            statements.push(statement)?;
-        }
-        rest = behind;
-        number += 1;
+    let mut rest = source;
+    while let Some(line) = first_statement_line(number, rest) {
+        let split = statement_at(alloc, &line)?;
+        statements.push(split.statement)?;
+        number = split.number;
+        rest = split.behind;
     }
     Ok(statements)
 }
