@@ -11,7 +11,7 @@ use Rattle.meaning.specs.declared.refusal.Broken.{Broken}
 use Rattle.meaning.specs.declared.refusal.Rule.TheVariants.{K4}
 use Rattle.meaning.specs.declared.syntax.Item.{Item}
 use Rattle.meaning.specs.declared.syntax.Declarator.{Declarator}
-use Rattle.meaning.specs.Syntax.{DeclaratorTree, ExprsTree, no_exprs, exprs, ShapeTree, assignment, writing, format, doing, continuing, typing, ending, ItemTree, declarator_tree}
+use Rattle.meaning.specs.Syntax.{DeclaratorTree, ExprsTree, no_exprs, exprs, ShapeTree, assignment, ItemTree, declarator_tree}
 use Rattle.meaning.specs.Statements.{broken_if}
 use Rattle.meaning.specs.Refusals.{least, merge}
 use Rattle.meaning.specs.Rules.{Use, all_expression_uses, all_uses, bare_use, declarators, declarators_in, disputed_names, elements_set, expression_uses, is_bare_use_of, is_both, is_declared, is_function_use, is_function_use_of, repeats, targets_of, uses_of}
@@ -130,12 +130,7 @@ names_more ms i m now next lt is so_far added =
 none_set : (s : ShapeTree) → found_names is_bare (elements_set s) ≡ []
 none_set (assignment target no_exprs e) = refl
 none_set (assignment target (exprs x xs) e) = refl
-none_set (writing unit label es) = refl
-none_set (format text) = refl
-none_set (doing label comma variable limits) = refl
-none_set continuing = refl
-none_set (typing ds) = refl
-none_set ending = refl
+none_set s = refl
 
 all_bare : (ns : List (List ℕ)) → found_names is_bare (map bare_use ns) ≡ ns
 all_bare [] = refl

@@ -6,7 +6,7 @@ use Rattle.std.proofs.lemmas.List.{length-map}
 use Rattle.std.proofs.lemmas.Bool.{eqb-true, true≢false, false≢true}
 use Rattle.meaning.specs.declared.refusal.Broken.{Broken}
 use Rattle.meaning.specs.declared.refusal.Rule.{Rule}
-use Rattle.meaning.specs.Syntax.{ExprsTree, no_exprs, exprs, DeclaratorTree, ShapeTree, assignment, writing, format, doing, continuing, typing, ending, ItemTree}
+use Rattle.meaning.specs.Syntax.{ExprsTree, no_exprs, exprs, DeclaratorTree, ShapeTree, assignment, doing, ItemTree}
 use Rattle.meaning.specs.Refusals.{least}
 use Rattle.meaning.specs.Statements.{broken_if}
 use Rattle.meaning.specs.Trees.{Nested, flatten}
@@ -73,11 +73,7 @@ module _ (ds : List DeclaratorTree) where
           given_is ds target ∙ element_fits (dimensions_given ds target) (count (exprs a es)) (first_false _ _ misused) (first_false _ _ function)
       by (doing label comma variable limits) misused function =
           given_is ds variable ∙ bare_fits (dimensions_given ds variable) (first_false _ _ misused)
-      by (writing unit label es) misused function = tt
-      by (format text) misused function = tt
-      by continuing misused function = tt
-      by (typing other) misused function = tt
-      by ending misused function = tt
+      by s misused function = tt
 
   fit : (xs : List ItemTree) → flat_map (misused_arrays ds) xs ≡ [] → flat_map (no_elements ds) xs ≡ [] → AllFit (arrays_by ds) xs
   fit [] misused function = tt

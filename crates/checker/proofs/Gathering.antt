@@ -7,7 +7,7 @@ use Rattle.std.proofs.lemmas.List.{map-append, append-nil}
 use Rattle.std.proofs.lemmas.List.Elements.{filter-append}
 use Rattle.std.proofs.lemmas.Grind.{flat_map-append}
 use Rattle.std.proofs.lemmas.Slice.Eq.{bytes_eq-Decides}
-use Rattle.meaning.specs.Syntax.{listed, ExprTree, number, name, signed, binary, paren, element, ExprsTree, no_exprs, exprs}
+use Rattle.meaning.specs.Syntax.{listed, ExprTree, number, truth, name, signed, negated, binary, paren, element, call, ExprsTree, no_exprs, exprs}
 use Rattle.meaning.specs.Rules.{Use, uses_in, uses_in_all}
 use Rattle.checker.specs.Gathered.{found_names}
 use Rattle.checker.specs.Numbered.{names_in, names_in_all, with_name, with_names}
@@ -55,6 +55,9 @@ abbrev mutual
   found_any (binary operator a b) =
       found_append (λ u. true) (uses_in a) (uses_in b) ∙ ap₂ ◌++◌ (found_any a) (found_any b)
   found_any (paren e) = found_any e
+  found_any (call letters) = refl
+  found_any (truth value) = refl
+  found_any (negated e) = found_any e
   found_any (element letters es) = ap (λ ns. letters ∷ ns) (found_any_all es)
 
   found_any_all : (es : ExprsTree) → all_found (uses_in_all es) ≡ names_in_all es

@@ -1,7 +1,7 @@
 -- What a checked program is: its statements with their variables and arrays numbered and their formats read.
 use Rattle.std.specs.Prelude.{◌≡◌, ◌≤◌, ◌<◌, ◌^◌, ℕ, pos, List, [], None, length, map, replicate}
 use Rattle.std.specs.List.{AllByRecursion}
-use Rattle.meaning.specs.Syntax.{ShapeTree, assignment, writing, format, doing, continuing, typing, ending, ItemTree}
+use Rattle.meaning.specs.Syntax.{ShapeTree, assignment, doing, ItemTree}
 use Rattle.meaning.specs.Values.{Arrays, dimensions_in}
 use Rattle.meaning.specs.Arrays.{Named, cells_of}
 use Rattle.meaning.specs.Trees.{Nested, nested, flatten}
@@ -27,11 +27,7 @@ named_of_program p = named (arrays_of (flatten (tree_of p))) (names_of_program p
 abbrev pub Fits : Arrays → ShapeTree → Type 0
 Fits arrays (assignment target es e) = length (dimensions_in (arrays target)) ≡ count es
 Fits arrays (doing label comma variable limits) = length (dimensions_in (arrays variable)) ≡ 0
-Fits arrays (writing unit label es) = Unit {0}
-Fits arrays (format text) = Unit {0}
-Fits arrays continuing = Unit {0}
-Fits arrays (typing ds) = Unit {0}
-Fits arrays ending = Unit {0}
+Fits arrays s = Unit {0}
 
 -- each of the statements does
 abbrev pub AllFit : Arrays → List ItemTree → Type 0

@@ -3,12 +3,12 @@ use Rattle.std.specs.Prelude.{◌≡◌, ◌≤◌, ◌^◌, ◌==◌, if◌then
 use Rattle.std.specs.Global.{Vec}
 use Rattle.std.specs.Str.{bytes_eq}
 use Rattle.std.specs.List.{list_any, AllByRecursion}
-use Rattle.meaning.specs.Syntax.{listed, ExprTree, number, name, signed, binary, paren, element, ExprsTree, no_exprs, exprs, ShapeTree, assignment, writing, format, doing, continuing, typing, ending, ItemTree}
+use Rattle.meaning.specs.Syntax.{listed, ExprTree, number, truth, name, signed, negated, binary, paren, element, call, ExprsTree, no_exprs, exprs, ShapeTree, assignment, writing, printing, doing, ItemTree}
 use Rattle.std.specs.Ordering.{nat_cmp}
 use Rattle.std.specs.BTreeMap.{BTreeMap, get}
-use Rattle.meaning.specs.Formats.{Descriptor}
+use Rattle.meaning.specs.Formats.{Parts}
 use Rattle.meaning.specs.Execution.{descriptors_if}
-use Rattle.meaning.specs.Rules.{unit_exprs, limit_exprs, declarators_in, has_format, has_label}
+use Rattle.meaning.specs.Rules.{unit_exprs, item_exprs, limit_exprs, declarators_in, has_format, has_label}
 use Rattle.format_edit.specs.declared.format.Format.{Format}
 use Rattle.format_edit.specs.Formatted.{descriptors}
 
@@ -33,6 +33,9 @@ abbrev mutual
   names_in (binary operator a b) = names_in a ++ names_in b
   names_in (paren e) = names_in e
   names_in (element letters es) = letters ∷ names_in_all es
+  names_in (call letters) = letters ∷ []
+  names_in (truth value) = []
+  names_in (negated e) = names_in e
 
   pub names_in_all : ExprsTree → List (List ℕ)
   names_in_all no_exprs = []
@@ -41,21 +44,15 @@ abbrev mutual
 -- the name that a statement sets, with subscripts or without, and the expressions that it has values of
 abbrev pub names_set : ShapeTree → List (List ℕ)
 names_set (assignment target subscripts e) = target ∷ []
-names_set (writing unit label es) = []
-names_set (format text) = []
 names_set (doing label comma variable limits) = variable ∷ []
-names_set continuing = []
-names_set (typing ds) = []
-names_set ending = []
+names_set s = []
 
 abbrev pub exprs_used : ShapeTree → List ExprTree
 exprs_used (assignment target subscripts e) = listed subscripts ++ e ∷ []
-exprs_used (writing unit label es) = unit_exprs unit ++ es
-exprs_used (format text) = []
+exprs_used (writing control es) = unit_exprs control.unit ++ item_exprs es
+exprs_used (printing source es) = item_exprs es
 exprs_used (doing label comma variable limits) = limit_exprs limits
-exprs_used continuing = []
-exprs_used (typing ds) = []
-exprs_used ending = []
+exprs_used s = []
 
 -- the names that a statement declares
 abbrev pub names_declared : ShapeTree → List (List ℕ)
@@ -90,14 +87,14 @@ pub record KnowsFormats (labels : ℕ → Bool) (all : List ItemTree) : Type 0 w
   pub exact : (s : ℕ) → labels s ≡ has_format all s
   pub small : (s : ℕ) → 2 ^ 32 ≤ s → has_format all s ≡ false
 
--- the descriptors of the format behind a label
-abbrev pub found_in : BTreeMap ℕ Format → ℕ → Option (List Descriptor)
+-- the parts of the format behind a label
+abbrev pub found_in : BTreeMap ℕ Format → ℕ → Option (Parts)
 found_in formats s = option_map descriptors (get nat_cmp formats s)
 
 -- what a statement says of a label's format
-abbrev pub format_here : ℕ → ItemTree → Option (List Descriptor)
+abbrev pub format_here : ℕ → ItemTree → Option (Parts)
 format_here s m = descriptors_if (has_label s m) m.shape
 
--- descriptors, if they stand under the label
-abbrev pub format_under : ℕ → ℕ → Option (List Descriptor) → Option (List Descriptor)
+-- the parts of a format, if they stand under the label
+abbrev pub format_under : ℕ → ℕ → Option (Parts) → Option (Parts)
 format_under label s ds = if label == s then ds else None

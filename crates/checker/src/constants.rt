@@ -24,9 +24,10 @@ fn in_expression(expression: &Expr) -> bool
 {
     match expression {
         Expr::Number(digits) => number(digits) > 2_147_483_647,
-        Expr::Name(_) => false,
+        Expr::Name(_) | Expr::Truth(_) | Expr::Call(_) => false,
         Expr::Signed(_, operand) => in_expression(operand),
         Expr::Binary(_, left, right) => in_expression(left) || in_expression(right),
+        Expr::Not(operand) => in_expression(operand),
         Expr::Paren(operand) => in_expression(operand),
         Expr::Element(_, subscripts) => in_all(subscripts),
     }

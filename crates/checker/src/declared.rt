@@ -15,12 +15,7 @@ pub fn declarators_in(shape: &Shape) -> &[Declarator]
 {
     match shape {
         Shape::Integer(declarators) => declarators,
-        Shape::Assignment { .. } => &[],
-        Shape::Write { .. } => &[],
-        Shape::Format(_) => &[],
-        Shape::Do { .. } => &[],
-        Shape::Continue => &[],
-        Shape::End => &[],
+        _ => &[],
     }
 }
 

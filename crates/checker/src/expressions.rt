@@ -2,10 +2,10 @@
 
 ghost use Rattle.std.specs.Prelude.{◌≡◌, Bool, flat_map, map, option_map};
 ghost use Rattle.std.specs.List.{list_any};
-ghost use Rattle.meaning.specs.Syntax.{ExprTree, bounds_tree, declarator_tree, expr_tree, exprs_trees, limits_tree, shape_tree, unit_tree};
-ghost use Rattle.meaning.specs.Rules.{bounds_exprs, declarator_exprs, exprs_of, limit_exprs, option_exprs, unit_exprs};
+ghost use Rattle.meaning.specs.Syntax.{ExprTree, bounds_tree, declarator_tree, expr_tree, exprs_tree, limits_tree, list_items_tree, listed, shape_tree, unit_tree};
+ghost use Rattle.meaning.specs.Rules.{bounds_exprs, declarator_exprs, exprs_of, item_exprs, limit_exprs, option_exprs, unit_exprs};
 
-use meaning::syntax::{Bounds, Declarator, Expr, Exprs, Limits, Shape, Unit};
+use meaning::syntax::{Bounds, Declarator, Expr, Exprs, Limits, ListItem, ListItems, Shape, Unit};
 
 /// A test of expressions.
 pub trait Test {
@@ -19,7 +19,7 @@ pub trait Test {
 
 /// Whether one of a list passes.
 fn in_list<T: Test>(test: &T, expressions: &Exprs) -> bool
-    ensures { result ≡ list_any (T.passes test.now) (exprs_trees expressions.now) }
+    ensures { result ≡ list_any (T.passes test.now) (listed (exprs_tree expressions.now)) }
 {
     match expressions {
         Exprs::Empty => false,
@@ -52,6 +52,24 @@ fn in_limits<T: Test>(test: &T, limits: &Limits) -> bool
     ensures { result ≡ list_any (T.passes test.now) (limit_exprs (limits_tree limits.now)) }
 {
     test.holds(&limits.first) || test.holds(&limits.last) || in_option(test, &limits.step)
+}
+
+/// Whether an expression in the list of a WRITE or PRINT statement passes, in an implied DO or outside.
+#[tactic(auto, using(crate::proofs::Parts::any_append))]
+fn in_items<T: Test>(test: &T, items: &ListItems) -> bool
+    ensures { result ≡ list_any (T.passes test.now) (item_exprs (list_items_tree items.now)) }
+{
+    match items {
+        ListItems::Empty => false,
+        ListItems::More(item, rest) => match item {
+            ListItem::Value(value) => test.holds(value) || in_items(test, rest),
+            ListItem::Loop {
+                items,
+                variable: _,
+                limits,
+            } => in_items(test, items) || in_limits(test, limits) || in_items(test, rest),
+        },
+    }
 }
 
 /// Whether one of the bounds of a dimension passes.
@@ -97,20 +115,15 @@ pub fn in_statement<T: Test>(test: &T, shape: &Shape) -> bool
             subscripts,
             value,
         } => in_list(test, subscripts) || test.holds(value),
-        Shape::Write {
-            unit,
-            label: _,
-            list,
-        } => in_unit(test, unit) || in_list(test, list),
-        Shape::Format(_) => false,
+        Shape::Write { control, list } => in_unit(test, &control.unit) || in_items(test, list),
+        Shape::Print { format: _, list } => in_items(test, list),
         Shape::Do {
             label: _,
             comma: _,
             variable: _,
             limits,
         } => in_limits(test, limits),
-        Shape::Continue => false,
         Shape::Integer(declarators) => in_declarators(test, declarators),
-        Shape::End => false,
+        _ => false,
     }
 }

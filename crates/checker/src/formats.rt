@@ -1,12 +1,12 @@
 //! FORMAT statements and the labels that name them (ANSI X3.9-1978, 12.4 and 13.1).
 
-ghost use Rattle.std.specs.Prelude.{◌≡◌, ◌^◌, ◌≤◌, ℕ, List, map, flat_map, IfOk, OnOk, MatchOption, option_map, None};
+ghost use Rattle.std.specs.Prelude.{◌≡◌, ◌^◌, ◌≤◌, ℕ, List, map, flat_map, IfOk, OnOk, MatchOption, is_some, option_map, None};
 ghost use Rattle.std.specs.Ordering.{nat_cmp};
 ghost use Rattle.std.specs.BTreeSet.{contains};
 ghost use Rattle.meaning.specs.Characters.{number_of};
-ghost use Rattle.meaning.specs.Formats.{descriptors_of};
-ghost use Rattle.meaning.specs.Syntax.{ItemTree, shape_tree};
-ghost use Rattle.meaning.specs.Rules.{has_format, is_misformed as is_broken, misformed};
+ghost use Rattle.meaning.specs.Formats.{descriptors_of, format_in, undoubled};
+ghost use Rattle.meaning.specs.Syntax.{ItemTree, format_tree, shape_tree};
+ghost use Rattle.meaning.specs.Rules.{has_format, is_allowed as is_format_allowed, is_misformed as is_broken, misformed};
 ghost use Rattle.meaning.specs.Refusals.{least};
 ghost use Rattle.meaning.specs.Execution.{format_found, or_else};
 ghost use Rattle.meaning.specs.Trees.{item_tree};
@@ -20,7 +20,7 @@ use crate::units::is_unit;
 use format_edit::{Format, FormatFault};
 use meaning::number::number;
 use meaning::refusal::{Broken, Rule, lesser};
-use meaning::syntax::{Item, Shape};
+use meaning::syntax::{FormatSource, Item, Shape};
 use std::alloc::{AllocError, Global};
 use std::collections::{BTreeMap, BTreeSet};
 
@@ -28,7 +28,7 @@ use std::collections::{BTreeMap, BTreeSet};
 fn format_of(alloc: Global, text: &[u8]) -> Result<Option<Format>, AllocError>
     ensures { IfOk result (λ f. option_map descriptors f ≡ descriptors_of text.now) }
 {
-    match Format::read(alloc, text) {
+    match Format::read_inside(alloc, text) {
         Ok(format) => Ok(Some(format)),
         Err(FormatFault::Broken) => Ok(None),
         Err(FormatFault::Memory) => Err(AllocError),
@@ -57,25 +57,49 @@ fn is_format_label(labels: &BTreeSet<u32>, digits: &[u8]) -> bool
     }
 }
 
+/// Whether the format in a character constant is one.
+fn is_constant_format(alloc: Global, text: &[u8]) -> Result<bool, AllocError>
+    ensures { IfOk result (λ b. b ≡ is_some (format_in (undoubled text.now))) }
+{
+    match Format::read_constant(alloc, text) {
+        Ok(_) => Ok(true),
+        Err(FormatFault::Broken) => Ok(false),
+        Err(FormatFault::Memory) => Err(AllocError),
+    }
+}
+
+/// Whether the format of a WRITE or PRINT statement is allowed.
+fn is_allowed(
+    alloc: Global,
+    labels: &BTreeSet<u32>,
+    source: &FormatSource,
+) -> Result<bool, AllocError>
+    ensures { (all : List ItemTree) → KnowsFormats (contains nat_cmp labels.now) all → IfOk result (λ b. b ≡ is_format_allowed all (format_tree source.now)) }
+{
+    match source {
+        FormatSource::Label(digits) => Ok(is_format_label(labels, digits)),
+        FormatSource::Constant(text) => is_constant_format(alloc, text),
+    }
+}
+
 /// Whether a statement has a unit, a format label or a format that isn't allowed.
 fn is_misformed(alloc: Global, labels: &BTreeSet<u32>, member: &Item) -> Result<bool, AllocError>
     ensures { (all : List ItemTree) → KnowsFormats (contains nat_cmp labels.now) all → IfOk result (λ b. b ≡ is_broken all member.now.label (shape_tree member.now.form.shape)) }
 {
     match &member.form.shape {
-        Shape::Assignment { .. } => Ok(false),
-        Shape::Write {
-            unit,
-            label,
-            list: _,
-        } => Ok(!is_unit(unit) || !is_format_label(labels, label)),
+        Shape::Write { control, list: _ } => {
+            let allowed = is_allowed(alloc, labels, &control.format)?;
+            Ok(!is_unit(&control.unit) || !allowed)
+        }
+        Shape::Print { format, list: _ } => {
+            let allowed = is_allowed(alloc, labels, format)?;
+            Ok(!allowed)
+        }
         Shape::Format(text) => {
             let format = format_of(alloc, text)?;
             Ok(member.label.is_none() || format.is_none())
         }
-        Shape::Do { .. } => Ok(false),
-        Shape::Continue => Ok(false),
-        Shape::Integer(_) => Ok(false),
-        Shape::End => Ok(false),
+        _ => Ok(false),
     }
 }
 
@@ -107,12 +131,7 @@ fn add_format(
             Some(label) => add_at(formats, alloc, label, text),
             None => Ok(()),
         },
-        Shape::Assignment { .. } => Ok(()),
-        Shape::Write { .. } => Ok(()),
-        Shape::Do { .. } => Ok(()),
-        Shape::Continue => Ok(()),
-        Shape::Integer(_) => Ok(()),
-        Shape::End => Ok(()),
+        _ => Ok(()),
     }
 }
 

@@ -3,15 +3,15 @@
 ghost use Rattle.std.specs.Prelude.{◌≡◌, [], ◌∷◌, flat_map, map, option_map, OnOk};
 ghost use Rattle.std.specs.List.{list_any};
 ghost use Rattle.std.specs.Str.{bytes_eq};
-ghost use Rattle.meaning.specs.Syntax.{bounds_tree, declarator_tree, expr_tree, exprs_tree, limits_tree, shape_tree, unit_tree};
-ghost use Rattle.meaning.specs.Rules.{bounds_exprs, declarator_exprs, expression_uses, limit_exprs, option_exprs, unit_exprs, uses_in, uses_in_all};
+ghost use Rattle.meaning.specs.Syntax.{bounds_tree, declarator_tree, expr_tree, exprs_tree, limits_tree, list_items_tree, shape_tree, unit_tree};
+ghost use Rattle.meaning.specs.Rules.{bounds_exprs, declarator_exprs, expression_uses, item_exprs, limit_exprs, option_exprs, unit_exprs, uses_in, uses_in_all};
 ghost use Rattle.checker.specs.Gathered.{found_names};
 ghost use Rattle.checker.specs.Used.{use_of};
 ghost use Rattle.checker.specs.Numbered.{texts, with_name, with_names};
 
 use crate::uses::Sought;
 use indexmap::IndexSet;
-use meaning::syntax::{Bounds, Declarator, Expr, Exprs, Limits, Shape, Unit};
+use meaning::syntax::{Bounds, Declarator, Expr, Exprs, Limits, ListItem, ListItems, Shape, Unit};
 use std::alloc::{AllocError, Global};
 
 /// Whether a name is one of a set.
@@ -60,14 +60,16 @@ fn add_found<S: Sought>(
     ensures { OnOk result (texts names.new.keys ≡ with_names (texts names.old.keys) (found_names (S.is_use sought.now) (uses_in (expr_tree expression.now)))) }
 {
     match expression {
-        Expr::Number(_) => Ok(()),
+        Expr::Number(_) | Expr::Truth(_) => Ok(()),
         Expr::Name(name) => add_if(names, alloc, sought, name, None),
         Expr::Signed(_, operand) => add_found(names, alloc, sought, operand),
         Expr::Binary(_, left, right) => {
             add_found(names, alloc, sought, left)?;
             add_found(names, alloc, sought, right)
         }
+        Expr::Not(operand) => add_found(names, alloc, sought, operand),
         Expr::Paren(operand) => add_found(names, alloc, sought, operand),
+        Expr::Call(name) => add_if(names, alloc, sought, name, Some(&Exprs::Empty)),
         Expr::Element(name, subscripts) => {
             add_if(names, alloc, sought, name, Some(subscripts))?;
             add_all_found(names, alloc, sought, subscripts)
@@ -140,6 +142,36 @@ fn add_limits_found<S: Sought>(
     add_option_found(names, alloc, sought, &limits.step)
 }
 
+/// Puts the names that are sought in the list of a WRITE or PRINT statement behind those that are there.
+#[tactic(auto, using(crate::proofs::Gathering::with_found_append, crate::proofs::Gathering::uses_append))]
+fn add_items_found<S: Sought>(
+    names: &mut IndexSet<Vec<u8>>,
+    alloc: Global,
+    sought: &S,
+    items: &ListItems,
+) -> Result<(), AllocError>
+    ensures { OnOk result (texts names.new.keys ≡ with_names (texts names.old.keys) (found_names (S.is_use sought.now) (flat_map uses_in (item_exprs (list_items_tree items.now))))) }
+{
+    match items {
+        ListItems::Empty => Ok(()),
+        ListItems::More(item, rest) => match item {
+            ListItem::Value(value) => {
+                add_found(names, alloc, sought, value)?;
+                add_items_found(names, alloc, sought, rest)
+            }
+            ListItem::Loop {
+                items,
+                variable: _,
+                limits,
+            } => {
+                add_items_found(names, alloc, sought, items)?;
+                add_limits_found(names, alloc, sought, limits)?;
+                add_items_found(names, alloc, sought, rest)
+            }
+        },
+    }
+}
+
 /// Puts the names that are sought in the bounds of a dimension behind those that are there.
 #[tactic(auto, using(crate::proofs::Gathering::with_found_append, crate::proofs::Gathering::uses_append))]
 fn add_bounds_found<S: Sought>(
@@ -203,23 +235,18 @@ pub fn add_expressions_found<S: Sought>(
             add_all_found(names, alloc, sought, subscripts)?;
             add_found(names, alloc, sought, value)
         }
-        Shape::Write {
-            unit,
-            label: _,
-            list,
-        } => {
-            add_unit_found(names, alloc, sought, unit)?;
-            add_all_found(names, alloc, sought, list)
+        Shape::Write { control, list } => {
+            add_unit_found(names, alloc, sought, &control.unit)?;
+            add_items_found(names, alloc, sought, list)
         }
-        Shape::Format(_) => Ok(()),
+        Shape::Print { format: _, list } => add_items_found(names, alloc, sought, list),
         Shape::Do {
             label: _,
             comma: _,
             variable: _,
             limits,
         } => add_limits_found(names, alloc, sought, limits),
-        Shape::Continue => Ok(()),
         Shape::Integer(declarators) => add_declarators_found(names, alloc, sought, declarators),
-        Shape::End => Ok(()),
+        _ => Ok(()),
     }
 }

@@ -53,12 +53,7 @@ fn format_label(member: &Item) -> Option<u32>
             let label = member.label?;
             Some(label)
         }
-        Shape::Assignment { .. } => None,
-        Shape::Write { .. } => None,
-        Shape::Do { .. } => None,
-        Shape::Continue => None,
-        Shape::Integer(_) => None,
-        Shape::End => None,
+        _ => None,
     }
 }
 

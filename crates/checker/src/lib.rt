@@ -25,6 +25,7 @@ mod targets;
 mod units;
 mod uses;
 
+pub use expressions::{Test, in_statement};
 pub use program::{Program, Storage};
 pub use rules::check;
 

@@ -4,15 +4,15 @@ ghost use Rattle.std.specs.Prelude.{◌≡◌, []};
 ghost use Rattle.std.specs.List.{list_any};
 ghost use Rattle.std.specs.Str.{bytes_eq};
 ghost use Rattle.meaning.specs.Syntax.{shape_tree};
-ghost use Rattle.meaning.specs.Trees.{item_tree, members_tree, nested};
-ghost use Rattle.meaning.specs.Rules.{reset_variables, reset_at, sets_one_of as sets_one};
+ghost use Rattle.meaning.specs.Trees.{arms_tree, item_tree, members_tree, nested};
+ghost use Rattle.meaning.specs.Rules.{reset_variables, reset_in_arms as reset_in_all_arms, reset_at, sets_one_of as sets_one};
 ghost use Rattle.meaning.specs.Refusals.{least};
 ghost use Rattle.checker.specs.Around.{variables};
 
 use crate::broken::broken_if;
 use crate::targets::target_of;
 use meaning::refusal::{Broken, Rule, lesser};
-use meaning::syntax::{Item, Member, Shape, Tree};
+use meaning::syntax::{Arm, Item, Member, Shape, Tree};
 
 /// The variables of the DO statements around a statement.
 #[derive(Clone, Copy)]
@@ -50,6 +50,7 @@ fn reset_by(item: &Item, around: &Around) -> Option<Broken>
 }
 
 /// The least line of a list at which a statement sets one of the variables, or that of a DO of the list around it.
+#[cycle(resets)]
 fn reset_among<'a>(members: &'a [Member], around: &'a Around<'a>) -> Option<Broken>
     ensures { result ≡ least (reset_variables (variables around.now) (members_tree members.now)) }
 {
@@ -67,7 +68,26 @@ fn reset_among<'a>(members: &'a [Member], around: &'a Around<'a>) -> Option<Brok
                 };
                 lesser(head, range)
             }
+            Member::Block(block) => {
+                lesser(
+                    reset_in_arms(&block.arms, around),
+                    reset_by(&block.end, around),
+                )
+            }
         };
+        best = lesser(best, broken);
+    }
+    best
+}
+
+/// The least such line of arms.
+#[cycle(resets)]
+fn reset_in_arms<'a>(arms: &'a [Arm], around: &'a Around<'a>) -> Option<Broken>
+    ensures { result ≡ least (reset_in_all_arms (variables around.now) (arms_tree arms.now)) }
+{
+    let mut best = None;
+    for arm in arms {
+        let broken = lesser(reset_by(&arm.head, around), reset_among(&arm.body, around));
         best = lesser(best, broken);
     }
     best

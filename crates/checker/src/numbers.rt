@@ -25,11 +25,9 @@ fn add_expression_names(
     match shape {
         Shape::Assignment { .. } => add_expressions_found(names, alloc, &AnyUse, shape),
         Shape::Write { .. } => add_expressions_found(names, alloc, &AnyUse, shape),
-        Shape::Format(_) => Ok(()),
+        Shape::Print { .. } => add_expressions_found(names, alloc, &AnyUse, shape),
         Shape::Do { .. } => add_expressions_found(names, alloc, &AnyUse, shape),
-        Shape::Continue => Ok(()),
-        Shape::Integer(_) => Ok(()),
-        Shape::End => Ok(()),
+        _ => Ok(()),
     }
 }
 
@@ -43,17 +41,13 @@ fn name_set(shape: &Shape) -> Option<&[u8]>
             subscripts: _,
             value: _,
         } => Some(name),
-        Shape::Write { .. } => None,
-        Shape::Format(_) => None,
         Shape::Do {
             label: _,
             comma: _,
             variable,
             limits: _,
         } => Some(variable),
-        Shape::Continue => None,
-        Shape::Integer(_) => None,
-        Shape::End => None,
+        _ => None,
     }
 }
 

@@ -20,16 +20,12 @@ pub fn target_of(shape: &Shape) -> Option<&[u8]>
             Exprs::Empty => Some(name),
             Exprs::More(_, _) => None,
         },
-        Shape::Write { .. } => None,
-        Shape::Format(_) => None,
         Shape::Do {
             label: _,
             comma: _,
             variable,
             limits: _,
         } => Some(variable),
-        Shape::Continue => None,
-        Shape::Integer(_) => None,
-        Shape::End => None,
+        _ => None,
     }
 }

@@ -37,11 +37,13 @@ pub fn in_expression<S: Sought>(sought: &S, expression: &Expr) -> bool
     ensures { result ≡ list_any (S.is_use sought.now) (uses_in (expr_tree expression.now)) }
 {
     match expression {
-        Expr::Number(_) => false,
+        Expr::Number(_) | Expr::Truth(_) => false,
         Expr::Name(name) => sought.is(name, None),
         Expr::Signed(_, operand) => in_expression(sought, operand),
         Expr::Binary(_, left, right) => in_expression(sought, left) || in_expression(sought, right),
+        Expr::Not(operand) => in_expression(sought, operand),
         Expr::Paren(operand) => in_expression(sought, operand),
+        Expr::Call(name) => sought.is(name, Some(&Exprs::Empty)),
         Expr::Element(name, subscripts) => {
             sought.is(name, Some(subscripts)) || in_all(sought, subscripts)
         }
@@ -113,12 +115,7 @@ pub fn is_element_set<S: Sought>(sought: &S, shape: &Shape) -> bool
             Exprs::Empty => false,
             Exprs::More(_, _) => sought.is(name, Some(subscripts)),
         },
-        Shape::Write { .. } => false,
-        Shape::Format(_) => false,
-        Shape::Do { .. } => false,
-        Shape::Continue => false,
-        Shape::Integer(_) => false,
-        Shape::End => false,
+        _ => false,
     }
 }
 

@@ -5,13 +5,18 @@ use Rattle.meaning.specs.declared.ending.FaultKind.{FaultKind}
 use Rattle.meaning.specs.declared.ending.FaultKind.TheVariants.{F4}
 use Rattle.meaning.specs.declared.ending.Fault.{Fault}
 use Rattle.meaning.specs.declared.ending.Value.{Value}
-use Rattle.meaning.specs.Rules.{arrays_of}
-use Rattle.meaning.specs.Characters.{number_of}
-use Rattle.meaning.specs.Syntax.{ExprTree, ExprsTree, UnitTree, ShapeTree, ItemTree, assignment, writing, continuing}
+use Rattle.std.specs.Prelude.{not, IsTrue}
+use Rattle.std.proofs.lemmas.Bool.{false≢true}
+use Rattle.meaning.specs.declared.syntax.Shape.{Shape}
+use Rattle.meaning.specs.declared.syntax.Shape.TheVariants as shapes
+use Rattle.meaning.specs.Rules.{arrays_of, values_in}
+use Rattle.std.proofs.lemmas.Option.{same_Some}
+use Rattle.driver.specs.Quiet.{output_in, is_writing}
+use Rattle.meaning.specs.Syntax.{FormatTree, ListItemsTree, ExprTree, ExprsTree, ShapeTree, ItemTree, assignment, writing, printing, continuing, shape_tree}
 use Rattle.meaning.specs.Maps.{Map, put}
 use Rattle.meaning.specs.Values.{dimensions_in, subscripts, value, values_of, as_integer, and_then}
 use Rattle.meaning.specs.Records.{edited}
-use Rattle.meaning.specs.Execution.{Ran, more, Follow, turn, with_ok, failed, step, format_at}
+use Rattle.meaning.specs.Execution.{Ran, more, Follow, turn, with_ok, failed, step, output, parts_for}
 use Rattle.meaning.specs.Promise.{Told, Took, IsBroken}
 use Rattle.meaning.proofs.Running.{more-more, more-none}
 use Rattle.driver.specs.declared.halt.Halt.{Halt}
@@ -98,34 +103,37 @@ module _ (all : List ItemTree) (n : List ℕ) (es : ExprsTree) (e : ExprTree) (l
   assign_faults new u k taken h go =
       subst (λ x. Leaves (step all (assignment n es e) line m t go) t x u (Some (record { kind = k; line = line }))) (sym h.1) (along u (record { kind = k; line = line }) go (turn_fails line m t u parts k (λ p i. puts_them go p i) taken h.0))
 
--- ---- a WRITE statement
+-- ---- a WRITE or PRINT statement
 
 with_ok-with_ok : {A B : Type 0} (r : Result A FaultKind) (f : A → Result B FaultKind) (line : ℕ) (m : Map) (go : B → Ran) → with_ok r line m (λ x. with_ok (f x) line m go) ≡ with_ok (and_then r f) line m go
 unfolding with_ok and_then
 with_ok-with_ok (Ok x) f line m go = refl
 with_ok-with_ok (Err k) f line m go = refl
 
-module _ (all : List ItemTree) (unit : UnitTree) (label : List ℕ) (es : List ExprTree) (line : ℕ) (m : Map) (t : ℕ) where
-  writes : (go : Follow) → step all (writing unit label es) line m t go ≡ turn line m t (λ u. with_ok (recorded all (number_of label) es m) line m (λ records. more (records ∷ []) 0 (go m u)))
-  writes go = λ i. turn line m t (λ u. with_ok-with_ok (values_of (arrays_of all) es m) (λ vs. edited (format_at all (number_of label)) vs) line m (λ records. more (records ∷ []) 0 (go m u)) i)
+module _ (all : List ItemTree) (source : FormatTree) (list : ListItemsTree) (line : ℕ) (m : Map) (t : ℕ) where
+  abbrev made : Result (List ℕ) FaultKind
+  made = recorded all source list m
 
-  told_along : (u : ℕ) (f : Fault) (a : Told) (go : Follow) → Leaves (turn line m t (λ k. with_ok (recorded all (number_of label) es m) line m (λ records. more (records ∷ []) 0 (go m k)))) t m u (Some f) → Faults (step all (writing unit label es) line m t go) f a a
+  writes : (go : Follow) → output all source list line m t go ≡ turn line m t (λ u. with_ok (made) line m (λ records. more (records ∷ []) 0 (go m u)))
+  writes go = λ i. turn line m t (λ u. with_ok-with_ok (values_of (arrays_of all) (values_in list) m) (λ vs. edited (parts_for all source) vs) line m (λ records. more (records ∷ []) 0 (go m u)) i)
+
+  told_along : (u : ℕ) (f : Fault) (a : Told) (go : Follow) → Leaves (turn line m t (λ k. with_ok (made) line m (λ records. more (records ∷ []) 0 (go m k)))) t m u (Some f) → Faults (output all source list line m t go) f a a
   told_along u f a go x = subst (λ r. Faults r f a a) (sym (writes go)) (quiet_fault _ t m u f a x)
 
-  pub unwritten : (a : Told) → t ≡ 0 → (go : Follow) → Faults (step all (writing unit label es) line m t go) (record { kind = F4; line = line }) a a
+  pub unwritten : (a : Told) → t ≡ 0 → (go : Follow) → Faults (output all source list line m t go) (record { kind = F4; line = line }) a a
   unwritten a none go =
-      told_along t (record { kind = F4; line = line }) a go (turn_none line m t t (λ u. with_ok (recorded all (number_of label) es m) line m (λ records. more (records ∷ []) 0 (go m u))) none none)
+      told_along t (record { kind = F4; line = line }) a go (turn_none line m t t (λ u. with_ok (made) line m (λ records. more (records ∷ []) 0 (go m u))) none none)
 
   module _ (u : ℕ) (taken : t ≡ suc u) where
-    pub write_fails : (k : FaultKind) (a : Told) → recorded all (number_of label) es m ≡ Err k → (go : Follow) → Faults (step all (writing unit label es) line m t go) (record { kind = k; line = line }) a a
+    pub write_fails : (k : FaultKind) (a : Told) → made ≡ Err k → (go : Follow) → Faults (output all source list line m t go) (record { kind = k; line = line }) a a
     write_fails k a h go =
-        told_along u (record { kind = k; line = line }) a go (turn_fails line m t u (recorded all (number_of label) es m) k (λ records n. more (records ∷ []) 0 (go m n)) taken h)
+        told_along u (record { kind = k; line = line }) a go (turn_fails line m t u (made) k (λ records n. more (records ∷ []) 0 (go m n)) taken h)
 
-    one_piece : (records : List ℕ) → recorded all (number_of label) es m ≡ Ok records → (go : Follow) → step all (writing unit label es) line m t go ≡ more (records ∷ []) 1 (go m u)
+    one_piece : (records : List ℕ) → made ≡ Ok records → (go : Follow) → output all source list line m t go ≡ more (records ∷ []) 1 (go m u)
     one_piece records h go =
-        writes go ∙ turn_goes line m t u (recorded all (number_of label) es m) records (λ rs n. more (rs ∷ []) 0 (go m n)) taken h ∙ more-more [] (records ∷ []) 1 0 (go m u)
+        writes go ∙ turn_goes line m t u (made) records (λ rs n. more (rs ∷ []) 0 (go m n)) taken h ∙ more-more [] (records ∷ []) 1 0 (go m u)
 
-    pub written_whole : (records : List ℕ) (old new : Told) → recorded all (number_of label) es m ≡ Ok records → Took old new records → GoesOn (λ go. step all (writing unit label es) line m t go) t m u old new
+    pub written_whole : (records : List ℕ) (old new : Told) → made ≡ Ok records → Took old new records → GoesOn (λ go. output all source list line m t go) t m u old new
     written_whole records old new h took =
         record {
           pieces = records ∷ [];
@@ -135,7 +143,7 @@ module _ (all : List ItemTree) (unit : UnitTree) (label : List ℕ) (es : List E
           bytes = subst (λ bs. Took old new bs) (sym (append-nil records)) took;
         }
 
-    pub written_in_part : (records : List ℕ) (old new : Told) → recorded all (number_of label) es m ≡ Ok records → IsBroken records old new → (go : Follow) → IsBroken (concat (step all (writing unit label es) line m t go).pieces) old new
+    pub written_in_part : (records : List ℕ) (old new : Told) → made ≡ Ok records → IsBroken records old new → (go : Follow) → IsBroken (concat (output all source list line m t go).pieces) old new
     written_in_part records old new h broken go =
         subst (λ (r : Ran). IsBroken (concat r.pieces) old new) (sym (one_piece records h go)) (subst (λ ps. IsBroken (concat ps) old new) (sym (pieces-more (records ∷ []) 1 (go m u))) (record {
           taken = broken.taken;
@@ -176,3 +184,17 @@ steps_as all line old new t u r before after s shape e h = subst (λ x. Steps (�
 
 pub moves_as : (all : List ItemTree) (line : ℕ) (old new : Map) (t u : ℕ) (o : Option Fault) (s shape : ShapeTree) → shape ≡ s → Moves (λ go. step all s line old t go) t new u o → Moves (λ go. step all shape line old t go) t new u o
 moves_as all line old new t u o s shape e h = subst (λ x. Moves (λ go. step all x line old t go) t new u o) (sym e) h
+
+-- a statement that writes
+pub outputs : (all : List ItemTree) (s : ShapeTree) (source : FormatTree) (list : ListItemsTree) → Some (source, list) ≡ output_in s → (line : ℕ) (m : Map) (t : ℕ) (go : Follow) → step all s line m t go ≡ output all source list line m t go
+outputs all (writing control items) source list is line m t go = ap (λ o. output all o.0 o.1 line m t go) (sym (same_Some (source, list) (control.source, items) is))
+outputs all (printing f items) source list is line m t go = ap (λ o. output all o.0 o.1 line m t go) (sym (same_Some (source, list) (f, items) is))
+outputs all s source list is line m t go = absurd cc
+
+-- a statement that isn't executed: neither an assignment nor CONTINUE, WRITE or PRINT
+pub idles : (all : List ItemTree) (line : ℕ) (s : Shape) → ((n : _) (es : _) (e : _) → s ≡ shapes.Assignment n es e → ⊥) → (s ≡ shapes.Continue → ⊥) → IsTrue (not (is_writing (shape_tree s))) → (m : Map) (t : ℕ) → Passes (λ go. step all (shape_tree s) line m t go) t m t
+idles all line (shapes.Assignment n es e) other idle quiet m t = absurd (other n es e refl)
+idles all line shapes.Continue other idle quiet m t = absurd (idle refl)
+idles all line (shapes.Write control list) other idle quiet m t = absurd (false≢true quiet)
+idles all line (shapes.Print source list) other idle quiet m t = absurd (false≢true quiet)
+idles all line s other idle quiet m t = passes_over m t

@@ -10,4 +10,5 @@ pub mod Looped
 pub mod Quietly
 pub mod Silent
 pub mod Listed
+pub mod Searched
 pub mod Promised

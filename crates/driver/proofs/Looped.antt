@@ -1,10 +1,11 @@
 -- Lists of statements, and the trips of a DO statement.
-use Rattle.std.proofs.Common.{◌≡◌, Bool, Result, Ok, ℕ, ℤ, pos, zero, suc, ◌+◌, ◌<◌, ◌≤◌, List, [], ◌∷◌, ◌++◌, length, get_or, drop, replicate, slice_get, unwrap_or, Option, Some, None, Err, refl, sym, ap, ◌∙◌, arith, subst}
+use Rattle.std.proofs.Common.{◌≡◌, append_assoc, Bool, Result, Ok, ℕ, ℤ, pos, zero, suc, ◌+◌, ◌<◌, ◌≤◌, List, [], ◌∷◌, ◌++◌, length, get_or, drop, replicate, slice_get, unwrap_or, Option, Some, None, Err, refl, sym, ap, ◌∙◌, arith, subst}
 use Rattle.std.specs.List.{AllByRecursion}
 use mathlib.Core.Path.{fun_ext}
 use Rattle.std.proofs.lemmas.List.{append-nil, drop_more, drop_all, length-map}
 use Rattle.std.proofs.lemmas.List.FromFn.{length-range_with_len}
-use Rattle.meaning.specs.declared.syntax.Member.{Member, Plain, Loop, Loop'}
+use Rattle.meaning.specs.declared.syntax.Member.{Member, Plain, Loop, Loop', Block}
+use Rattle.meaning.specs.declared.syntax.Block.{Block'}
 use Rattle.meaning.specs.declared.syntax.Loop.{Loop as LoopOf, out-Loop}
 use Rattle.meaning.specs.declared.ending.FaultKind.{FaultKind}
 use Rattle.meaning.specs.declared.ending.FaultKind.TheVariants.{F4}
@@ -12,7 +13,7 @@ use Rattle.meaning.specs.declared.ending.Fault.{Fault}
 use Rattle.meaning.specs.Promise.{Told}
 use Rattle.driver.specs.declared.halt.Halt.{Halt}
 use Rattle.meaning.specs.Syntax.{ItemTree, ShapeTree, LimitsTree, assignment, writing, format, doing, continuing, typing, ending, shape_tree}
-use Rattle.meaning.specs.Trees.{Members, none, flat, item_tree, member_before, row_members, members_tree}
+use Rattle.meaning.specs.Trees.{Members, none, flat, flat_arms, row_arms, item_tree, member_before, row_members, members_tree}
 use Rattle.meaning.specs.Trips.{Span, span_of, trips, trip_count}
 use Rattle.meaning.specs.Rules.{arrays_of}
 use Rattle.meaning.specs.Values.{Arrays}
@@ -39,6 +40,7 @@ flat-before : (x : Member) (ms : Members) → flat (member_before x ms) ≡ flat
 flat-before (Plain x) ms = refl
 flat-before (Loop' head shape range) ms =
     ap (λ xs. item_tree head ∷ (xs ++ flat ms)) (sym (append-nil (flat (row_members range))))
+flat-before (Block (Block' shape arms end)) ms = sym (append_assoc (flat_arms (row_arms arms)) (item_tree end ∷ []) (flat ms))
 
 module _ (P : ItemTree → Type 0) where
   pub known_at : (ms : List Member) (i : ℕ) (x : Member) → i < length ms → x ≡ get_or ms i x → AllByRecursion P (flat (members_tree ms)) → AllByRecursion P (flat (member_before x none))
@@ -67,6 +69,7 @@ module _ (program : List ItemTree) where
   unfolding pass_over
   head-does rec all (Plain x) ms m t = refl
   head-does rec all (Loop' head shape range) ms m t = refl
+  head-does rec all (Block (Block' shape arms end)) ms m t = refl
 
   module _ (all : Members) (ms : List Member) where
     -- what the members from a place on do
@@ -168,12 +171,7 @@ steps_same does whole given m left (Err h) old new is x =
 pub unless_do : (s : ShapeTree) (arrays : Arrays) (rec : Meaning) (line : ℕ) (range : Members) (m : Map) (t : ℕ) → IsTrue (not (is_doing s)) → (go : Follow) → looped arrays rec s line range m t go ≡ go m t
 unfolding looped
 unless_do (doing label comma variable limits) arrays rec line range m t h go = absurd (false≢true h)
-unless_do (assignment target es e) arrays rec line range m t h go = refl
-unless_do (writing unit label es) arrays rec line range m t h go = refl
-unless_do (format text) arrays rec line range m t h go = refl
-unless_do continuing arrays rec line range m t h go = refl
-unless_do (typing ds) arrays rec line range m t h go = refl
-unless_do ending arrays rec line range m t h go = refl
+unless_do s arrays rec line range m t h go = refl
 
 pub steps_unless_do : (arrays : Arrays) (rec : Meaning) (s : ShapeTree) (line : ℕ) (range : Members) (m : Map) (t : ℕ) (a : Told) → IsTrue (not (is_doing s)) → GoesOn (λ go. looped arrays rec s line range m t go) t m t a a
 steps_unless_do arrays rec s line range m t a h =

@@ -1,7 +1,8 @@
 -- Lists of statements without output.
 use Rattle.std.proofs.Common.{◌≡◌, ℕ, zero, suc, ◌+◌, ◌<◌, Bool, true, false, List, [], ◌∷◌, length, get_or, drop, refl, sym, ap, ◌∙◌, arith, subst}
 use Rattle.std.specs.Prelude.{◌&&◌, not, IsTrue}
-use Rattle.meaning.specs.declared.syntax.Member.{Member, Plain, Loop, Loop'}
+use Rattle.meaning.specs.declared.syntax.Member.{Member, Plain, Loop, Loop', Block}
+use Rattle.meaning.specs.declared.syntax.Block.{Block'}
 use Rattle.meaning.specs.declared.syntax.Loop.{Loop as LoopOf, out-Loop}
 use Rattle.meaning.specs.Syntax.{shape_tree}
 use Rattle.meaning.specs.Trees.{Members, none, member_before, members_tree, row_members}
@@ -15,6 +16,7 @@ and-true false = refl
 quiet_before : (x : Member) (ms : Members) → is_quiet (member_before x ms) ≡ (is_quiet (member_before x none) && is_quiet ms)
 quiet_before (Plain x) ms = ap (λ b. b && is_quiet ms) (sym (and-true (not (is_writing (shape_tree x.form.shape)))))
 quiet_before (Loop' head shape range) ms = ap (λ b. b && is_quiet ms) (sym (and-true (is_quiet (row_members range))))
+quiet_before (Block (Block' shape arms end)) ms = refl
 
 -- the members that are left, one step on
 pub quiet_left : (ms : List Member) (i : ℕ) (x : Member) → i < length ms → x ≡ get_or ms i x → is_quiet (members_tree (drop i ms)) ≡ (is_quiet (member_before x none) && is_quiet (members_tree (drop (i + 1) ms)))
@@ -53,3 +55,7 @@ quiet_statement x y is h =
 pub quiet_range : (x : Member) (l : LoopOf) → x ≡ Loop l → WritesNothing (member_before x none) → WritesNothing (members_tree (out-Loop l).range.items)
 quiet_range x l is h =
     record { is = subst IsTrue (quiet_range_is l) (subst (λ z. IsTrue (is_quiet (member_before z none))) is h.is) }
+
+-- a block IF is passed over
+pub quiet_block : (x : Member) (b : _) → x ≡ Block b → true ≡ is_quiet (member_before x none)
+quiet_block x (Block' shape arms end) is = sym (ap (λ y. is_quiet (member_before y none)) is)

@@ -2,7 +2,7 @@
 use Rattle.std.specs.Prelude.{◌≡◌, ◌+◌, ℕ, List, Option, Some, None, Result, Ok, Err}
 use Rattle.std.specs.List.{concat}
 use Rattle.meaning.specs.declared.ending.Fault.{Fault}
-use Rattle.meaning.specs.declared.syntax.Member.{Member, Plain, Loop'}
+use Rattle.meaning.specs.declared.syntax.Member.{Member, Plain, Loop', Block}
 use Rattle.meaning.specs.Maps.{Map}
 use Rattle.meaning.specs.Execution.{normal, fault, Ran, more, Meaning, Follow, step, looped}
 use Rattle.meaning.specs.Syntax.{ItemTree, shape_tree}
@@ -68,6 +68,7 @@ abbrev pub member_does : List ItemTree → Meaning → Member → Map → ℕ �
 member_does program rec (Plain x) m t go = step program (shape_tree x.form.shape) x.line m t go
 member_does program rec (Loop' head shape range) m t go =
     looped (arrays_of program) rec (shape_tree head.form.shape) head.line (row_members range) m t go
+member_does program rec (Block b) m t go = go m t
 
 -- ---- the run of a program
 

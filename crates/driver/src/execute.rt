@@ -152,6 +152,8 @@ fn execute_member<S: Sink>(
     match member {
         Member::Plain(item) => execute_item(alloc, program, item, cells, turns, sink),
         Member::Loop(repeated) => execute_loop(alloc, program, repeated, cells, turns, sink),
+        // A program with a block IF isn't run yet.
+        Member::Block(_) => Ok(None),
     }
 }
 

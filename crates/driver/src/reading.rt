@@ -7,12 +7,14 @@ ghost use Rattle.meaning.specs.Trees.{item_tree};
 ghost use Rattle.meaning.specs.Answers.{member_of, members_of, program_of};
 ghost use Rattle.checker.specs.Checked.{tree_of, IsNumbered};
 
+use crate::unrun::unrun_statement;
 use checker::{Program, check};
+use lexer::bare;
 use meaning::refusal::{Broken, Refusal, lesser};
 use meaning::statement::Statement;
 use meaning::syntax::Item;
 use nesting::tree;
-use parser::{bare, form};
+use parser::form;
 use source_columns::statements;
 use std::alloc::Global;
 
@@ -59,6 +61,10 @@ pub fn program_in(alloc: Global, source: &[u8]) -> Result<Program, Refusal>
 {
     let found = statements(alloc, source)?;
     let members = members_in(alloc, &found)?;
+    let unrun = unrun_statement(&members);
     let unit = tree(alloc, members)?;
-    check(alloc, unit)
+    match unrun {
+        Some(Broken { line, rule }) => Err(Refusal::Rule { rule, line }),
+        None => check(alloc, unit),
+    }
 }

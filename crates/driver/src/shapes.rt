@@ -1,28 +1,20 @@
-//! Which statements are WRITE and DO statements, and lists without output.
+//! Which statements are WRITE, PRINT and DO statements, and lists without output.
 
-ghost use Rattle.std.specs.Prelude.{◌≡◌};
+ghost use Rattle.std.specs.Prelude.{◌≡◌, option_map};
 ghost use Rattle.meaning.specs.Syntax.{shape_tree};
 ghost use Rattle.meaning.specs.Trees.{none, member_before, members_tree};
-ghost use Rattle.driver.specs.Quiet.{WriteIs, DoIs, is_quiet};
+ghost use Rattle.driver.specs.Quiet.{DoIs, is_quiet, output_in, output_tree};
 
-use meaning::syntax::{Exprs, Limits, Member, Shape};
+use meaning::syntax::{FormatSource, Limits, ListItems, Member, Shape};
 
-/// The format label and the list of a WRITE statement.
-pub fn write_of(shape: &Shape) -> Option<(&[u8], &Exprs)>
-    ensures { WriteIs (shape_tree shape.now) result }
+/// The format and the list of a WRITE or PRINT statement.
+pub fn output_of(shape: &Shape) -> Option<(&FormatSource, &ListItems)>
+    ensures { option_map output_tree result ≡ output_in (shape_tree shape.now) }
 {
     match shape {
-        Shape::Write {
-            unit: _,
-            label,
-            list,
-        } => Some((label, list)),
-        Shape::Assignment { .. } => None,
-        Shape::Format(_) => None,
-        Shape::Do { .. } => None,
-        Shape::Continue => None,
-        Shape::Integer(_) => None,
-        Shape::End => None,
+        Shape::Write { control, list } => Some((&control.format, list)),
+        Shape::Print { format, list } => Some((format, list)),
+        _ => None,
     }
 }
 
@@ -37,12 +29,7 @@ pub fn do_of(shape: &Shape) -> Option<(&[u8], &Limits)>
             variable,
             limits,
         } => Some((variable, limits)),
-        Shape::Assignment { .. } => None,
-        Shape::Write { .. } => None,
-        Shape::Format(_) => None,
-        Shape::Continue => None,
-        Shape::Integer(_) => None,
-        Shape::End => None,
+        _ => None,
     }
 }
 
@@ -52,12 +39,14 @@ fn is_quiet_member(member: &Member) -> bool
     ensures { result ≡ is_quiet (member_before member.now none) }
 {
     match member {
-        Member::Plain(item) => write_of(&item.form.shape).is_none(),
+        Member::Plain(item) => output_of(&item.form.shape).is_none(),
         Member::Loop(repeated) => is_quiet_list(&repeated.range),
+        // A program with a block IF isn't run yet.
+        Member::Block(_) => true,
     }
 }
 
-/// Whether no WRITE statement stands in a list and in its ranges.
+/// Whether no WRITE or PRINT statement stands in a list and in its ranges.
 #[cycle(quiet)]
 pub fn is_quiet_list(members: &[Member]) -> bool
     ensures { result ≡ is_quiet (members_tree members.now) }

@@ -1,13 +1,14 @@
 //! Single statements (ANSI X3.9-1978, 10.1, 11.11 and 12.8).
 
-ghost use Rattle.std.specs.Prelude.{◌≡◌, false, length, IfOk};
+ghost use Rattle.std.specs.Prelude.{◌≡◌, false, length, unwrap_or, IfOk};
 ghost use Rattle.meaning.specs.Arrays.{cells_of};
-ghost use Rattle.meaning.specs.Characters.{number_of};
-ghost use Rattle.meaning.specs.Syntax.{UnitTree, writing, exprs_trees, shape_tree};
+ghost use Rattle.meaning.specs.Syntax.{format_tree, list_items_tree, shape_tree};
 ghost use Rattle.meaning.specs.Trees.{item_tree, flatten};
-ghost use Rattle.meaning.specs.Execution.{step, format_at};
+ghost use Rattle.meaning.specs.Execution.{output, parts_for, step};
 ghost use Rattle.meaning.specs.Records.{edited};
+ghost use Rattle.meaning.specs.Formats.{format_in, no_parts, undoubled};
 ghost use Rattle.meaning.specs.Promise.{Told};
+ghost use Rattle.format_edit.specs.Formatted.{descriptors};
 ghost use Rattle.checker.specs.Checked.{tree_of, named_of_program, IsNumbered};
 ghost use Rattle.values.specs.Listed.{Listed};
 ghost use Rattle.driver.specs.Cells.{map_in, IsKnown};
@@ -16,51 +17,45 @@ ghost use Rattle.driver.specs.Statements.{recorded};
 
 use crate::halt::Halt;
 use crate::quiet::take_turn;
-use crate::shapes::write_of;
+use crate::shapes::output_of;
 use crate::sink::{Sink, put_all};
 use crate::whole::{item_whole, values_whole};
 use array_store::Whole;
 use checker::Program;
-use format_edit::{EditFault, Format, edit};
+use format_edit::{EditFault, Format, FormatFault, edit};
 use meaning::ending::{Fault, FaultKind, Value};
-use meaning::syntax::{Exprs, Item};
+use meaning::syntax::{FormatSource, Item, ListItems};
 use std::alloc::{AllocError, Global};
 
-// The records of a WRITE statement, or its fault. The cells keep their values.
+// The records of a WRITE or PRINT statement, or its fault. The cells keep their values.
 #[tactic(auto, unfolding(meaning::specs::Values::and_then))]
 fn recorded_list(
     alloc: Global,
     program: &Program,
-    label: &[u8],
-    list: &Exprs,
+    source: &FormatSource,
+    list: &ListItems,
     cells: &mut Whole,
 ) -> Result<Result<Vec<u8>, FaultKind>, AllocError>
     requires numbered { IsNumbered program.now }
     requires sized { length cells.old ≡ cells_of (named_of_program program.now) }
-    ensures recorded { IfOk result (λ r. Listed r (recorded (flatten (tree_of program.now)) (number_of label.now) (exprs_trees list.now) (map_in program.now cells.old))) }
+    ensures recorded { IfOk result (λ r. Listed r (recorded (flatten (tree_of program.now)) (format_tree source.now) (list_items_tree list.now) (map_in program.now cells.old))) }
     ensures kept { IfOk result (λ _. map_in program.now cells.new ≡ map_in program.now cells.old) }
     ensures len { length cells.new ≡ length cells.old }
 {
     match values_whole(alloc, list, program, cells)? {
-        Ok(found) => edited_list(alloc, program, label, &found),
+        Ok(found) => edited_list(alloc, program, source, &found),
         Err(kind) => Ok(Err(kind)),
     }
 }
 
-// The records of values under the FORMAT statement of a label, or the fault.
-fn edited_list(
+// The records of values under a format, or the fault.
+fn edited_by(
     alloc: Global,
-    program: &Program,
-    label: &[u8],
+    format: &Format,
     found: &[Value],
 ) -> Result<Result<Vec<u8>, FaultKind>, AllocError>
-    requires { IsNumbered program.now }
-    ensures { IfOk result (λ r. Listed r (edited (format_at (flatten (tree_of program.now)) (number_of label.now)) found.now)) }
+    ensures { IfOk result (λ r. Listed r (edited (descriptors format.now) found.now)) }
 {
-    let blank = Format {
-        descriptors: Vec::new(alloc),
-    };
-    let format = program.format(label).unwrap_or(&blank);
     match edit(alloc, format, found) {
         Ok(records) => Ok(Ok(records)),
         Err(EditFault::F7) => Ok(Err(FaultKind::F7)),
@@ -69,13 +64,56 @@ fn edited_list(
     }
 }
 
-// Executes a WRITE statement: all its records are made before the first byte goes out.
-fn execute_write<S: Sink>(
+// The format in a character constant; the rules of the language leave one.
+fn constant_format(alloc: Global, text: &[u8]) -> Result<Format, AllocError>
+    ensures { IfOk result (λ f. descriptors f ≡ unwrap_or (format_in (undoubled text.now)) no_parts) }
+{
+    match Format::read_constant(alloc, text) {
+        Ok(format) => Ok(format),
+        Err(FormatFault::Broken) => Ok(blank(alloc)),
+        Err(FormatFault::Memory) => Err(AllocError),
+    }
+}
+
+// A format without parts.
+fn blank(alloc: Global) -> Format
+    ensures { descriptors result ≡ no_parts }
+{
+    Format {
+        parts: Vec::new(alloc),
+    }
+}
+
+// The records of values under the format that a WRITE or PRINT statement names or has, or the fault.
+fn edited_list(
+    alloc: Global,
+    program: &Program,
+    source: &FormatSource,
+    found: &[Value],
+) -> Result<Result<Vec<u8>, FaultKind>, AllocError>
+    requires { IsNumbered program.now }
+    ensures { IfOk result (λ r. Listed r (edited (parts_for (flatten (tree_of program.now)) (format_tree source.now)) found.now)) }
+{
+    match source {
+        FormatSource::Label(digits) => {
+            let blank = blank(alloc);
+            let format = program.format(digits).unwrap_or(&blank);
+            edited_by(alloc, format, found)
+        }
+        FormatSource::Constant(text) => {
+            let format = constant_format(alloc, text)?;
+            edited_by(alloc, &format, found)
+        }
+    }
+}
+
+// Executes a WRITE or PRINT statement: all its records are made before the first byte goes out.
+fn execute_output<S: Sink>(
     alloc: Global,
     program: &Program,
     line: u32,
-    label: &[u8],
-    list: &Exprs,
+    source: &FormatSource,
+    list: &ListItems,
     cells: &mut Whole,
     turns: &mut u64,
     sink: &mut S,
@@ -83,7 +121,7 @@ fn execute_write<S: Sink>(
     requires numbered { IsNumbered program.now }
     requires sized { length cells.old ≡ cells_of (named_of_program program.now) }
     requires unrefused { (S.told sink.old).refused ≡ false }
-    ensures steps { (unit : UnitTree) → Steps (λ go. step (flatten (tree_of program.now)) (writing unit label.now (exprs_trees list.now)) line (map_in program.now cells.old) turns.old go) turns.old (map_in program.now cells.new) turns.new result (S.told sink.old) (S.told sink.new) }
+    ensures steps { Steps (λ go. output (flatten (tree_of program.now)) (format_tree source.now) (list_items_tree list.now) line (map_in program.now cells.old) turns.old go) turns.old (map_in program.now cells.new) turns.new result (S.told sink.old) (S.told sink.new) }
     ensures len { length cells.new ≡ length cells.old }
 {
     if !take_turn(turns) {
@@ -92,7 +130,7 @@ fn execute_write<S: Sink>(
             line,
         }));
     }
-    match recorded_list(alloc, program, label, list, cells)? {
+    match recorded_list(alloc, program, source, list, cells)? {
         Ok(records) => {
             put_all(sink, &records)?;
             Ok(None)
@@ -118,9 +156,9 @@ pub fn execute_item<S: Sink>(
     ensures steps { Steps (λ go. step (flatten (tree_of program.now)) (shape_tree item.now.form.shape) item.now.line (map_in program.now cells.old) turns.old go) turns.old (map_in program.now cells.new) turns.new result (S.told sink.old) (S.told sink.new) }
     ensures len { length cells.new ≡ length cells.old }
 {
-    match write_of(&item.form.shape) {
-        Some((label, list)) => execute_write(
-            alloc, program, item.line, label, list, cells, turns, sink,
+    match output_of(&item.form.shape) {
+        Some((source, list)) => execute_output(
+            alloc, program, item.line, source, list, cells, turns, sink,
         ),
         None => Ok(item_whole(program, item, cells, turns)),
     }

@@ -11,6 +11,7 @@ use std::io::{ErrorKind, Write};
 use std::test::*;
 
 mod arrays;
+mod grammar;
 mod loops;
 
 /// A writer in memory that takes at most `step` bytes a call and `room` bytes in all; past that it answers 0, or an
@@ -126,7 +127,7 @@ fn refused_sources(rt: HostRuntime) {
         ("      I='A\n      END\n", Rule::C6, 1),
         ("      I='A'\n      END\n", Rule::G1, 1),
         ("      READ (5,*) N\n      END\n", Rule::G2, 1),
-        ("      I=1\n      GO TO 10\n      END\n", Rule::G1, 2),
+        ("      I=1\n      GO TO 10\n      END\n", Rule::K0, 2),
         (
             "      I=((((((((((((((((((((((((((((((((((((((((((((((((((((((((((((\n",
             Rule::G1,

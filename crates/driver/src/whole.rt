@@ -5,7 +5,8 @@ ghost use Rattle.meaning.specs.declared.syntax.Loop.{out-Loop};
 ghost use Rattle.meaning.specs.Arrays.{cells_of};
 ghost use Rattle.meaning.specs.Execution.{step, exec, fold_trips};
 ghost use Rattle.meaning.specs.Maps.{put};
-ghost use Rattle.meaning.specs.Syntax.{exprs_trees, limits_tree, shape_tree};
+ghost use Rattle.meaning.specs.Rules.{values_in};
+ghost use Rattle.meaning.specs.Syntax.{limits_tree, list_items_tree, shape_tree};
 ghost use Rattle.meaning.specs.Trees.{flat, flatten, item_tree, members_tree};
 ghost use Rattle.meaning.specs.Trips.{span_of, trips};
 ghost use Rattle.meaning.specs.Values.{dimensions_in, values_of};
@@ -23,7 +24,7 @@ use crate::quiet::{run_item, run_trips};
 use array_store::Whole;
 use checker::Program;
 use meaning::ending::{Fault, FaultKind, Value};
-use meaning::syntax::{Exprs, Item, Limits, Loop};
+use meaning::syntax::{Item, Limits, ListItems, Loop};
 use std::alloc::{AllocError, Global};
 use values::values;
 
@@ -129,13 +130,13 @@ pub fn limits_whole(
 /// The values of a list, or the leftmost fault. The cells keep their values.
 pub fn values_whole(
     alloc: Global,
-    list: &Exprs,
+    list: &ListItems,
     program: &Program,
     cells: &mut Whole,
 ) -> Result<Result<Vec<Value>, FaultKind>, AllocError>
     requires numbered { IsNumbered program.now }
     requires sized { length cells.old ≡ cells_of (named_of_program program.now) }
-    ensures values { IfOk result (λ r. Listed r (values_of (arrays_in program.now) (exprs_trees list.now) (map_in program.now cells.old))) }
+    ensures values { IfOk result (λ r. Listed r (values_of (arrays_in program.now) (values_in (list_items_tree list.now)) (map_in program.now cells.old))) }
     ensures kept { IfOk result (λ _. map_in program.now cells.new ≡ map_in program.now cells.old) }
     ensures len { length cells.new ≡ length cells.old }
 {

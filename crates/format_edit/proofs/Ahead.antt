@@ -2,11 +2,12 @@
 use Rattle.std.proofs.Common.{◌≡◌, ℕ, ◌+◌, ◌-◌, ◌<◌, ◌≤◌, Bool, true, false, List, [], ◌∷◌, ◌++◌, length, replicate, Ok, Err, refl, sym, ap, ◌∙◌, append_assoc, arith, min, ◌^◌, inl, inr}
 use Rattle.std.specs.Prelude.{nat_lt}
 use Rattle.std.proofs.lemmas.Bool.{lt-ltb, le-ltb, cases_lt}
-use Rattle.std.proofs.lemmas.List.{length-append, length-replicate}
+use Rattle.std.proofs.lemmas.List.{length-append, length-replicate, append-nil}
 use Rattle.meaning.specs.declared.ending.FaultKind.TheVariants.{F7, F8}
 use Rattle.meaning.specs.Characters.{blank}
-use Rattle.meaning.specs.Records.{Course, stops, clashes, puts, moves, ends, is_clash, outcome_of, byte_limit}
+use Rattle.meaning.specs.Records.{Course, stops, clashes, puts, moves, ends, is_clash, outcome_of, byte_limit, justified}
 use Rattle.format_edit.specs.Ahead.{bytes_of, ahead_of}
+use Rattle.format_edit.proofs.Justified.{justified_fits, text_length}
 
 -- too many bytes, also without a last line feed
 pub too_many : (b : Bool) (bytes : List ℕ) → 1048577 < length bytes → outcome_of b bytes ≡ Err F8
@@ -41,6 +42,14 @@ pub puts_some : (bytes : List ℕ) (gap : ℕ) (text : List ℕ) (c : Course) �
 unfolding ahead_of bytes_of
 puts_some bytes gap [] c some = absurd (omega arith)
 puts_some bytes gap (b ∷ bs) c some = ap (outcome_of (is_clash c)) (simp append_assoc)
+
+-- two texts one behind the other
+pub puts_both : (bytes : List ℕ) (gap : ℕ) (x y : List ℕ) (c : Course) → ahead_of bytes gap (puts (x ++ y) c) ≡ ahead_of bytes gap (puts x (puts y c))
+unfolding ahead_of bytes_of
+puts_both bytes gap [] y c = refl
+puts_both bytes gap (b ∷ bs) [] c = ap (λ t. ahead_of bytes gap (puts t c)) (append-nil (b ∷ bs))
+puts_both bytes gap (b ∷ bs) (d ∷ ds) c =
+    ap (λ t. outcome_of (is_clash c) (bytes ++ (replicate gap blank ++ (b ∷ t)))) (append_assoc bs (d ∷ ds) (bytes_of 0 c))
 
 -- no difference between gaps that pass the limit by themselves
 pub far : (bytes : List ℕ) (g h : ℕ) (c : Course) → 1048576 < g → 1048576 < h → ahead_of bytes g c ≡ ahead_of bytes h c
@@ -82,3 +91,13 @@ stops_within bytes gap h = let e : nat_lt byte_limit (length (bytes ++ 10 ∷ []
 pub clashes_within : (bytes : List ℕ) (gap : ℕ) → length bytes ≤ 1048576 → ahead_of bytes gap clashes ≡ Err F7
 unfolding ahead_of bytes_of outcome_of
 clashes_within bytes gap h = let e : nat_lt byte_limit (length (bytes ++ 10 ∷ []) - 1) ≡ false = le-ltb _ _ (simp length-append (omega arith)) in rw e refl
+
+-- blanks and a sign, and then zeros and digits, are what is right justified
+pub puts_signed : (bytes : List ℕ) (gap w fill n : ℕ) (sign digits : List ℕ) (c : Course) → w ≡ fill + (length sign + (n + length digits))
+    → ahead_of bytes gap (puts (justified w (sign ++ (replicate n 48 ++ digits))) c) ≡ ahead_of bytes gap (puts (replicate fill 32 ++ sign) (puts (replicate n 48 ++ digits) c))
+puts_signed bytes gap w fill n sign digits c e =
+    let rest = replicate n 48 ++ digits in
+    let long = text_length sign digits n in
+    let left : w - length (sign ++ rest) ≡ fill = omega arith in
+    ap (λ t. ahead_of bytes gap (puts t c)) (justified_fits w (sign ++ rest) (omega arith) ∙ ap (λ k. replicate k 32 ++ (sign ++ rest)) left ∙ sym (append_assoc (replicate fill 32) sign rest))
+    ∙ puts_both bytes gap (replicate fill 32 ++ sign) rest c

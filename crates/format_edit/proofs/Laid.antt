@@ -5,7 +5,7 @@ use Rattle.std.proofs.lemmas.Bool.{ne_eqb, eq-eqb}
 use Rattle.std.proofs.lemmas.List.{append-nil, map-append}
 use Rattle.meaning.specs.Characters.{blank}
 use Rattle.meaning.specs.declared.ending.Value.{Value}
-use Rattle.meaning.specs.Formats.{Descriptor}
+use Rattle.meaning.specs.Formats.{Parts}
 use Rattle.meaning.specs.Records.{Course, stops, clashes, puts, moves, ends, Record, placed, laid, byte_at, extent, text_of, written, is_clash, outcome_of, course, sequence, edited}
 use Rattle.format_edit.specs.Ahead.{bytes_of, ahead_of}
 
@@ -113,6 +113,6 @@ written_is p r (moves n c) h =
     written_is (p + n) r c (omega arith) ∙ ap (λ k. text_of r ++ bytes_of k c) e
 written_is p r (ends c) h = ap (λ t. text_of r ++ (10 ∷ t)) (written_is 0 [] c (omega arith))
 
-pub edited_is : (ds : List Descriptor) (vs : List Value) → edited ds vs ≡ ahead_of [] 0 (course (sequence ds (length vs)) vs)
+pub edited_is : (ps : Parts) (vs : List Value) → edited ps vs ≡ ahead_of [] 0 (course (sequence ps (length vs)) vs)
 unfolding edited ahead_of text_of
-edited_is ds vs = ap (outcome_of (is_clash (course (sequence ds (length vs)) vs))) (written_is 0 [] (course (sequence ds (length vs)) vs) (omega arith))
+edited_is ps vs = ap (outcome_of (is_clash (course (sequence ps (length vs)) vs))) (written_is 0 [] (course (sequence ps (length vs)) vs) (omega arith))

@@ -1,23 +1,15 @@
--- Walking steps over values.
-use Rattle.std.proofs.Common.{◌≡◌, ℕ, zero, suc, ◌+◌, ◌<◌, ◌≤◌, Bool, true, false, ◌||◌, List, [], ◌∷◌, ◌++◌, length, map, drop, get_or, replicate, Result, Ok, Err, refl, ap, ◌∙◌, append_assoc, arith, ℤ}
-use Rattle.std.proofs.lemmas.List.{at_drop_more, at_drop_all}
-use Rattle.std.proofs.lemmas.List.Concat.{flat_map-cons}
-use Rattle.std.specs.Fmt.{signed_decimal}
-use Rattle.std.specs.List.{list_any}
+-- Walking descriptors over values.
+use Rattle.std.proofs.Common.{◌≡◌, ℕ, zero, suc, ◌<◌, Bool, true, false, List, [], ◌∷◌, ◌++◌, length, Option, Result, Ok, Err, refl, sym, ap, subst, ◌∙◌, append_assoc, arith, ℤ}
 use Rattle.meaning.specs.declared.ending.Value.{Value}
 use Rattle.meaning.specs.declared.ending.Value.TheVariants as values
-use Rattle.meaning.specs.Records.{Step, integer_field, stops, clashes, puts, moves, ends, course, justified, steps_of, pass, is_field, again, sequence}
+use Rattle.meaning.specs.Formats.{Descriptor, integer_field, logical_field, colon, slash, Parts}
+use Rattle.meaning.specs.Records.{stops, clashes, puts, ends, course, justified, integer_text, logical_text, times, pass, have_field, reverted, sequence}
 use Rattle.format_edit.specs.declared.fault.EditFault.{EditFault}
 use Rattle.format_edit.specs.declared.fault.EditFault.TheVariants as faults
-use Rattle.format_edit.specs.declared.format.Descriptor.{Descriptor as DescriptorOf}
-use Rattle.format_edit.specs.declared.format.Descriptor.TheVariants.{Field, Skip}
-use Rattle.format_edit.specs.Formatted.{descriptor_of}
 use Rattle.format_edit.specs.Edits.{Made, Fails, Follows}
-use Rattle.format_edit.specs.Ahead.{ahead_of}
-
--- what was made before leads to this state, where these steps and these values are left
-abbrev pub SoFar : (List Step → Made) → List ℕ → ℕ → List Step → List Value → Type 0
-SoFar before bytes gap steps left = (more : List Step) → before more ≡ ahead_of bytes gap (course (steps ++ more) left)
+use Rattle.format_edit.specs.Ahead.{ahead_of, Walks}
+use Rattle.format_edit.specs.declared.sheet.Sheet.{Sheet}
+use Rattle.std.specs.Borrow.{Bor}
 
 -- a fault of what is ahead is one of the whole
 pub fails_along : (e : EditFault) (whole rest : Made) → whole ≡ rest → Fails e rest → Fails e whole
@@ -29,81 +21,95 @@ pub follows_along : {X : Type 0} (r : Result X EditFault) (whole rest : Made) (a
 follows_along (Ok x) whole rest after same h = same ∙ h
 follows_along (Err e) whole rest after same h = fails_along e whole rest same h
 
-module _ (before : List Step → Made) (bytes : List ℕ) (gap : ℕ) (more : List Step) where
-  -- ---- fields
+-- what was made before leads to this state, where these descriptors and these values are left
+abbrev pub SoFar : (List Descriptor → Made) → List ℕ → ℕ → List Descriptor → List Value → Type 0
+SoFar made bytes gap ds left =
+    (more : List Descriptor) → made more ≡ ahead_of bytes gap (course (ds ++ more) left)
 
-  -- a field with no value left
-  pub field_stops : (w k : ℕ) (left : List Value) → SoFar before bytes gap (replicate k (integer_field w)) left → 0 < k → length left ≡ 0 → before more ≡ ahead_of bytes gap stops
+-- the first of them and those behind
+pub along : (made : List Descriptor → Made) (bytes : List ℕ) (gap : ℕ) (all first behind : List Descriptor) (left : List Value) → SoFar made bytes gap all left → all ≡ first ++ behind → (more : List Descriptor)
+    → made more ≡ ahead_of bytes gap (course (first ++ (behind ++ more)) left)
+along made bytes gap all first behind left so_far e more =
+    so_far more ∙ ap (λ ds. ahead_of bytes gap (course ds left)) (ap (λ ds. ds ++ more) e ∙ append_assoc first behind more)
+
+-- none of them
+pub along_none : (made : List Descriptor → Made) (bytes : List ℕ) (gap : ℕ) (all : List Descriptor) (left : List Value) → SoFar made bytes gap all left → all ≡ [] → (more : List Descriptor)
+    → made more ≡ ahead_of bytes gap (course more left)
+along_none made bytes gap all left so_far e more =
+    so_far more ∙ ap (λ ds. ahead_of bytes gap (course (ds ++ more) left)) e
+
+pub times_more : (k j : ℕ) (ds : List Descriptor) → k ≡ suc j → times k ds ≡ ds ++ times j ds
+times_more k j ds e = ap (λ n. times n ds) e
+
+pub times_none : (k : ℕ) (ds : List Descriptor) → k ≡ 0 → times k ds ≡ []
+times_none k ds e = ap (λ n. times n ds) e
+
+-- ---- fields
+
+module _ (more : List Descriptor) where
+  pub integer_stops : (w m : ℕ) (left : List Value) → length left ≡ 0 → course (integer_field w m ∷ more) left ≡ stops
   unfolding course
-  field_stops w zero left so_far h e = absurd (omega arith)
-  field_stops w (suc k) [] so_far h e = so_far more
-  field_stops w (suc k) (v ∷ vs) so_far h e = absurd (omega arith)
+  integer_stops w m [] e = refl
+  integer_stops w m (v ∷ vs) e = absurd (omega arith)
 
-  -- a field and a LOGICAL
-  pub field_clashes : (w k : ℕ) (left : List Value) (v : Value) (rest : List Value) (b : Bool) → SoFar before bytes gap (replicate k (integer_field w)) left → 0 < k → left ≡ v ∷ rest → v ≡ values.Bool b
-      → before more ≡ ahead_of bytes gap clashes
+  pub integer_clashes : (w m : ℕ) (left : List Value) (v : Value) (rest : List Value) (b : Bool) → left ≡ v ∷ rest → v ≡ values.Bool b → course (integer_field w m ∷ more) left ≡ clashes
   unfolding course
-  field_clashes w zero left v rest b so_far h e is = absurd (omega arith)
-  field_clashes w (suc k) left v rest b so_far h e is =
-      so_far more ∙ ap (λ vs. ahead_of bytes gap (course (integer_field w ∷ (replicate k (integer_field w) ++ more)) vs)) (e ∙ ap (λ x. x ∷ rest) is)
+  integer_clashes w m left v rest b e is =
+      ap (course (integer_field w m ∷ more)) (e ∙ ap (λ x. x ∷ rest) is)
 
-  -- a field and an INTEGER
-  pub field_puts : (w k j : ℕ) (left : List Value) (v : Value) (rest : List Value) (z : ℤ) → SoFar before bytes gap (replicate k (integer_field w)) left → k ≡ suc j → left ≡ v ∷ rest → v ≡ values.Int z
-      → before more ≡ ahead_of bytes gap (puts (justified w (signed_decimal z)) (course (replicate j (integer_field w) ++ more) rest))
+  pub integer_puts : (w m : ℕ) (left : List Value) (v : Value) (rest : List Value) (z : ℤ) → left ≡ v ∷ rest → v ≡ values.Int z → course (integer_field w m ∷ more) left ≡ puts (justified w (integer_text m z)) (course more rest)
   unfolding course
-  field_puts w k j left v rest z so_far h e is =
-      so_far more ∙ ap (λ n. ahead_of bytes gap (course (replicate n (integer_field w) ++ more) left)) h ∙ ap (λ vs. ahead_of bytes gap (course (integer_field w ∷ (replicate j (integer_field w) ++ more)) vs)) (e ∙ ap (λ x. x ∷ rest) is)
+  integer_puts w m left v rest z e is = ap (course (integer_field w m ∷ more)) (e ∙ ap (λ x. x ∷ rest) is)
 
--- ---- passes
-
-pass_next : (ds : List DescriptorOf) (i : ℕ) (d x : DescriptorOf) (more : List Step) → i < length ds → get_or ds i d ≡ x
-    → pass (map descriptor_of (drop i ds)) ++ more ≡ steps_of (descriptor_of x) ++ (pass (map descriptor_of (drop (i + 1) ds)) ++ more)
-pass_next ds i d x more lt is =
-    at_drop_more (λ xs. pass (map descriptor_of xs) ++ more) ds i d lt
-    ∙ ap (λ y. pass (descriptor_of y ∷ map descriptor_of (drop (i + 1) ds)) ++ more) is
-    ∙ ap (λ xs. xs ++ more) (flat_map-cons steps_of (descriptor_of x) (map descriptor_of (drop (i + 1) ds)))
-    ∙ append_assoc (steps_of (descriptor_of x)) (pass (map descriptor_of (drop (i + 1) ds))) more
-
-module _ (before : List Step → Made) (bytes : List ℕ) (gap : ℕ) (ds : List DescriptorOf) (i : ℕ) (left : List Value) (so_far : SoFar before bytes gap (pass (map descriptor_of (drop i ds))) left) (more : List Step) where
-  pub pass_ends : length ds ≤ i → before more ≡ ahead_of bytes gap (course more left)
-  pass_ends le = so_far more ∙ at_drop_all (λ xs. ahead_of bytes gap (course (pass (map descriptor_of xs) ++ more) left)) ds i le
-
-  pub pass_fields : (d : DescriptorOf) (r w : ℕ) → i < length ds → get_or ds i d ≡ Field r w
-      → before more ≡ ahead_of bytes gap (course (replicate r (integer_field w) ++ (pass (map descriptor_of (drop (i + 1) ds)) ++ more)) left)
-  pass_fields d r w lt is = so_far more ∙ ap (λ steps. ahead_of bytes gap (course steps left)) (pass_next ds i d (Field r w) more lt is)
-
-  pub pass_skips : (d : DescriptorOf) (n : ℕ) → i < length ds → get_or ds i d ≡ Skip n
-      → before more ≡ ahead_of bytes gap (moves n (course (pass (map descriptor_of (drop (i + 1) ds)) ++ more) left))
+  pub logical_stops : (w : ℕ) (left : List Value) → length left ≡ 0 → course (logical_field w ∷ more) left ≡ stops
   unfolding course
-  pass_skips d n lt is = so_far more ∙ ap (λ steps. ahead_of bytes gap (course steps left)) (pass_next ds i d (Skip n) more lt is)
+  logical_stops w [] e = refl
+  logical_stops w (v ∷ vs) e = absurd (omega arith)
+
+  pub logical_clashes : (w : ℕ) (left : List Value) (v : Value) (rest : List Value) (z : ℤ) → left ≡ v ∷ rest → v ≡ values.Int z → course (logical_field w ∷ more) left ≡ clashes
+  unfolding course
+  logical_clashes w left v rest z e is = ap (course (logical_field w ∷ more)) (e ∙ ap (λ x. x ∷ rest) is)
+
+  pub logical_puts : (w : ℕ) (left : List Value) (v : Value) (rest : List Value) (b : Bool) → left ≡ v ∷ rest → v ≡ values.Bool b → course (logical_field w ∷ more) left ≡ puts (justified w (logical_text b)) (course more rest)
+  unfolding course
+  logical_puts w left v rest b e is = ap (course (logical_field w ∷ more)) (e ∙ ap (λ x. x ∷ rest) is)
+
+  pub colon_stops : (left : List Value) → length left ≡ 0 → course (colon ∷ more) left ≡ stops
+  unfolding course
+  colon_stops [] e = refl
+  colon_stops (v ∷ vs) e = absurd (omega arith)
+
+  pub colon_passes : (left : List Value) → 0 < length left → course (colon ∷ more) left ≡ course more left
+  unfolding course
+  colon_passes [] h = absurd (omega arith)
+  colon_passes (v ∷ vs) h = refl
 
 -- ---- going back
 
--- whether a field is among the descriptors
-any_field : (ds : List DescriptorOf) → list_any is_field (map descriptor_of ds) ≡ list_any (λ d. is_field (descriptor_of d)) ds
-any_field [] = refl
-any_field (d ∷ ds) = ap (λ b. is_field (descriptor_of d) || b) (any_field ds)
+pub goes_back : (ps again : Parts) (n : ℕ) → again ≡ reverted ps → have_field again ≡ true → sequence ps n ≡ pass ps ++ times n (colon ∷ (slash ∷ pass again))
+goes_back ps again n same e =
+    let k : have_field (reverted ps) ≡ true = ap have_field (sym same) ∙ e in
+    rw k (ap (λ x. pass ps ++ times n (colon ∷ (slash ∷ pass x))) (sym same))
 
--- a format with a field goes back
-pub goes_back : (ds : List DescriptorOf) (n : ℕ) → list_any (λ d. is_field (descriptor_of d)) ds ≡ true → sequence (map descriptor_of ds) n ≡ pass (map descriptor_of ds) ++ again n (pass (map descriptor_of ds))
-goes_back ds n e = let k = any_field ds ∙ e in rw k refl
-
-pub stays : (ds : List DescriptorOf) (n : ℕ) → list_any (λ d. is_field (descriptor_of d)) ds ≡ false → sequence (map descriptor_of ds) n ≡ pass (map descriptor_of ds) ++ []
-stays ds n e = let k = any_field ds ∙ e in rw k refl
+pub stays : (ps again : Parts) (n : ℕ) → again ≡ reverted ps → have_field again ≡ false → sequence ps n ≡ pass ps ++ []
+stays ps again n same e =
+    let k : have_field (reverted ps) ≡ false = ap have_field (sym same) ∙ e in
+    rw k refl
 
 -- where the list is used up
-pub again_stops : (n : ℕ) (steps : List Step) (left : List Value) → length left ≡ 0 → course (again n steps) left ≡ stops
+pub again_stops : (n : ℕ) (steps : List Descriptor) (left : List Value) → length left ≡ 0 → course (times n (colon ∷ (slash ∷ steps))) left ≡ stops
 unfolding course
 again_stops zero steps [] e = refl
 again_stops (suc n) steps [] e = refl
 again_stops n steps (v ∷ vs) e = absurd (omega arith)
 
-pub again_ends : (n j : ℕ) (steps : List Step) (left : List Value) → n ≡ suc j → 0 < length left → course (again n steps) left ≡ ends (course (steps ++ again j steps) left)
+pub again_ends : (n j : ℕ) (steps : List Descriptor) (left : List Value) → n ≡ suc j → 0 < length left → course (times n (colon ∷ (slash ∷ steps))) left ≡ ends (course (steps ++ times j (colon ∷ (slash ∷ steps))) left)
 unfolding course
 again_ends n j steps [] e h = absurd (omega arith)
-again_ends n j steps (v ∷ vs) e h = ap (λ k. course (again k steps) (v ∷ vs)) e
+again_ends n j steps (v ∷ vs) e h =
+    ap (λ k. course (times k (colon ∷ (slash ∷ steps))) (v ∷ vs)) e
 
--- values that are left where no step is
+-- values that are left where nothing of a format is
 pub nothing_stops : (left : List Value) → length left ≡ 0 → course [] left ≡ stops
 unfolding course
 nothing_stops [] e = refl
@@ -113,3 +119,8 @@ pub nothing_clashes : (left : List Value) → 0 < length left → course [] left
 unfolding course
 nothing_clashes [] h = absurd (omega arith)
 nothing_clashes (v ∷ vs) h = refl
+
+-- ---- the same descriptors
+
+pub walks_same : (result : Result (Option (Bor (List Value))) EditFault) (old new : Sheet) (vs : List Value) (a b : List Descriptor) → a ≡ b → Walks result old vs a new → Walks result old vs b new
+walks_same result old new vs a b same h = subst (λ ds. Walks result old vs ds new) same h

@@ -11,7 +11,7 @@ mod sheet;
 
 pub use editing::edit;
 pub use fault::{EditFault, FormatFault};
-pub use format::{Descriptor, Format};
+pub use format::{Descriptor, Format, Part};
 pub use laws::one_format;
 
 #[cfg(test)]

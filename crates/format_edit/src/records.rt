@@ -1,8 +1,7 @@
 //! Putting bytes into records (ANSI X3.9-1978, 12.9.5 and 13.5).
 
-ghost use Rattle.std.specs.Prelude.{◌≡◌, ◌≤◌, ◌+◌, ◌++◌, ◌↔◌, IsTrue, length, vec_len, replicate, OnOk, Ok, []};
-ghost use Rattle.std.specs.Fmt.{signed_decimal};
-ghost use Rattle.meaning.specs.Records.{Course, stops, puts, moves, ends, justified};
+ghost use Rattle.std.specs.Prelude.{◌≡◌, ◌≤◌, ◌<◌, ◌+◌, ◌-◌, ◌^◌, ◌++◌, ◌↔◌, IsTrue, length, vec_len, replicate, OnOk, Ok, []};
+ghost use Rattle.meaning.specs.Records.{Course, stops, puts, moves, ends, justified, sign_of, integer_text, logical_text};
 ghost use Rattle.format_edit.specs.Edits.{Follows};
 ghost use Rattle.format_edit.specs.Ahead.{ahead};
 
@@ -72,17 +71,80 @@ pub(crate) fn put(sheet: &mut Sheet, fill: u8, count: usize, text: &[u8]) -> Res
     Ok(())
 }
 
-/// Puts an integer right justified, or asterisks where it doesn't fit.
-pub(crate) fn put_integer(sheet: &mut Sheet, width: usize, value: i32) -> Result<(), EditFault>
-    ensures { (c : Course) → Follows result (ahead sheet.old (puts (justified width (signed_decimal value)) c)) (λ _. ahead sheet.new c) }
+/// Puts a text right justified, or asterisks where it doesn't fit.
+fn put_justified(sheet: &mut Sheet, width: usize, text: &[u8]) -> Result<(), EditFault>
+    ensures { (c : Course) → Follows result (ahead sheet.old (puts (justified width text.now) c)) (λ _. ahead sheet.new c) }
 {
-    let mut buffer = Buffer::new();
-    let digits = buffer.format(value).as_bytes();
-    if width < digits.len() {
+    if width < text.len() {
         put(sheet, b'*', width, &[])
     } else {
-        put(sheet, b' ', width - digits.len(), digits)
+        put(sheet, b' ', width - text.len(), text)
     }
+}
+
+/// The sign that is written before a number.
+fn sign_of(value: i32) -> &'static [u8]
+    ensures { result.now ≡ sign_of value }
+{
+    if value < 0 { b"-" } else { b"" }
+}
+
+/// Puts a sign, and digits with zeros before them where they are less than asked for, right justified; or asterisks
+/// where they don't fit.
+fn put_digits(
+    sheet: &mut Sheet,
+    width: usize,
+    least: usize,
+    sign: &[u8],
+    digits: &[u8],
+) -> Result<(), EditFault>
+    requires { length sign.now + (least + length digits.now) < 2 ^ 32 }
+    ensures { (c : Course) → Follows result
+        (ahead sheet.old (puts (justified width (sign.now ++ (replicate (least - length digits.now) 48 ++ digits.now))) c))
+        (λ _. ahead sheet.new c) }
+{
+    let zeros = least.saturating_sub(digits.len());
+    let len = sign.len() + zeros + digits.len();
+    if width < len {
+        return put(sheet, b'*', width, &[]);
+    }
+    put(sheet, b' ', width - len, sign)?;
+    put(sheet, b'0', zeros, digits)
+}
+
+/// Puts an integer right justified, with at least so many digits, none where it is 0 and none is asked for; or
+/// asterisks where it doesn't fit (ANSI X3.9-1978, 13.5.9.1).
+pub(crate) fn put_integer(
+    sheet: &mut Sheet,
+    width: usize,
+    least: u16,
+    value: i32,
+) -> Result<(), EditFault>
+    ensures { (c : Course) → Follows result
+        (ahead sheet.old (puts (justified width (integer_text least value)) c)) (λ _. ahead sheet.new c) }
+{
+    let magnitude = value.unsigned_abs();
+    if least == 0 && magnitude == 0 {
+        return put(sheet, b' ', width, &[]);
+    }
+    let mut buffer = Buffer::new();
+    let digits = buffer.format(magnitude).as_bytes();
+    put_digits(sheet, width, usize::from(least), sign_of(value), digits)
+}
+
+/// Puts T or F right justified (ANSI X3.9-1978, 13.5.10).
+pub(crate) fn put_logical(sheet: &mut Sheet, width: usize, value: bool) -> Result<(), EditFault>
+    ensures { (c : Course) → Follows result (ahead sheet.old (puts (justified width (logical_text value)) c)) (λ _. ahead sheet.new c) }
+{
+    let text = if value { b"T" } else { b"F" };
+    put_justified(sheet, width, text)
+}
+
+/// Puts characters as they are.
+pub(crate) fn put_characters(sheet: &mut Sheet, text: &[u8]) -> Result<(), EditFault>
+    ensures { (c : Course) → Follows result (ahead sheet.old (puts text.now c)) (λ _. ahead sheet.new c) }
+{
+    put(sheet, b' ', 0, text)
 }
 
 /// Ends the record: a line feed, and no blanks are due.

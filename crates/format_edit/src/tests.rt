@@ -1,5 +1,6 @@
 //! What a text reads as, and the records that formats make.
 
+mod constants;
 mod formats;
 mod limits;
 mod records;
@@ -8,15 +9,6 @@ use crate::{EditFault, Format, edit};
 use meaning::ending::Value;
 use std::alloc::{AllocError, Global};
 use std::test::Fail;
-
-/// Values that are INTEGER.
-fn integers(alloc: Global, numbers: &[i32]) -> Result<Vec<Value>, AllocError> {
-    let mut values = Vec::new(alloc);
-    for number in numbers {
-        values.push(Value::Int(*number))?;
-    }
-    Ok(values)
-}
 
 /// So many zeros, and then .TRUE. where it is asked for.
 fn zeros(alloc: Global, count: usize, and_true: bool) -> Result<Vec<Value>, AllocError> {
@@ -36,6 +28,6 @@ fn outcome(
     text: &[u8],
     values: &[Value],
 ) -> Result<Result<Vec<u8>, EditFault>, Fail> {
-    let format = Format::read(alloc, text)?;
+    let format = Format::read_inside(alloc, text)?;
     Ok(edit(alloc, &format, values))
 }

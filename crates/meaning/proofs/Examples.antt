@@ -8,18 +8,17 @@ use Rattle.meaning.specs.declared.syntax.Kind.TheVariants as kinds
 use Rattle.meaning.specs.declared.refusal.Rule.TheVariants.{C3, C4, C5, C6, G1, G2}
 use Rattle.meaning.specs.declared.ending.Ending.TheVariants as endings
 use Rattle.meaning.specs.declared.ending.Value.TheVariants as values
-use Rattle.meaning.specs.declared.ending.FaultKind.TheVariants.{F7}
 use Rattle.meaning.specs.Syntax.{number, name, signed, binary, paren, no_exprs, assignment, doing}
 use Rattle.meaning.specs.Answers.{answer, program_of, members_of, run_of}
 use Rattle.meaning.specs.Statements.{statements_of, statements_in, groups}
 use Rattle.meaning.specs.Lines.{lines_of, pieces, without_return, card, statement_lines}
 use Rattle.meaning.specs.BareText.{bare, bare_behind}
-use Rattle.meaning.specs.Reading.{read_shape, shape_of, assignment_of, writing_of, format_of, ending_of, before_last_parenthesis, doing_of, continuing_of, typing_of, declarator_at, dimensions_at, bounds_at, separated_at, name_or_element_at, subscripts_at, exprs_at, limits_at, comma_at, label_at, unit_at, list_of, expressions_at, whole_expression_at, expression_at, operations_at, front_at, primary_at, paren_at, name_at, operator_at, sign_at, run, after, most_open, is_left_out}
-use Rattle.meaning.specs.Kinds.{kind_of, marks_at, has_limits}
+use Rattle.meaning.specs.Reading.{read_shape, shape_of, shape_by, simple_by, value_of, target_of, assignment_of, writing_of, format_of, alone_of, before_last_parenthesis, doing_of, declarators_of, typing_of, declarator_at, dimensions_at, bounds_at, separated_at, name_or_element_at, subscripts_at, exprs_at, limits_at, comma_at, label_at, unit_at, list_of, items_at, item_at, value_item_at, expression_from, ends_list, begins_control, source_at, control_at, behind_unit_at, whole_expression_at, expression_at, operations_at, front_at, negation_at, primary_at, truth_at, paren_at, name_at, operator_at, first_operator_at, sign_at, run, after, most_open, is_left_out}
+use Rattle.meaning.specs.Kinds.{kind_of, kind_behind_if, kind_outside_if, kind_by_keyword, kind_by_control_keyword, behind_closing, marks_at, has_limits}
 use Rattle.meaning.specs.Spelling.{balanced}
 use Rattle.meaning.specs.Nesting.{nest, past, breaks, missing_end}
 use Rattle.meaning.specs.Rules.{checked, repeated_labels, reset_variables, repeats, disputed_names, have_too_large, large_arrays, dimensions_given, arrays_by}
-use Rattle.meaning.specs.Formats.{descriptors_of, descriptors_at, descriptor_at, behind_count, field, skip}
+use Rattle.meaning.specs.Formats.{descriptors_of, parts_in, parts_at, next_at, part_at, counted_at, behind_count, group_at, characters_at, quoted_at, integer_at, logical_at, least_at}
 use Rattle.meaning.specs.Execution.{exec, fuelled, pass_over, looped, fold_trips, goes_on, format_found, with_ok, turn, more}
 use Rattle.meaning.specs.Trips.{span_of, trips}
 use Rattle.meaning.specs.Arrays.{Dimension, place, cell_of}
@@ -29,7 +28,7 @@ use Rattle.meaning.specs.Records.{edited, outcome_of, written, text_of, laid, co
 
 -- every definition that stays folded elsewhere
 all_definitions : Unit {0}
-unfolding answer program_of members_of statements_of lines_of pieces without_return card statement_lines statements_in groups bare bare_behind read_shape shape_of kind_of marks_at has_limits assignment_of writing_of format_of ending_of doing_of continuing_of typing_of declarator_at dimensions_at bounds_at separated_at name_or_element_at subscripts_at exprs_at limits_at comma_at paren_at balanced before_last_parenthesis label_at unit_at list_of expressions_at whole_expression_at expression_at operations_at front_at primary_at name_at operator_at sign_at run after most_open is_left_out nest past breaks missing_end checked repeated_labels reset_variables repeats disputed_names have_too_large large_arrays dimensions_given arrays_by descriptors_of descriptors_at descriptor_at behind_count run_of exec fuelled pass_over looped fold_trips goes_on span_of format_found with_ok turn more value values_of integer put start map_by edited outcome_of written text_of laid course digits
+unfolding answer program_of members_of statements_of lines_of pieces without_return card statement_lines statements_in groups bare bare_behind read_shape shape_of kind_of kind_behind_if kind_outside_if kind_by_keyword kind_by_control_keyword behind_closing marks_at has_limits shape_by simple_by value_of target_of assignment_of writing_of format_of alone_of doing_of declarators_of typing_of declarator_at dimensions_at bounds_at separated_at name_or_element_at subscripts_at exprs_at limits_at comma_at paren_at balanced before_last_parenthesis label_at unit_at list_of items_at item_at value_item_at expression_from ends_list begins_control source_at control_at behind_unit_at whole_expression_at expression_at operations_at front_at negation_at primary_at truth_at name_at operator_at first_operator_at sign_at run after most_open is_left_out nest past breaks missing_end checked repeated_labels reset_variables repeats disputed_names have_too_large large_arrays dimensions_given arrays_by descriptors_of parts_in parts_at next_at part_at counted_at behind_count group_at characters_at quoted_at integer_at logical_at least_at run_of exec fuelled pass_over looped fold_trips goes_on span_of format_found with_ok turn more value values_of integer put start map_by edited outcome_of written text_of laid course digits
 all_definitions = tt
 
 -- blanks have no meaning outside apostrophes, and letters are raised there
@@ -61,6 +60,11 @@ do_statement : shape_of (codes "DO10I=1,(N)") ≡ Some (doing (codes "10") false
 unfolding all_definitions
 do_statement = refl
 
+-- DATA(I)=1 is an assignment
+data_by_equals : kind_of (codes "DATA(I)=1") ≡ kinds.Assignment
+unfolding all_definitions
+data_by_equals = refl
+
 no_reading : read_shape (codes "I=A*-B") ≡ Err G1
 unfolding all_definitions
 no_reading = refl
@@ -68,19 +72,6 @@ no_reading = refl
 left_out_statement : read_shape (codes "READ(5,*)N") ≡ Err G2
 unfolding all_definitions
 left_out_statement = refl
-
-two_descriptors : descriptors_of (codes "1X,2I5") ≡ Some (skip 1 ∷ (field 2 5 ∷ []))
-unfolding all_definitions
-two_descriptors = refl
-
--- a trailing X writes nothing, and asterisks stand for what doesn't fit
-one_record : edited (field 1 3 ∷ (skip 5 ∷ [])) (values.Int (negsuc 999) ∷ []) ≡ Ok (codes "***\n")
-unfolding all_definitions
-one_record = refl
-
-clash : edited (field 1 3 ∷ []) (values.Int (pos 7) ∷ (values.Bool true ∷ [])) ≡ Err F7
-unfolding all_definitions
-clash = refl
 
 -- trips 1, 4, 7 and 10; none where the first value is beyond the last; and downwards
 four_trips : trips (pos 1) (pos 10) (pos 3) ≡ pos 1 ∷ (pos 4 ∷ (pos 7 ∷ (pos 10 ∷ [])))

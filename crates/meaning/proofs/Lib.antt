@@ -3,7 +3,10 @@ pub mod Ranges
 pub mod Running
 pub mod Limits
 pub mod Examples
+pub mod FormatExamples
+pub mod NestingExamples
 pub mod Stores
 pub mod Maps
 pub mod Elements
 pub mod Groups
+pub mod Readers

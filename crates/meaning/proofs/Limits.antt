@@ -4,14 +4,14 @@ use mathlib.Core.Path.{fun_ext}
 use Rattle.meaning.specs.declared.ending.FaultKind.{FaultKind}
 use Rattle.meaning.specs.declared.ending.Value.{Value}
 use Rattle.meaning.specs.Characters.{number_of}
-use Rattle.meaning.specs.Syntax.{ExprsTree, ShapeTree, assignment, writing, format, doing, continuing, typing, ending, ItemTree}
-use Rattle.meaning.specs.Rules.{arrays_of}
-use Rattle.meaning.specs.Trees.{Members, none, plain, loop}
+use Rattle.meaning.specs.Syntax.{ExprsTree, ShapeTree, ListItemsTree, FormatTree, assignment, writing, printing, doing, continuing, ItemTree}
+use Rattle.meaning.specs.Rules.{arrays_of, values_in}
+use Rattle.meaning.specs.Trees.{Members, none, plain, loop, block}
 use Rattle.meaning.specs.Trips.{span_of, trips}
 use Rattle.meaning.specs.Maps.{Map, put}
 use Rattle.meaning.specs.Values.{Arrays, value, values_of, subscripts, dimensions_in, as_integer, integer}
 use Rattle.meaning.specs.Records.{edited}
-use Rattle.meaning.specs.Execution.{Outcome, normal, fault, Ran, more, ended, turn, with_ok, format_at, Meaning, Follow, goes_on, goes_on_by, step, added, fold_trips, trips_from, looped, pass_over, fuelled, exec}
+use Rattle.meaning.specs.Execution.{Outcome, normal, fault, Ran, more, ended, turn, with_ok, parts_for, output, Meaning, Follow, goes_on, goes_on_by, step, added, fold_trips, trips_from, looped, pass_over, fuelled, exec}
 use Rattle.meaning.specs.Turns.{met_limit}
 use Rattle.meaning.proofs.Running.{more-more, more-none, exec-fuelled}
 
@@ -48,19 +48,20 @@ turn-used line m zero go h = omega arith
 turn-used line m (suc t) go h = more-used [] 1 (go t) (suc t) (let k = h t in omega arith)
 
 module _ (program : List ItemTree) where
+  output-used : (source : FormatTree) (list : ListItemsTree) (line : ℕ) (m : Map) (t : ℕ) (go : Follow) → Spares go → (output program source list line m t go).used ≤ t
+  output-used source list line m t go h =
+      let records : List Value → Result (List ℕ) FaultKind = λ vs. edited (parts_for program source) vs in
+      turn-used line m t (λ u. with_ok (values_of (arrays_of program) (values_in list) m) line m (λ vs. with_ok (records vs) line m (λ r. more (r ∷ []) 0 (go m u)))) (λ u. with_ok-used (values_of (arrays_of program) (values_in list) m) line m u (λ vs. with_ok (records vs) line m (λ r. more (r ∷ []) 0 (go m u))) (λ vs. with_ok-used (records vs) line m u (λ r. more (r ∷ []) 0 (go m u)) (λ r. more-used (r ∷ []) 0 (go m u) u (let k = h m u in omega arith))))
+
   step-used : (s : ShapeTree) (line : ℕ) (m : Map) (t : ℕ) (go : Follow) → Spares go → (step program s line m t go).used ≤ t
   step-used (assignment target es e) line m t go h =
       let here = subscripts (arrays_of program) (dimensions_in (arrays_of program target)) es m in
       let right = value (arrays_of program) e m in
       turn-used line m t (λ u. with_ok here line m (λ ss. with_ok right line m (λ v. go (put m target ss (as_integer v)) u))) (λ u. with_ok-used here line m u (λ ss. with_ok right line m (λ v. go (put m target ss (as_integer v)) u)) (λ ss. with_ok-used right line m u (λ v. go (put m target ss (as_integer v)) u) (λ v. h (put m target ss (as_integer v)) u)))
-  step-used (writing unit label es) line m t go h =
-      let records : List Value → Result (List ℕ) FaultKind = λ vs. edited (format_at program (number_of label)) vs in
-      turn-used line m t (λ u. with_ok (values_of (arrays_of program) es m) line m (λ vs. with_ok (records vs) line m (λ r. more (r ∷ []) 0 (go m u)))) (λ u. with_ok-used (values_of (arrays_of program) es m) line m u (λ vs. with_ok (records vs) line m (λ r. more (r ∷ []) 0 (go m u))) (λ vs. with_ok-used (records vs) line m u (λ r. more (r ∷ []) 0 (go m u)) (λ r. more-used (r ∷ []) 0 (go m u) u (let k = h m u in omega arith))))
-  step-used (format text) line m t go h = h m t
-  step-used (doing label comma variable limits) line m t go h = h m t
-  step-used (typing ds) line m t go h = h m t
+  step-used (writing control list) line m t go h = output-used control.source list line m t go h
+  step-used (printing source list) line m t go h = output-used source list line m t go h
   step-used continuing line m t go h = turn-used line m t (λ u. go m u) (λ u. h m u)
-  step-used ending line m t go h = h m t
+  step-used s line m t go h = h m t
 
 fold_trips-used : (f : Meaning) (line : ℕ) (variable : List ℕ) (by : ℤ) (range : Members) → SparesAll f → (is : List ℤ) (m : Map) (t : ℕ) → (fold_trips f line variable by range is m t).used ≤ t
 unfolding fold_trips
@@ -72,12 +73,7 @@ looped-used : (arrays : Arrays) (f : Meaning) → SparesAll f → (s : ShapeTree
 unfolding looped
 looped-used arrays f all_spared (doing label comma variable limits) line range m t go h =
     turn-used line m t (λ u. with_ok (span_of arrays limits m) line m (λ s. goes_on (trips_from f line variable range m u s) u go)) (λ u. with_ok-used (span_of arrays limits m) line m u (λ s. goes_on (trips_from f line variable range m u s) u go) (λ s. goes_on-used (trips_from f line variable range m u s) u go (fold_trips-used f line variable s.step range all_spared (trips s.first s.last s.step) (put m variable [] s.first) u) h))
-looped-used arrays f all_spared (assignment target es e) line range m t go h = h m t
-looped-used arrays f all_spared (writing unit label es) line range m t go h = h m t
-looped-used arrays f all_spared (format text) line range m t go h = h m t
-looped-used arrays f all_spared continuing line range m t go h = h m t
-looped-used arrays f all_spared (typing ds) line range m t go h = h m t
-looped-used arrays f all_spared ending line range m t go h = h m t
+looped-used arrays f all_spared s line range m t go h = h m t
 
 pass_over-used : (program : List ItemTree) (f : Meaning) → SparesAll f → (all rest : Members) (m : Map) (t : ℕ) → (pass_over program f all rest m t).used ≤ t
 unfolding pass_over
@@ -86,6 +82,7 @@ pass_over-used program f all_spared all (plain x ms) m t =
     step-used program x.shape x.line m t (λ n u. pass_over program f all ms n u) (λ n u. pass_over-used program f all_spared all ms n u)
 pass_over-used program f all_spared all (loop x range ms) m t =
     looped-used (arrays_of program) f all_spared x.shape x.line range m t (λ n u. pass_over program f all ms n u) (λ n u. pass_over-used program f all_spared all ms n u)
+pass_over-used program f all_spared all (block arms x ms) m t = pass_over-used program f all_spared all ms m t
 
 fuelled-used : (program : List ItemTree) (n : ℕ) → SparesAll (fuelled program n)
 unfolding fuelled
@@ -151,19 +148,20 @@ run_on-steady run go steady follow t u le h =
     ap (λ r. goes_on r u go) (steady t u le (goes_on-limit (run t) t go h)) ∙ goes_on-steady (run t) go follow t u le h
 
 module _ (program : List ItemTree) where
+  output-steady : (source : FormatTree) (list : ListItemsTree) (line : ℕ) (m : Map) (go : Follow) → SteadyFollow go → Steady (λ t. output program source list line m t go)
+  output-steady source list line m go h =
+      let records : List Value → Result (List ℕ) FaultKind = λ vs. edited (parts_for program source) vs in
+      turn-steady line m (λ u. with_ok (values_of (arrays_of program) (values_in list) m) line m (λ vs. with_ok (records vs) line m (λ r. more (r ∷ []) 0 (go m u)))) (with_ok-steady (values_of (arrays_of program) (values_in list) m) line m (λ vs u. with_ok (records vs) line m (λ r. more (r ∷ []) 0 (go m u))) (λ vs. with_ok-steady (records vs) line m (λ r u. more (r ∷ []) 0 (go m u)) (λ r. more-steady (r ∷ []) 0 (λ u. go m u) (h m))))
+
   step-steady : (s : ShapeTree) (line : ℕ) (m : Map) (go : Follow) → SteadyFollow go → Steady (λ t. step program s line m t go)
   step-steady (assignment target es e) line m go h =
       let here = subscripts (arrays_of program) (dimensions_in (arrays_of program target)) es m in
       let right = value (arrays_of program) e m in
       turn-steady line m (λ u. with_ok here line m (λ ss. with_ok right line m (λ v. go (put m target ss (as_integer v)) u))) (with_ok-steady here line m (λ ss u. with_ok right line m (λ v. go (put m target ss (as_integer v)) u)) (λ ss. with_ok-steady right line m (λ v u. go (put m target ss (as_integer v)) u) (λ v. h (put m target ss (as_integer v)))))
-  step-steady (writing unit label es) line m go h =
-      let records : List Value → Result (List ℕ) FaultKind = λ vs. edited (format_at program (number_of label)) vs in
-      turn-steady line m (λ u. with_ok (values_of (arrays_of program) es m) line m (λ vs. with_ok (records vs) line m (λ r. more (r ∷ []) 0 (go m u)))) (with_ok-steady (values_of (arrays_of program) es m) line m (λ vs u. with_ok (records vs) line m (λ r. more (r ∷ []) 0 (go m u))) (λ vs. with_ok-steady (records vs) line m (λ r u. more (r ∷ []) 0 (go m u)) (λ r. more-steady (r ∷ []) 0 (λ u. go m u) (h m))))
-  step-steady (format text) line m go h = h m
-  step-steady (doing label comma variable limits) line m go h = h m
-  step-steady (typing ds) line m go h = h m
+  step-steady (writing control list) line m go h = output-steady control.source list line m go h
+  step-steady (printing source list) line m go h = output-steady source list line m go h
   step-steady continuing line m go h = turn-steady line m (λ u. go m u) (h m)
-  step-steady ending line m go h = h m
+  step-steady s line m go h = h m
 
 fold_trips-steady : (f : Meaning) (line : ℕ) (variable : List ℕ) (by : ℤ) (range : Members) → SteadyMeaning f → (is : List ℤ) (m : Map) → Steady (λ t. fold_trips f line variable by range is m t)
 unfolding fold_trips
@@ -175,12 +173,7 @@ looped-steady : (arrays : Arrays) (f : Meaning) → SteadyMeaning f → (s : Sha
 unfolding looped
 looped-steady arrays f steady (doing label comma variable limits) line range m go h =
     turn-steady line m (λ u. with_ok (span_of arrays limits m) line m (λ s. goes_on (trips_from f line variable range m u s) u go)) (with_ok-steady (span_of arrays limits m) line m (λ s u. goes_on (trips_from f line variable range m u s) u go) (λ s. run_on-steady (λ u. trips_from f line variable range m u s) go (fold_trips-steady f line variable s.step range steady (trips s.first s.last s.step) (put m variable [] s.first)) h))
-looped-steady arrays f steady (assignment target es e) line range m go h = h m
-looped-steady arrays f steady (writing unit label es) line range m go h = h m
-looped-steady arrays f steady (format text) line range m go h = h m
-looped-steady arrays f steady continuing line range m go h = h m
-looped-steady arrays f steady (typing ds) line range m go h = h m
-looped-steady arrays f steady ending line range m go h = h m
+looped-steady arrays f steady s line range m go h = h m
 
 pass_over-steady : (program : List ItemTree) (f : Meaning) → SteadyMeaning f → SteadyMeaning (pass_over program f)
 unfolding pass_over
@@ -189,6 +182,7 @@ pass_over-steady program f steady all (plain x ms) m t u le h =
     step-steady program x.shape x.line m (λ n u. pass_over program f all ms n u) (λ n. pass_over-steady program f steady all ms n) t u le h
 pass_over-steady program f steady all (loop x range ms) m t u le h =
     looped-steady (arrays_of program) f steady x.shape x.line range m (λ n u. pass_over program f all ms n u) (λ n. pass_over-steady program f steady all ms n) t u le h
+pass_over-steady program f steady all (block arms x ms) m t u le h = pass_over-steady program f steady all ms m t u le h
 
 fuelled-steady : (program : List ItemTree) (n : ℕ) → SteadyMeaning (fuelled program n)
 unfolding fuelled

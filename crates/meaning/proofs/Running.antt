@@ -5,14 +5,14 @@ use mathlib.Core.Path.{fun_ext}
 use Rattle.meaning.specs.declared.ending.FaultKind.{FaultKind}
 use Rattle.meaning.specs.declared.ending.Value.{Value}
 use Rattle.meaning.specs.Characters.{number_of}
-use Rattle.meaning.specs.Syntax.{ExprsTree, ShapeTree, assignment, writing, format, doing, continuing, typing, ending, ItemTree}
-use Rattle.meaning.specs.Rules.{arrays_of}
-use Rattle.meaning.specs.Trees.{Members, none, plain, loop}
+use Rattle.meaning.specs.Syntax.{ExprsTree, ShapeTree, ListItemsTree, FormatTree, assignment, writing, printing, doing, continuing, ItemTree}
+use Rattle.meaning.specs.Rules.{arrays_of, values_in}
+use Rattle.meaning.specs.Trees.{Members, none, plain, loop, block}
 use Rattle.meaning.specs.Trips.{span_of, trips}
 use Rattle.meaning.specs.Maps.{Map, put}
 use Rattle.meaning.specs.Values.{Arrays, value, values_of, subscripts, dimensions_in, as_integer, integer}
 use Rattle.meaning.specs.Records.{edited}
-use Rattle.meaning.specs.Execution.{Outcome, normal, fault, Ran, more, turn, with_ok, format_at, Meaning, Follow, goes_on, goes_on_by, step, added, fold_trips, trips_from, looped, pass_over, fuelled, exec}
+use Rattle.meaning.specs.Execution.{Outcome, normal, fault, Ran, more, turn, with_ok, parts_for, output, Meaning, Follow, goes_on, goes_on_by, step, added, fold_trips, trips_from, looped, pass_over, fuelled, exec}
 
 -- ---- pieces and turns in front
 
@@ -62,19 +62,20 @@ turn-same line m zero go on same = refl
 turn-same line m (suc t) go on same = ap (λ x. more [] 1 x) (same t (omega arith))
 
 module _ (program : List ItemTree) where
+  output-same : (source : FormatTree) (list : ListItemsTree) (line : ℕ) (m : Map) (t : ℕ) (go on : Follow) → Same t go on → output program source list line m t go ≡ output program source list line m t on
+  output-same source list line m t go on same =
+      let records : List Value → Result (List ℕ) FaultKind = λ vs. edited (parts_for program source) vs in
+      turn-same line m t (λ u. with_ok (values_of (arrays_of program) (values_in list) m) line m (λ vs. with_ok (records vs) line m (λ r. more (r ∷ []) 0 (go m u)))) (λ u. with_ok (values_of (arrays_of program) (values_in list) m) line m (λ vs. with_ok (records vs) line m (λ r. more (r ∷ []) 0 (on m u)))) (λ u lt. ap (λ x. with_ok (values_of (arrays_of program) (values_in list) m) line m (λ vs. with_ok (records vs) line m (λ r. more (r ∷ []) 0 x))) (same m u (omega arith)))
+
   step-same : (s : ShapeTree) (line : ℕ) (m : Map) (t : ℕ) (go on : Follow) → Same t go on → step program s line m t go ≡ step program s line m t on
   step-same (assignment target es e) line m t go on same =
       let here = subscripts (arrays_of program) (dimensions_in (arrays_of program target)) es m in
       let right = value (arrays_of program) e m in
       turn-same line m t (λ u. with_ok here line m (λ ss. with_ok right line m (λ v. go (put m target ss (as_integer v)) u))) (λ u. with_ok here line m (λ ss. with_ok right line m (λ v. on (put m target ss (as_integer v)) u))) (λ u lt. with_ok-same here line m (λ ss. with_ok right line m (λ v. go (put m target ss (as_integer v)) u)) (λ ss. with_ok right line m (λ v. on (put m target ss (as_integer v)) u)) (λ ss. with_ok-same right line m (λ v. go (put m target ss (as_integer v)) u) (λ v. on (put m target ss (as_integer v)) u) (λ v. same (put m target ss (as_integer v)) u (omega arith))))
-  step-same (writing unit label es) line m t go on same =
-      let records : List Value → Result (List ℕ) FaultKind = λ vs. edited (format_at program (number_of label)) vs in
-      turn-same line m t (λ u. with_ok (values_of (arrays_of program) es m) line m (λ vs. with_ok (records vs) line m (λ r. more (r ∷ []) 0 (go m u)))) (λ u. with_ok (values_of (arrays_of program) es m) line m (λ vs. with_ok (records vs) line m (λ r. more (r ∷ []) 0 (on m u)))) (λ u lt. ap (λ x. with_ok (values_of (arrays_of program) es m) line m (λ vs. with_ok (records vs) line m (λ r. more (r ∷ []) 0 x))) (same m u (omega arith)))
-  step-same (format text) line m t go on same = same m t (omega arith)
-  step-same (doing label comma variable limits) line m t go on same = same m t (omega arith)
-  step-same (typing ds) line m t go on same = same m t (omega arith)
+  step-same (writing control list) line m t go on same = output-same control.source list line m t go on same
+  step-same (printing source list) line m t go on same = output-same source list line m t go on same
   step-same continuing line m t go on same = turn-same line m t (λ u. go m u) (λ u. on m u) (λ u lt. same m u (omega arith))
-  step-same ending line m t go on same = same m t (omega arith)
+  step-same s line m t go on same = same m t (omega arith)
 
 fold_trips-alike : (k : ℕ) (f g : Meaning) (line : ℕ) (variable : List ℕ) (by : ℤ) (range : Members) → Alike k f g → (is : List ℤ) (m : Map) (t : ℕ) → t < k → fold_trips f line variable by range is m t ≡ fold_trips g line variable by range is m t
 unfolding fold_trips
@@ -88,12 +89,7 @@ looped-alike : (arrays : Arrays) (k : ℕ) (f g : Meaning) → Alike k f g → (
 unfolding looped
 looped-alike arrays k f g alike (doing label comma variable limits) line range m t go on lt same =
     turn-same line m t (λ u. with_ok (span_of arrays limits m) line m (λ s. goes_on (trips_from f line variable range m u s) u go)) (λ u. with_ok (span_of arrays limits m) line m (λ s. goes_on (trips_from g line variable range m u s) u on)) (λ u le. with_ok-same (span_of arrays limits m) line m (λ s. goes_on (trips_from f line variable range m u s) u go) (λ s. goes_on (trips_from g line variable range m u s) u on) (λ s. ap (λ r. goes_on r u go) (fold_trips-alike k f g line variable s.step range alike (trips s.first s.last s.step) (put m variable [] s.first) u (omega arith)) ∙ goes_on-same (trips_from g line variable range m u s) u go on (λ n w le2. same n w (omega arith))))
-looped-alike arrays k f g alike (assignment target es e) line range m t go on lt same = same m t (omega arith)
-looped-alike arrays k f g alike (writing unit label es) line range m t go on lt same = same m t (omega arith)
-looped-alike arrays k f g alike (format text) line range m t go on lt same = same m t (omega arith)
-looped-alike arrays k f g alike continuing line range m t go on lt same = same m t (omega arith)
-looped-alike arrays k f g alike (typing ds) line range m t go on lt same = same m t (omega arith)
-looped-alike arrays k f g alike ending line range m t go on lt same = same m t (omega arith)
+looped-alike arrays k f g alike s line range m t go on lt same = same m t (omega arith)
 
 pass_over-alike : (program : List ItemTree) (k : ℕ) (f g : Meaning) → Alike k f g → (all rest : Members) (m : Map) (t : ℕ) → t < suc k → pass_over program f all rest m t ≡ pass_over program g all rest m t
 unfolding pass_over
@@ -102,6 +98,7 @@ pass_over-alike program k f g alike all (plain x ms) m t lt =
     step-same program x.shape x.line m t (λ n u. pass_over program f all ms n u) (λ n u. pass_over program g all ms n u) (λ n u le. pass_over-alike program k f g alike all ms n u (omega arith))
 pass_over-alike program k f g alike all (loop x range ms) m t lt =
     looped-alike (arrays_of program) k f g alike x.shape x.line range m t (λ n u. pass_over program f all ms n u) (λ n u. pass_over program g all ms n u) lt (λ n u le. pass_over-alike program k f g alike all ms n u (omega arith))
+pass_over-alike program k f g alike all (block arms x ms) m t lt = pass_over-alike program k f g alike all ms m t lt
 
 -- ---- fuel
 

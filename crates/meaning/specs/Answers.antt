@@ -11,6 +11,7 @@ use Rattle.meaning.specs.BareText.{bare}
 use Rattle.meaning.specs.Reading.{read_shape}
 use Rattle.meaning.specs.Nesting.{nest}
 use Rattle.meaning.specs.Trees.{Nested, flatten}
+use Rattle.meaning.specs.Unrun.{run_whole}
 use Rattle.meaning.specs.Rules.{checked}
 use Rattle.meaning.specs.Maps.{start}
 use Rattle.meaning.specs.Execution.{Outcome, normal, fault, Ran, exec}
@@ -29,7 +30,7 @@ members_of entries = all_of (map member_of entries)
 -- the program unit that a source spells, or the refusal
 unfoldable pub program_of : List ℕ → Result Nested Broken
 program_of source =
-    statements_of source >>= λ entries. members_of entries >>= λ members. nest members >>= λ t. checked t
+    statements_of source >>= λ entries. members_of entries >>= λ members. nest members >>= λ t. run_whole members t >>= λ u. checked u
 
 -- what a program unit does from the start
 unfoldable pub run_of : Nested → ℕ → Ran

@@ -3,12 +3,12 @@ use Rattle.std.specs.Prelude.{unwrap_or, ℕ, zero, suc, ◌+◌, ◌-◌, ℤ, 
 use Rattle.meaning.specs.declared.ending.FaultKind.{FaultKind}
 use Rattle.meaning.specs.declared.ending.FaultKind.TheVariants.{F4}
 use Rattle.meaning.specs.Characters.{number_of}
-use Rattle.meaning.specs.Syntax.{ShapeTree, assignment, writing, format, doing, continuing, typing, ending, ItemTree, ExprsTree}
-use Rattle.meaning.specs.Trees.{Members, none, plain, loop}
+use Rattle.meaning.specs.Syntax.{ShapeTree, assignment, writing, printing, format, doing, continuing, ItemTree, ListItemsTree, FormatTree, format_label, format_constant}
+use Rattle.meaning.specs.Trees.{Members, none, plain, loop, block}
 use Rattle.meaning.specs.Trips.{Span, span_of, trips}
-use Rattle.meaning.specs.Formats.{Descriptor, descriptors_of}
+use Rattle.meaning.specs.Formats.{Parts, no_parts, descriptors_of, format_in, undoubled}
 use Rattle.meaning.specs.Records.{edited}
-use Rattle.meaning.specs.Rules.{has_label, arrays_of}
+use Rattle.meaning.specs.Rules.{has_label, arrays_of, values_in}
 use Rattle.meaning.specs.Maps.{Map, put}
 use Rattle.meaning.specs.Values.{Arrays, value, values_of, subscripts, dimensions_in, as_integer, integer}
 
@@ -45,26 +45,26 @@ with_ok (Ok x) line m go = go x
 with_ok (Err k) line m go = failed k line m
 
 -- the descriptors of a FORMAT statement with the label; the rules leave one
-abbrev pub descriptors_if : Bool → ShapeTree → Option (List Descriptor)
+abbrev pub descriptors_if : Bool → ShapeTree → Option Parts
 descriptors_if true (format text) = descriptors_of text
-descriptors_if true (assignment target subscripts e) = None
-descriptors_if true (writing unit label es) = None
-descriptors_if true (doing label comma variable limits) = None
-descriptors_if true continuing = None
-descriptors_if true (typing ds) = None
-descriptors_if true ending = None
+descriptors_if true s = None
 descriptors_if false s = None
 
-abbrev pub or_else : Option (List Descriptor) → Option (List Descriptor) → Option (List Descriptor)
+abbrev pub or_else : Option Parts → Option Parts → Option Parts
 or_else None o = o
-or_else (Some ds) o = Some ds
+or_else (Some ps) o = Some ps
 
-unfoldable pub format_found : List ItemTree → ℕ → Option (List Descriptor)
+unfoldable pub format_found : List ItemTree → ℕ → Option Parts
 format_found [] label = None
 format_found (m ∷ ms) label = or_else (descriptors_if (has_label label m) m.shape) (format_found ms label)
 
-abbrev pub format_at : List ItemTree → ℕ → List Descriptor
-format_at members label = unwrap_or (format_found members label) []
+abbrev pub format_at : List ItemTree → ℕ → Parts
+format_at members label = unwrap_or (format_found members label) no_parts
+
+-- the format of a WRITE or PRINT statement; the rules leave one
+abbrev pub parts_for : List ItemTree → FormatTree → Parts
+parts_for program (format_label label) = format_at program (number_of label)
+parts_for program (format_constant text) = unwrap_or (format_in (undoubled text)) no_parts
 
 -- what the members of a list do: all of the list, what is left of it, the map and the turns that are left
 abbrev pub Meaning : Type 0
@@ -84,16 +84,18 @@ goes_on r t go = goes_on_by r.outcome r t go
 
 -- ---- one statement, and then what follows it
 
+-- the values of the whole list, then their records, then one piece (12.8 and 12.9.4.2)
+abbrev pub output : List ItemTree → FormatTree → ListItemsTree → ℕ → Map → ℕ → Follow → Ran
+output program source list line m t go =
+    turn line m t (λ u. with_ok (values_of (arrays_of program) (values_in list) m) line m (λ vs. with_ok (edited (parts_for program source) vs) line m (λ records. more (records ∷ []) 0 (go m u))))
+
 abbrev pub step : List ItemTree → ShapeTree → ℕ → Map → ℕ → Follow → Ran
 step program (assignment target es e) line m t go =
     turn line m t (λ u. with_ok (subscripts (arrays_of program) (dimensions_in (arrays_of program target)) es m) line m (λ ss. with_ok (value (arrays_of program) e m) line m (λ v. go (put m target ss (as_integer v)) u)))
-step program (writing unit label es) line m t go =
-    turn line m t (λ u. with_ok (values_of (arrays_of program) es m) line m (λ vs. with_ok (edited (format_at program (number_of label)) vs) line m (λ records. more (records ∷ []) 0 (go m u))))
-step program (format text) line m t go = go m t
-step program (doing label comma variable limits) line m t go = go m t
-step program (typing ds) line m t go = go m t
+step program (writing control list) line m t go = output program control.source list line m t go
+step program (printing source list) line m t go = output program source list line m t go
 step program continuing line m t go = turn line m t (λ u. go m u)
-step program ending line m t go = go m t
+step program s line m t go = go m t
 
 -- ---- a DO and its range (11.10.4 to 11.10.7)
 
@@ -115,21 +117,17 @@ trips_from rec line variable range m t s =
 unfoldable pub looped : Arrays → Meaning → ShapeTree → ℕ → Members → Map → ℕ → Follow → Ran
 looped arrays rec (doing label comma variable limits) line range m t go =
     turn line m t (λ u. with_ok (span_of arrays limits m) line m (λ s. goes_on (trips_from rec line variable range m u s) u go))
-looped arrays rec (assignment target es e) line range m t go = go m t
-looped arrays rec (writing unit label es) line range m t go = go m t
-looped arrays rec (format text) line range m t go = go m t
-looped arrays rec continuing line range m t go = go m t
-looped arrays rec (typing ds) line range m t go = go m t
-looped arrays rec ending line range m t go = go m t
+looped arrays rec s line range m t go = go m t
 
 -- ---- lists
 
--- one pass over what is left of a list; a range, and later a jump, goes on by rec
+-- one pass over what is left of a list; a range, and later a jump, goes on by rec; a block IF is refused before it is executed
 unfoldable pub pass_over : List ItemTree → Meaning → Meaning
 pass_over program rec all none m t = ended m
 pass_over program rec all (plain x ms) m t = step program x.shape x.line m t (λ n u. pass_over program rec all ms n u)
 pass_over program rec all (loop x range ms) m t =
     looped (arrays_of program) rec x.shape x.line range m t (λ n u. pass_over program rec all ms n u)
+pass_over program rec all (block arms x ms) m t = pass_over program rec all ms m t
 
 abbrev pub never : Meaning
 never all rest m t = ended m

@@ -11,6 +11,7 @@ pub mod Kinds
 pub mod Reading
 pub mod Nesting
 pub mod Rules
+pub mod Unrun
 pub mod Maps
 pub mod Values
 pub mod Trips

@@ -7,11 +7,11 @@ use Rattle.meaning.specs.declared.refusal.Broken.{Broken}
 use Rattle.meaning.specs.declared.refusal.Rule.TheVariants.{K1, K3, K4, K6, K7, K8, K9, K11, K12, K13}
 use Rattle.meaning.specs.declared.ending.Value.TheVariants as values
 use Rattle.meaning.specs.Characters.{number_of}
-use Rattle.meaning.specs.Syntax.{listed, ExprTree, number, name, signed, binary, paren, element, ExprsTree, no_exprs, exprs, BoundsTree, DeclaratorTree, UnitTree, star, unit_number, LimitsTree, ShapeTree, assignment, writing, format, doing, continuing, typing, ending, ItemTree}
+use Rattle.meaning.specs.Syntax.{listed, ExprTree, number, truth, name, signed, negated, binary, paren, element, call, ExprsTree, no_exprs, exprs, BoundsTree, DeclaratorTree, UnitTree, star, unit_number, LimitsTree, value_item, loop_item, ListItemsTree, no_items, more_items, FormatTree, format_label, format_constant, ControlTree, ShapeTree, assignment, writing, printing, format, doing, typing, ItemTree}
 use Rattle.meaning.specs.Refusals.{least, unless}
 use Rattle.meaning.specs.Statements.{broken_if}
-use Rattle.meaning.specs.Trees.{Members, none, plain, loop, Nested, flatten}
-use Rattle.meaning.specs.Formats.{descriptors_of}
+use Rattle.meaning.specs.Trees.{Members, none, plain, loop, block, Arms, no_arms, arm, Nested, flatten}
+use Rattle.meaning.specs.Formats.{descriptors_of, format_in, undoubled}
 use Rattle.meaning.specs.Maps.{start}
 use Rattle.meaning.specs.Values.{Valued, value, Arrays, as_integer}
 use Rattle.meaning.specs.Arrays.{Dimension, size}
@@ -38,6 +38,9 @@ abbrev mutual
   uses_in (binary operator a b) = uses_in a ++ uses_in b
   uses_in (paren e) = uses_in e
   uses_in (element letters es) = record { name = letters; subscripts = Some (count es) } ∷ uses_in_all es
+  uses_in (call letters) = record { name = letters; subscripts = Some 0 } ∷ []
+  uses_in (truth value) = []
+  uses_in (negated e) = uses_in e
 
   pub uses_in_all : ExprsTree → List Use
   uses_in_all no_exprs = []
@@ -51,6 +54,9 @@ abbrev mutual
   numbers_in (binary operator a b) = numbers_in a ++ numbers_in b
   numbers_in (paren e) = numbers_in e
   numbers_in (element letters es) = numbers_in_all es
+  numbers_in (call letters) = []
+  numbers_in (truth value) = []
+  numbers_in (negated e) = numbers_in e
 
   pub numbers_in_all : ExprsTree → List (List ℕ)
   numbers_in_all no_exprs = []
@@ -73,15 +79,24 @@ bounds_exprs b = option_exprs b.lower ++ b.upper ∷ []
 abbrev pub declarator_exprs : DeclaratorTree → List ExprTree
 declarator_exprs d = flat_map bounds_exprs d.bounds
 
+abbrev pub item_exprs : ListItemsTree → List ExprTree
+item_exprs no_items = []
+item_exprs (more_items (value_item e) xs) = e ∷ item_exprs xs
+item_exprs (more_items (loop_item ys variable limits) xs) = item_exprs ys ++ (limit_exprs limits ++ item_exprs xs)
+
+abbrev pub values_in : ListItemsTree → List ExprTree
+values_in no_items = []
+values_in (more_items (value_item e) xs) = e ∷ values_in xs
+values_in (more_items (loop_item ys variable limits) xs) = values_in xs
+
 -- the expressions of a statement
 abbrev pub exprs_of : ShapeTree → List ExprTree
 exprs_of (assignment target subscripts e) = listed subscripts ++ e ∷ []
-exprs_of (writing unit label es) = unit_exprs unit ++ es
-exprs_of (format text) = []
+exprs_of (writing control es) = unit_exprs control.unit ++ item_exprs es
+exprs_of (printing source es) = item_exprs es
 exprs_of (doing label comma variable limits) = limit_exprs limits
-exprs_of continuing = []
 exprs_of (typing ds) = flat_map declarator_exprs ds
-exprs_of ending = []
+exprs_of s = []
 
 -- the variable that a statement sets, if it sets one
 abbrev pub target_by : List ℕ → ExprsTree → List (List ℕ)
@@ -90,12 +105,8 @@ target_by target (exprs e es) = []
 
 abbrev pub targets_of : ShapeTree → List (List ℕ)
 targets_of (assignment target subscripts e) = target_by target subscripts
-targets_of (writing unit label es) = []
-targets_of (format text) = []
 targets_of (doing label comma variable limits) = variable ∷ []
-targets_of continuing = []
-targets_of (typing ds) = []
-targets_of ending = []
+targets_of s = []
 
 -- the element that a statement sets, if it sets one
 abbrev pub element_by : List ℕ → ExprsTree → List Use
@@ -104,12 +115,7 @@ element_by target (exprs e es) = record { name = target; subscripts = Some (coun
 
 abbrev pub elements_set : ShapeTree → List Use
 elements_set (assignment target subscripts e) = element_by target subscripts
-elements_set (writing unit label es) = []
-elements_set (format text) = []
-elements_set (doing label comma variable limits) = []
-elements_set continuing = []
-elements_set (typing ds) = []
-elements_set ending = []
+elements_set s = []
 
 -- the uses in the expressions of a statement, and all of them
 abbrev pub expression_uses : ShapeTree → List Use
@@ -122,12 +128,7 @@ uses_of s = map bare_use (targets_of s) ++ (elements_set s ++ expression_uses s)
 
 abbrev pub declarators_in : ShapeTree → List DeclaratorTree
 declarators_in (typing ds) = ds
-declarators_in (assignment target subscripts e) = []
-declarators_in (writing unit label es) = []
-declarators_in (format text) = []
-declarators_in (doing label comma variable limits) = []
-declarators_in continuing = []
-declarators_in ending = []
+declarators_in s = []
 
 abbrev pub declarators : List ItemTree → List DeclaratorTree
 declarators all = flat_map (λ x. declarators_in x.shape) all
@@ -300,11 +301,17 @@ sets_one_of variables s = list_any (λ n. list_any (bytes_eq n) variables) (targ
 abbrev pub reset_at : List (List ℕ) → ItemTree → List Broken
 reset_at around x = broken_if (sets_one_of around x.shape) x.line K9
 
-unfoldable pub reset_variables : List (List ℕ) → Members → List Broken
-reset_variables around none = []
-reset_variables around (plain x ms) = reset_at around x ++ reset_variables around ms
-reset_variables around (loop x range ms) =
-    reset_at around x ++ (reset_variables (targets_of x.shape ++ around) range ++ reset_variables around ms)
+unfoldable mutual
+  pub reset_variables : List (List ℕ) → Members → List Broken
+  reset_variables around none = []
+  reset_variables around (plain x ms) = reset_at around x ++ reset_variables around ms
+  reset_variables around (loop x range ms) =
+      reset_at around x ++ (reset_variables (targets_of x.shape ++ around) range ++ reset_variables around ms)
+  reset_variables around (block arms x ms) = reset_in_arms around arms ++ (reset_at around x ++ reset_variables around ms)
+
+  pub reset_in_arms : List (List ℕ) → Arms → List Broken
+  reset_in_arms around no_arms = []
+  reset_in_arms around (arm x ms arms) = reset_at around x ++ (reset_variables around ms ++ reset_in_arms around arms)
 
 -- K11: the unit is neither an asterisk nor a constant expression of value 6
 abbrev pub is_six : Valued → Bool
@@ -320,12 +327,7 @@ is_unit (unit_number e) = not (list_any (λ u. true) (uses_in e)) && is_six (val
 -- K11: no FORMAT statement has the label
 abbrev pub is_format : ShapeTree → Bool
 is_format (format text) = true
-is_format (assignment target subscripts e) = false
-is_format (writing unit label es) = false
-is_format (doing label comma variable limits) = false
-is_format continuing = false
-is_format (typing ds) = false
-is_format ending = false
+is_format s = false
 
 abbrev pub is_format_at : ℕ → ItemTree → Bool
 is_format_at label m = is_format m.shape && has_label label m
@@ -334,14 +336,15 @@ abbrev pub has_format : List ItemTree → ℕ → Bool
 has_format all label = list_any (is_format_at label) all
 
 -- K11
+abbrev pub is_allowed : List ItemTree → FormatTree → Bool
+is_allowed all (format_label label) = has_format all (number_of label)
+is_allowed all (format_constant text) = is_some (format_in (undoubled text))
+
 abbrev pub is_misformed : List ItemTree → Option ℕ → ShapeTree → Bool
-is_misformed all at (assignment target subscripts e) = false
-is_misformed all at (writing unit label es) = not (is_unit unit) || not (has_format all (number_of label))
+is_misformed all at (writing control es) = not (is_unit control.unit) || not (is_allowed all control.source)
+is_misformed all at (printing source es) = not (is_allowed all source)
 is_misformed all at (format text) = is_none at || is_none (descriptors_of text)
-is_misformed all at (doing label comma variable limits) = false
-is_misformed all at continuing = false
-is_misformed all at (typing ds) = false
-is_misformed all at ending = false
+is_misformed all at s = false
 
 abbrev pub misformed : List ItemTree → ItemTree → List Broken
 misformed all m = broken_if (is_misformed all m.label m.shape) m.line K11

@@ -1,7 +1,7 @@
 -- What turns can do to a run (own): laws of execution that its users stand on.
 use Rattle.std.specs.Prelude.{◌≡◌, ◌≤◌, ℕ, ℤ, Bool, true, false, List, ◌++◌}
 use Rattle.meaning.specs.declared.ending.FaultKind.{FaultKind}
-use Rattle.meaning.specs.declared.ending.FaultKind.TheVariants.{F2, F3, F4, F5, F7, F8}
+use Rattle.meaning.specs.declared.ending.FaultKind.TheVariants.{F1, F2, F3, F4, F5, F6, F7, F8}
 use Rattle.meaning.specs.Syntax.{ItemTree}
 use Rattle.meaning.specs.Trees.{Members}
 use Rattle.meaning.specs.Maps.{Map}
@@ -9,9 +9,11 @@ use Rattle.meaning.specs.Execution.{Outcome, normal, fault, Meaning, goes_on, fo
 
 abbrev pub is_turn_limit : FaultKind → Bool
 is_turn_limit F4 = true
+is_turn_limit F1 = false
 is_turn_limit F2 = false
 is_turn_limit F3 = false
 is_turn_limit F5 = false
+is_turn_limit F6 = false
 is_turn_limit F7 = false
 is_turn_limit F8 = false
 

@@ -15,6 +15,8 @@ pub enum Value {
 /// What went wrong in a statement that was being executed.
 #[derive(Clone, Copy, Debug, PartialEq, Eq)]
 pub enum FaultKind {
+    /// A zero divisor.
+    F1,
     /// A result outside the range of INTEGER.
     F2,
     /// A subscript outside its bounds.
@@ -23,6 +25,8 @@ pub enum FaultKind {
     F4,
     /// A DO increment of zero.
     F5,
+    /// A base of zero with an exponent of zero or less.
+    F6,
     /// A value that meets a descriptor of the other type, or for which no descriptor comes.
     F7,
     /// A WRITE that is too large.
@@ -32,10 +36,12 @@ pub enum FaultKind {
 impl fmt::Display for FaultKind {
     fn fmt<W: fmt::Write>(&self, f: &mut fmt::Formatter<W>) -> fmt::Result {
         let name = match self {
+            FaultKind::F1 => "F1",
             FaultKind::F2 => "F2",
             FaultKind::F3 => "F3",
             FaultKind::F4 => "F4",
             FaultKind::F5 => "F5",
+            FaultKind::F6 => "F6",
             FaultKind::F7 => "F7",
             FaultKind::F8 => "F8",
         };

@@ -31,14 +31,19 @@ pub enum Rule {
     G2,
     /// More than 64 parentheses open at once.
     G3,
-    /// A type statement behind an executable statement.
+    /// A statement that may not stand behind one that was read: PROGRAM behind any, IMPLICIT, PARAMETER, a type statement or
+    /// DIMENSION behind an executable statement, or IMPLICIT behind a type statement or DIMENSION.
     N1,
     /// The END statement is missing, or a statement follows it.
     N2,
-    /// A DO range that crosses another, a terminal statement that isn't allowed, or END inside a DO range.
+    /// ELSE IF, ELSE or END IF out of place, or END inside a block IF.
+    N3,
+    /// A DO range that crosses another or a block IF, a terminal statement that isn't allowed, or END inside a DO range.
     N4,
-    /// A DO statement that would be the 33rd open one.
+    /// A DO or block IF that would be the 33rd open one.
     N5,
+    /// A statement that isn't run yet.
+    K0,
     /// A statement label that an earlier statement has.
     K1,
     /// A variable of type REAL.
@@ -67,9 +72,10 @@ impl Rule {
         ensures { result ≡ rank_of self }
     {
         match self {
+            Rule::K0 => 0,
             Rule::C1 | Rule::G1 | Rule::N1 | Rule::K1 => 1,
             Rule::C2 | Rule::G2 | Rule::N2 => 2,
-            Rule::C3 | Rule::G3 | Rule::K3 => 3,
+            Rule::C3 | Rule::G3 | Rule::N3 | Rule::K3 => 3,
             Rule::C4 | Rule::N4 | Rule::K4 => 4,
             Rule::C5 | Rule::N5 => 5,
             Rule::C6 | Rule::K6 => 6,
@@ -98,8 +104,10 @@ impl fmt::Display for Rule {
             Rule::G3 => "G3",
             Rule::N1 => "N1",
             Rule::N2 => "N2",
+            Rule::N3 => "N3",
             Rule::N4 => "N4",
             Rule::N5 => "N5",
+            Rule::K0 => "K0",
             Rule::K1 => "K1",
             Rule::K3 => "K3",
             Rule::K4 => "K4",

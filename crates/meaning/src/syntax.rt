@@ -14,9 +14,36 @@ pub enum Sign {
 /// An operator between two operands.
 #[derive(Clone, Copy, Debug, PartialEq, Eq)]
 pub enum Operator {
-    Add,
-    Subtract,
+    /// `**`
+    Power,
+    /// `*`
     Multiply,
+    /// `/`
+    Divide,
+    /// `+`
+    Add,
+    /// `-`
+    Subtract,
+    /// `.LT.`
+    Less,
+    /// `.LE.`
+    LessOrEqual,
+    /// `.EQ.`
+    Equal,
+    /// `.NE.`
+    NotEqual,
+    /// `.GE.`
+    GreaterOrEqual,
+    /// `.GT.`
+    Greater,
+    /// `.AND.`
+    And,
+    /// `.OR.`
+    Or,
+    /// `.EQV.`
+    Equivalent,
+    /// `.NEQV.`
+    NotEquivalent,
 }
 
 /// An expression (ANSI X3.9-1978, chapter 6), with all that was written.
@@ -25,16 +52,22 @@ pub enum Operator {
 pub enum Expr {
     /// The digits of an integer constant.
     Number(Vec<u8>),
+    /// `.TRUE.` or `.FALSE.` (4.7).
+    Truth(bool),
     /// A symbolic name.
     Name(Vec<u8>),
     /// A sign and its operand.
     Signed(Sign, Box<Expr>),
+    /// `.NOT.` and its operand (6.4).
+    Not(Box<Expr>),
     /// An operator and its operands.
     Binary(Operator, Box<Expr>, Box<Expr>),
     /// An expression in parentheses.
     Paren(Box<Expr>),
-    /// A name and subscripts in parentheses, one at least.
+    /// A name, and subscripts or arguments in parentheses, one at least.
     Element(Vec<u8>, Box<Exprs>),
+    /// A function reference without arguments: a name and `()` (15.2.2).
+    Call(Vec<u8>),
 }
 
 /// Expressions with commas between, first to last.
@@ -76,20 +109,156 @@ pub struct Declarator {
     pub bounds: Vec<Bounds>,
 }
 
+/// A data type (ANSI X3.9-1978, 4.1).
+#[derive(Clone, Copy, Debug, PartialEq, Eq)]
+pub enum DataType {
+    Integer,
+    Logical,
+}
+
+/// A letter in an IMPLICIT statement, or the letters from it to a last one (ANSI X3.9-1978, 8.5).
+#[derive(Drop)]
+pub struct Letters {
+    pub first: u8,
+    pub last: Option<u8>,
+}
+
+/// A data type, and the letters that an IMPLICIT statement gives it (ANSI X3.9-1978, 8.5).
+#[derive(Drop)]
+pub struct ImplicitPart {
+    pub data_type: DataType,
+    pub letters: Vec<Letters>,
+}
+
+/// A symbolic name of a constant, and the constant's expression (ANSI X3.9-1978, 8.6).
+#[derive(Drop)]
+pub struct NamedConstant {
+    pub name: Vec<u8>,
+    pub value: Expr,
+}
+
+/// What stands behind STOP (ANSI X3.9-1978, 11.12).
+#[derive(Drop)]
+pub enum StopText {
+    None,
+    /// One to five digits.
+    Digits(Vec<u8>),
+    /// A character constant: what stands between its apostrophes, those inside it written twice.
+    Constant(Vec<u8>),
+}
+
+/// An item of the list of a WRITE, PRINT or DATA statement: an expression, or an implied DO (ANSI X3.9-1978, 9.1 and
+/// 12.8.2).
+#[derive(Drop)]
+#[cycle(list_item)]
+pub enum ListItem {
+    Value(Expr),
+    /// `(items,variable=limits)`
+    Loop {
+        items: Box<ListItems>,
+        variable: Vec<u8>,
+        limits: Limits,
+    },
+}
+
+/// Items with commas between, first to last.
+#[derive(Drop)]
+#[cycle(list_item)]
+pub enum ListItems {
+    Empty,
+    More(ListItem, Box<ListItems>),
+}
+
+/// A constant in a DATA statement (ANSI X3.9-1978, 9.1).
+#[derive(Drop)]
+pub enum DataConstant {
+    /// An integer constant: its sign, if it is written, and its digits (4.3).
+    Number(Option<Sign>, Vec<u8>),
+    /// `.TRUE.` or `.FALSE.` (4.7).
+    Truth(bool),
+    /// The symbolic name of a constant.
+    Name(Vec<u8>),
+}
+
+/// How often a constant stands in a DATA statement (ANSI X3.9-1978, 9.1).
+#[derive(Drop)]
+pub enum RepeatCount {
+    /// The digits of an integer constant.
+    Number(Vec<u8>),
+    /// The symbolic name of a constant.
+    Name(Vec<u8>),
+}
+
+/// A constant in a DATA statement, `constant` or `count*constant`; the count is 1 when not written
+/// (ANSI X3.9-1978, 9.1).
+#[derive(Drop)]
+pub struct DataValue {
+    pub repeat_count: Option<RepeatCount>,
+    pub constant: DataConstant,
+}
+
+/// `list/values/` in a DATA statement (ANSI X3.9-1978, 9.1). The items of the list are names, elements and implied DOs,
+/// and inside implied DOs elements and implied DOs.
+#[derive(Drop)]
+pub struct DataSet {
+    /// Whether a comma stands before the list, as it may behind another set.
+    pub comma: bool,
+    pub list: ListItems,
+    pub values: Vec<DataValue>,
+}
+
+/// Where the format of a WRITE or PRINT statement stands (ANSI X3.9-1978, 12.4).
+#[derive(Drop)]
+pub enum FormatSource {
+    /// The label of a FORMAT statement, as its digits stand there.
+    Label(Vec<u8>),
+    /// A character constant: what stands between its apostrophes, those inside it written twice.
+    Constant(Vec<u8>),
+}
+
+/// How the unit and the format of a WRITE statement are written (ANSI X3.9-1978, 12.8.1).
+#[derive(Clone, Copy, Debug, PartialEq, Eq)]
+pub enum ControlOrder {
+    /// `unit,format`
+    Plain,
+    /// `unit,FMT=format`
+    FormatNamed,
+    /// `UNIT=unit,FMT=format`
+    UnitFirst,
+    /// `FMT=format,UNIT=unit`
+    FormatFirst,
+}
+
+/// What the parentheses of a WRITE statement hold (ANSI X3.9-1978, 12.8.1).
+#[derive(Drop)]
+pub struct Control {
+    pub order: ControlOrder,
+    pub unit: Unit,
+    pub format: FormatSource,
+}
+
 /// What a form says.
 #[derive(Drop)]
 pub enum Shape {
+    /// `PROGRAM name`
+    Program(Vec<u8>),
+    /// `IMPLICIT`, and data types with letters.
+    Implicit(Vec<ImplicitPart>),
     /// `name=value` or `name(subscripts)=value`
     Assignment {
         name: Vec<u8>,
         subscripts: Exprs,
         value: Expr,
     },
-    /// `WRITE(unit,label)list`, the label as its digits stand there.
+    /// `WRITE(control)list`
     Write {
-        unit: Unit,
-        label: Vec<u8>,
-        list: Exprs,
+        control: Control,
+        list: ListItems,
+    },
+    /// `PRINT format`, or `PRINT format,list`
+    Print {
+        format: FormatSource,
+        list: ListItems,
     },
     /// `FORMAT(text)`
     Format(Vec<u8>),
@@ -104,6 +273,44 @@ pub enum Shape {
     Continue,
     /// `INTEGER`, and names and arrays with commas between.
     Integer(Vec<Declarator>),
+    /// `LOGICAL`, and names and arrays with commas between.
+    Logical(Vec<Declarator>),
+    /// `DIMENSION`, and arrays with commas between; each has bounds.
+    Dimension(Vec<Declarator>),
+    /// `PARAMETER(name=value,..)`
+    Parameter(Vec<NamedConstant>),
+    /// `DATA`, and lists with their constants, a comma between two or none.
+    Data(Vec<DataSet>),
+    /// `name()=value`, a statement function without dummy arguments.
+    Definition(Vec<u8>, Expr),
+    /// `GOTO label`
+    GoTo(Vec<u8>),
+    /// `GOTO(labels)value`; a comma may stand behind the parenthesis.
+    ComputedGoTo {
+        labels: Vec<Vec<u8>>,
+        comma: bool,
+        value: Expr,
+    },
+    /// `IF(value)negative,zero,positive`, labels.
+    ArithmeticIf {
+        value: Expr,
+        negative: Vec<u8>,
+        zero: Vec<u8>,
+        positive: Vec<u8>,
+    },
+    /// `IF(condition)statement`, the statement being an assignment, `name()=value`, any GO TO, an arithmetic IF, CONTINUE,
+    /// STOP, WRITE or PRINT.
+    LogicalIf(Expr, Box<Shape>),
+    /// `IF(condition)THEN`
+    IfThen(Expr),
+    /// `ELSEIF(condition)THEN`
+    ElseIf(Expr),
+    /// `ELSE`
+    Else,
+    /// `ENDIF`
+    EndIf,
+    /// `STOP`
+    Stop(StopText),
     /// `END`
     End,
 }
@@ -124,12 +331,13 @@ pub struct Item {
     pub form: Form,
 }
 
-/// A member of a list of statements: a statement, or a DO statement with its range.
+/// A member of a list of statements: a statement, a DO statement with its range, or a block IF.
 #[derive(Drop)]
 #[cycle(member)]
 pub enum Member {
     Plain(Item),
     Loop(Loop),
+    Block(Block),
 }
 
 /// A DO statement and its range, the statements behind it up to its terminal statement (ANSI X3.9-1978, 11.10).
@@ -138,6 +346,23 @@ pub enum Member {
 pub struct Loop {
     pub head: Item,
     pub range: Vec<Member>,
+}
+
+/// A block IF: its arms, and its END IF statement, which belongs to the list that holds the block IF (ANSI X3.9-1978, 11.6
+/// to 11.9).
+#[derive(Drop)]
+#[cycle(member)]
+pub struct Block {
+    pub arms: Vec<Arm>,
+    pub end: Item,
+}
+
+/// An arm of a block IF: its IF THEN, ELSE IF or ELSE statement, and the statements behind it (ANSI X3.9-1978, 11.6 to 11.8).
+#[derive(Drop)]
+#[cycle(member)]
+pub struct Arm {
+    pub head: Item,
+    pub body: Vec<Member>,
 }
 
 /// A program unit: its statements, the last of which is END.
@@ -156,6 +381,22 @@ pub enum Kind {
     Continue,
     Integer,
     End,
+    Program,
+    Implicit,
+    Logical,
+    Dimension,
+    Parameter,
+    Data,
+    GoTo,
+    ComputedGoTo,
+    ArithmeticIf,
+    LogicalIf,
+    IfThen,
+    ElseIf,
+    Else,
+    EndIf,
+    Stop,
+    Print,
     /// None that is read.
     Other,
 }

@@ -1,4 +1,3 @@
-pub mod Examples
 pub mod Pushes
 pub mod Scans
 pub mod Told
@@ -7,7 +6,7 @@ pub mod Names
 pub mod Clear
 pub mod Sound
 pub mod Passed
-pub mod Order
+pub mod Ordered
 pub mod Read
 pub mod Fits
 pub mod Goes
@@ -15,3 +14,5 @@ pub mod Complete
 pub mod Viable
 pub mod Least
 pub mod Refused
+pub mod SoFar
+pub mod Placed

@@ -1,140 +1,201 @@
-ghost use Rattle.std.specs.Prelude.{◌≤◌, length, IfOk};
-ghost use Rattle.meaning.specs.Spelling.{spell_expr};
-ghost use Rattle.meaning.specs.Syntax.{expr_tree};
+ghost use Rattle.std.specs.Prelude.{◌≤◌, length, IfSome};
+ghost use Rattle.meaning.specs.Spelling.{spell, spell_expr};
+ghost use Rattle.meaning.specs.Syntax.{expr_tree, shape_tree};
 
 use super::{nests_exactly, one_nesting, refuses_exactly, tree};
+use meaning::number::number;
 use meaning::refusal::{Refusal, Rule};
-use meaning::syntax::{Declarator, Expr, Exprs, Form, Item, Limits, Member, Shape, Unit};
+use meaning::syntax::{
+    Control, ControlOrder, Expr, Exprs, Form, FormatSource, Item, Limits, ListItems, Member, Shape,
+    StopText, Unit,
+};
 use std::alloc::{AllocError, Global};
 use std::process::Abort;
 use std::test::*;
 
-/// What a statement says, as far as nesting looks at it.
-#[derive(Clone, Copy)]
-enum Says {
-    Set,
-    Write,
-    Format,
-    Do(&'static [u8]),
-    Continue,
-    Type,
-    End,
-}
-
-use Says::{Continue, Do, End, Format, Set, Type, Write};
-
-/// A program: labels, 0 for none, and statements, which stand on lines 1, 2 and so on.
-type Program = &'static [(u32, Says)];
-
-fn zero(alloc: Global) -> Result<Expr, AllocError>
-    ensures { IfOk result (λ e. length (spell_expr (expr_tree e)) ≤ 1) }
+/// An expression: nesting doesn't look at it.
+fn value(alloc: Global) -> Expr
+    ensures { length (spell_expr (expr_tree result)) ≤ 1 }
 {
-    Ok(Expr::Number(Vec::from_slice(alloc, b"0")?))
+    Expr::Number(Vec::new(alloc))
 }
 
-/// `I=0`
-fn assignment(alloc: Global) -> Result<Form, AllocError> {
-    let name = Vec::from_slice(alloc, b"I")?;
-    let value = zero(alloc)?;
-    Ok(Form {
-        shape: Shape::Assignment {
-            name,
+/// A specification statement, PROGRAM or FORMAT.
+fn specification(alloc: Global, word: &str) -> Option<Shape>
+    ensures { IfSome result (λ s. length (spell (shape_tree s)) ≤ 100) }
+{
+    match word {
+        "PROGRAM" => Some(Shape::Program(Vec::new(alloc))),
+        "IMPLICIT" => Some(Shape::Implicit(Vec::new(alloc))),
+        "PARAMETER" => Some(Shape::Parameter(Vec::new(alloc))),
+        "INTEGER" => Some(Shape::Integer(Vec::new(alloc))),
+        "LOGICAL" => Some(Shape::Logical(Vec::new(alloc))),
+        "DIMENSION" => Some(Shape::Dimension(Vec::new(alloc))),
+        "FORMAT" => Some(Shape::Format(Vec::new(alloc))),
+        _ => None,
+    }
+}
+
+/// A statement of a block IF, CONTINUE, STOP, END or a GO TO.
+fn control(alloc: Global, word: &str) -> Option<Shape>
+    ensures { IfSome result (λ s. length (spell (shape_tree s)) ≤ 100) }
+{
+    match word {
+        "IF" => Some(Shape::IfThen(value(alloc))),
+        "ELSEIF" => Some(Shape::ElseIf(value(alloc))),
+        "ELSE" => Some(Shape::Else),
+        "ENDIF" => Some(Shape::EndIf),
+        "CONTINUE" => Some(Shape::Continue),
+        "STOP" => Some(Shape::Stop(StopText::None)),
+        "END" => Some(Shape::End),
+        "GOTO" => Some(Shape::GoTo(Vec::new(alloc))),
+        "COMPUTED" => Some(Shape::ComputedGoTo {
+            labels: Vec::new(alloc),
+            comma: false,
+            value: value(alloc),
+        }),
+        "ARITHMETIC" => Some(Shape::ArithmeticIf {
+            value: value(alloc),
+            negative: Vec::new(alloc),
+            zero: Vec::new(alloc),
+            positive: Vec::new(alloc),
+        }),
+        _ => None,
+    }
+}
+
+/// An assignment, a statement function, WRITE or PRINT.
+fn other(alloc: Global, word: &str) -> Option<Shape>
+    ensures { IfSome result (λ s. length (spell (shape_tree s)) ≤ 100) }
+{
+    match word {
+        "SET" => Some(Shape::Assignment {
+            name: Vec::new(alloc),
             subscripts: Exprs::Empty,
-            value,
-        },
-    })
+            value: value(alloc),
+        }),
+        "FUNCTION" => Some(Shape::Definition(Vec::new(alloc), value(alloc))),
+        "WRITE" => Some(Shape::Write {
+            control: Control {
+                order: ControlOrder::Plain,
+                unit: Unit::Star,
+                format: FormatSource::Label(Vec::new(alloc)),
+            },
+            list: ListItems::Empty,
+        }),
+        "PRINT" => Some(Shape::Print {
+            format: FormatSource::Label(Vec::new(alloc)),
+            list: ListItems::Empty,
+        }),
+        _ => None,
+    }
 }
 
-/// `WRITE(*,1)`
-fn writing(alloc: Global) -> Result<Form, AllocError> {
-    let label = Vec::from_slice(alloc, b"1")?;
+/// `IF(value)CONTINUE`
+fn logical(alloc: Global) -> Result<Form, AllocError> {
     Ok(Form {
-        shape: Shape::Write {
-            unit: Unit::Star,
-            label,
-            list: Exprs::Empty,
-        },
+        shape: Shape::LogicalIf(value(alloc), Box::new(alloc, Shape::Continue)?),
     })
 }
 
-/// `DO label I=0,0`
-fn do_form(rt: &impl Abort, alloc: Global, label: Vec<u8>) -> Result<Form, AllocError> {
-    assert!(rt; label.len() <= 100, "a label is too long");
-    let variable = Vec::from_slice(alloc, b"I")?;
-    let first = zero(alloc)?;
-    let last = zero(alloc)?;
+/// A DO statement that names a label.
+fn do_form(rt: &impl Abort, alloc: Global, digits: &[u8]) -> Result<Form, AllocError> {
+    assert!(rt; digits.len() <= 5, "a label is too long");
     Ok(Form {
         shape: Shape::Do {
-            label,
+            label: Vec::from_slice(alloc, digits)?,
             comma: false,
-            variable,
+            variable: Vec::new(alloc),
             limits: Limits {
-                first,
-                last,
+                first: value(alloc),
+                last: value(alloc),
                 step: None,
             },
         },
     })
 }
 
-/// `INTEGERI`
-fn typing(alloc: Global) -> Result<Form, AllocError> {
-    let name = Vec::from_slice(alloc, b"I")?;
-    let mut declarators = Vec::new(alloc);
-    declarators.push(Declarator {
-        name,
-        bounds: Vec::new(alloc),
-    })?;
-    Ok(Form {
-        shape: Shape::Integer(declarators),
-    })
-}
-
-fn form(rt: &impl Abort, alloc: Global, says: Says) -> Result<Form, AllocError> {
-    match says {
-        Set => assignment(alloc),
-        Write => writing(alloc),
-        Format => Ok(Form {
-            shape: Shape::Format(Vec::new(alloc)),
-        }),
-        Do(label) => do_form(rt, alloc, Vec::from_slice(alloc, label)?),
-        Continue => Ok(Form {
-            shape: Shape::Continue,
-        }),
-        Type => typing(alloc),
-        End => Ok(Form { shape: Shape::End }),
+fn form(rt: &impl Abort, alloc: Global, word: &str) -> Result<Form, AllocError> {
+    if let Some(shape) = specification(alloc, word) {
+        return Ok(Form { shape });
+    }
+    if let Some(shape) = control(alloc, word) {
+        return Ok(Form { shape });
+    }
+    if let Some(shape) = other(alloc, word) {
+        return Ok(Form { shape });
+    }
+    match word.strip_prefix("DO") {
+        Some(digits) => do_form(rt, alloc, digits.as_bytes()),
+        None => logical(alloc),
     }
 }
 
-fn items(rt: &impl Abort, alloc: Global, program: &[(u32, Says)]) -> Result<Vec<Item>, AllocError> {
+/// A statement: its label and a colon, if it has one, and a word that says which it is: `DO` and the label that it names,
+/// `SET` for an assignment, `FUNCTION` for a statement function, `IF` for IF THEN, `COMPUTED` for a computed GO TO,
+/// `ARITHMETIC` and `LOGICALIF` for the other two IFs, and else its keyword.
+fn item(rt: &impl Abort, alloc: Global, line: u32, text: &str) -> Result<Item, AllocError> {
+    match text.split_once(':') {
+        Some((label, word)) => Ok(Item {
+            line,
+            label: u32::try_from(number(label.as_bytes())).ok(),
+            form: form(rt, alloc, word)?,
+        }),
+        None => Ok(Item {
+            line,
+            label: None,
+            form: form(rt, alloc, text)?,
+        }),
+    }
+}
+
+/// The statements of a text with blanks between, on the lines 1, 2 and so on.
+fn items(rt: &impl Abort, alloc: Global, text: &str) -> Result<Vec<Item>, AllocError> {
     let mut made = Vec::new(alloc);
-    for (index, (label, says)) in program.iter().enumerate() {
-        made.push(Item {
-            line: index.min(1000) as u32 + 1,
-            label: if *label == 0 { None } else { Some(*label) },
-            form: form(rt, alloc, *says)?,
-        })?;
+    let mut line: u32 = 0;
+    for word in text.split_whitespace() {
+        line = line.saturating_add(1);
+        made.push(item(rt, alloc, line, word)?)?;
     }
     Ok(made)
 }
 
-/// Writes the shape of some members: a letter for each statement, and parentheses around each range.
+/// A letter for a statement.
+fn letter(item: &Item) -> u8 {
+    match item.form.shape {
+        Shape::Program(_) => b'p',
+        Shape::Implicit(_) => b'm',
+        Shape::Parameter(_) => b'k',
+        Shape::Integer(_) | Shape::Logical(_) | Shape::Dimension(_) => b'i',
+        Shape::Assignment { .. } => b's',
+        Shape::Write { .. } | Shape::Print { .. } => b'w',
+        Shape::Format(_) => b'f',
+        Shape::Continue => b'c',
+        Shape::End => b'e',
+        _ => b'o',
+    }
+}
+
+/// Writes the shape of some members: a letter for each statement, parentheses around each range, and brackets around each
+/// block IF, with bars between its arms.
 fn write_shape(members: &[Member], text: &mut Vec<u8>) -> Result<(), AllocError> {
     for member in members {
         match member {
-            Member::Plain(item) => text.push(match item.form.shape {
-                Shape::Assignment { .. } => b's',
-                Shape::Write { .. } => b'w',
-                Shape::Format(_) => b'f',
-                Shape::Do { .. } => b'd',
-                Shape::Continue => b'c',
-                Shape::Integer(_) => b'i',
-                Shape::End => b'e',
-            })?,
+            Member::Plain(item) => text.push(letter(item))?,
             Member::Loop(found) => {
                 text.push(b'(')?;
                 write_shape(&found.range, text)?;
                 text.push(b')')?;
+            }
+            Member::Block(found) => {
+                text.push(b'[')?;
+                for (place, arm) in found.arms.iter().enumerate() {
+                    if place > 0 {
+                        text.push(b'|')?;
+                    }
+                    write_shape(&arm.body, text)?;
+                }
+                text.push(b']')?;
             }
         }
     }
@@ -142,388 +203,321 @@ fn write_shape(members: &[Member], text: &mut Vec<u8>) -> Result<(), AllocError>
 }
 
 /// Programs that nest, and the shapes of their trees.
-const NESTED: [(Program, &[u8]); 18] = [
-    (&[(0, End)], b"e"),
-    // Type statements stand first, and FORMAT may stand before them and between.
-    (&[(0, Type), (0, End)], b"ie"),
+const NESTED: [(&str, &str); 46] = [
+    ("END", "e"),
+    ("INTEGER END", "ie"),
+    // PROGRAM, then IMPLICIT, then type statements and DIMENSION; PARAMETER among them, and FORMAT anywhere.
     (
-        &[
-            (10, Format),
-            (0, Type),
-            (20, Format),
-            (30, Type),
-            (0, Set),
-            (40, Format),
-            (0, End),
-        ],
-        b"fifisfe",
+        "PROGRAM IMPLICIT PARAMETER IMPLICIT INTEGER PARAMETER LOGICAL DIMENSION SET END",
+        "pmkmikiise",
     ),
+    (
+        "PROGRAM 1:FORMAT IMPLICIT 2:FORMAT INTEGER 3:FORMAT SET 4:FORMAT END",
+        "pfmfifsfe",
+    ),
+    ("PARAMETER IMPLICIT DIMENSION END", "kmie"),
+    ("FORMAT IMPLICIT END", "fme"),
+    ("PROGRAM END", "pe"),
     // A label that a later DO names ends nothing.
-    (
-        &[(10, Type), (0, Do(b"10")), (10, Continue), (0, End)],
-        b"i(c)e",
-    ),
-    (&[(0, Set), (10, Format), (0, Write), (0, End)], b"sfwe"),
+    ("10:INTEGER DO10 10:CONTINUE END", "i(c)e"),
+    ("SET 10:FORMAT WRITE END", "sfwe"),
     // Each statement that may end a range does.
-    (&[(0, Do(b"10")), (10, Set), (0, End)], b"(s)e"),
-    (&[(0, Do(b"10")), (10, Write), (0, End)], b"(w)e"),
-    (&[(0, Do(b"10")), (10, Continue), (0, End)], b"(c)e"),
+    ("DO10 10:SET END", "(s)e"),
+    ("DO10 10:FUNCTION END", "(o)e"),
+    ("DO10 10:WRITE END", "(w)e"),
+    ("DO10 10:PRINT END", "(w)e"),
+    ("DO10 10:CONTINUE END", "(c)e"),
+    ("DO10 10:COMPUTED END", "(o)e"),
+    ("DO10 10:LOGICALIF END", "(o)e"),
     // A range goes on to the statement with its label, and leading zeros don't count.
-    (
-        &[
-            (0, Do(b"00010")),
-            (0, Set),
-            (20, Format),
-            (10, Continue),
-            (0, Set),
-            (0, End),
-        ],
-        b"(sfc)se",
-    ),
-    // One range after another.
-    (
-        &[
-            (0, Do(b"10")),
-            (10, Set),
-            (0, Do(b"20")),
-            (20, Set),
-            (0, End),
-        ],
-        b"(s)(s)e",
-    ),
-    // One in another.
-    (
-        &[
-            (0, Do(b"20")),
-            (0, Do(b"10")),
-            (10, Set),
-            (20, Continue),
-            (0, End),
-        ],
-        b"((s)c)e",
-    ),
-    (
-        &[
-            (0, Do(b"20")),
-            (0, Set),
-            (0, Do(b"10")),
-            (10, Set),
-            (0, Set),
-            (20, Set),
-            (0, End),
-        ],
-        b"(s(s)ss)e",
-    ),
+    ("DO00010 SET 20:FORMAT 10:CONTINUE SET END", "(sfc)se"),
+    ("DO10 010:CONTINUE END", "(c)e"),
+    // One range after another, and one in another.
+    ("DO10 10:SET DO20 20:SET END", "(s)(s)e"),
+    ("DO20 DO10 10:SET 20:CONTINUE END", "((s)c)e"),
+    ("DO20 SET DO10 10:SET SET 20:SET END", "(s(s)ss)e"),
     // A shared terminal statement.
-    (
-        &[(0, Do(b"10")), (0, Do(b"10")), (10, Continue), (0, End)],
-        b"((c))e",
-    ),
-    (
-        &[
-            (0, Do(b"10")),
-            (0, Set),
-            (0, Do(b"10")),
-            (0, Do(b"010")),
-            (0, Set),
-            (10, Set),
-            (0, End),
-        ],
-        b"(s((ss)))e",
-    ),
-    // A shared one in a range, and one shared after a range has ended.
-    (
-        &[
-            (0, Do(b"20")),
-            (0, Do(b"10")),
-            (0, Do(b"10")),
-            (10, Set),
-            (20, Set),
-            (0, End),
-        ],
-        b"(((s))s)e",
-    ),
-    (
-        &[
-            (0, Do(b"20")),
-            (0, Do(b"10")),
-            (10, Set),
-            (0, Do(b"20")),
-            (20, Set),
-            (0, End),
-        ],
-        b"((s)(s))e",
-    ),
+    ("DO10 DO10 10:CONTINUE END", "((c))e"),
+    ("DO10 SET DO10 DO010 SET 10:SET END", "(s((ss)))e"),
+    ("DO20 DO10 DO10 10:SET 20:SET END", "(((s))s)e"),
+    ("DO20 DO10 10:SET DO20 20:SET END", "((s)(s))e"),
     // A label that no open DO names ends nothing.
     (
-        &[
-            (10, Set),
-            (0, Do(b"20")),
-            (10, Format),
-            (30, Continue),
-            (20, Set),
-            (20, Set),
-            (20, End),
-        ],
-        b"s(fcs)se",
+        "10:SET DO20 10:FORMAT 30:CONTINUE 20:SET 20:SET 20:END",
+        "s(fcs)se",
     ),
-    // The label of a DO that begins the range of another.
-    (&[(10, Do(b"20")), (20, Continue), (30, End)], b"(c)e"),
+    ("10:DO20 20:CONTINUE 30:END", "(c)e"),
+    // Block IFs with one arm and with more.
+    ("IF ENDIF END", "[]e"),
+    ("IF SET ENDIF END", "[s]e"),
+    ("IF SET ELSE WRITE ENDIF END", "[s|w]e"),
+    (
+        "IF SET ELSEIF WRITE ELSEIF ELSE CONTINUE ENDIF SET END",
+        "[s|w||c]se",
+    ),
+    ("IF ELSEIF ENDIF IF ELSE ENDIF END", "[|][|]e"),
+    // One in an arm of another.
+    (
+        "IF IF SET ENDIF ELSE IF ELSE ENDIF WRITE ENDIF END",
+        "[[s]|[|]w]e",
+    ),
+    ("IF ELSE IF ELSE ENDIF ENDIF END", "[|[|]]e"),
+    // Ranges in arms, and block IFs in ranges.
+    ("IF DO10 10:SET ELSE DO10 10:SET ENDIF END", "[(s)|(s)]e"),
+    ("DO10 IF SET ENDIF 10:CONTINUE END", "([s]c)e"),
+    ("DO10 IF DO20 20:SET ENDIF 10:SET END", "([(s)]s)e"),
+    ("IF DO10 IF ELSE ENDIF 10:SET ENDIF END", "[([|]s)]e"),
+    ("DO10 DO10 IF ENDIF 10:SET END", "(([]s))e"),
+    // FORMAT and statements that transfer control may stand in an arm.
+    ("IF STOP ELSE GOTO 10:FORMAT ENDIF END", "[o|of]e"),
+    // A label that no open DO names ends nothing, at a statement of a block IF neither.
+    ("10:IF 20:ELSEIF 30:ELSE 40:ENDIF END", "[||]e"),
+    ("IF DO10 10:SET 10:ENDIF END", "[(s)]e"),
+    ("IF DO10 10:SET 10:ELSE 10:SET ENDIF END", "[(s)|s]e"),
+    // A label that is named again behind a range that has ended.
+    ("DO10 10:SET IF DO10 10:SET ENDIF END", "(s)[(s)]e"),
+    (
+        "DO20 DO10 10:SET IF DO10 10:SET ENDIF 20:SET END",
+        "((s)[(s)]s)e",
+    ),
+    // Nothing in a range ends it but its label.
+    ("DO10 STOP GOTO ARITHMETIC 10:SET END", "(ooos)e"),
 ];
 
 #[test]
 fn nests(rt: HostRuntime) -> Result<(), Fail> {
-    for (program, shape) in NESTED {
-        let unit = tree(rt.alloc(), items(&rt, rt.alloc(), program)?)
-            .ok()
-            .ok_or("it is refused")?;
-        let mut text = Vec::new(rt.alloc());
-        write_shape(&unit.body, &mut text)?;
-        assert!(rt; text.as_slice() == shape);
-    }
-    Ok(())
-}
-
-/// Programs that don't nest, and the rule and the line that are told.
-const REFUSED: [(Program, Rule, u32); 44] = [
-    // A type statement behind each executable statement, in a range and as its terminal statement.
-    (&[(0, Set), (0, Type), (0, End)], Rule::N1, 2),
-    (&[(0, Write), (0, Type), (0, End)], Rule::N1, 2),
-    (&[(0, Continue), (0, Type), (0, End)], Rule::N1, 2),
-    (
-        &[(0, Do(b"10")), (0, Type), (10, Continue), (0, End)],
-        Rule::N1,
-        2,
-    ),
-    (&[(0, Do(b"10")), (10, Type), (0, End)], Rule::N1, 2),
-    (
-        &[(0, Do(b"10")), (10, Set), (0, Type), (0, End)],
-        Rule::N1,
-        3,
-    ),
-    (&[(0, End), (0, Type)], Rule::N1, 2),
-    // The first one, whatever stands between and before.
-    (
-        &[
-            (0, Type),
-            (10, Format),
-            (0, Set),
-            (20, Format),
-            (0, Type),
-            (0, Type),
-            (0, End),
-        ],
-        Rule::N1,
-        5,
-    ),
-    (&[(0, Type), (0, End), (10, Format), (0, Type)], Rule::N2, 3),
-    // At one line the lesser rule, and else the lesser line.
-    (&[(0, Set), (0, Type)], Rule::N1, 2),
-    (&[(0, Set), (0, Type), (0, Set)], Rule::N1, 2),
-    (&[(0, Set), (0, Type), (0, End), (0, Set)], Rule::N1, 2),
-    (
-        &[(0, Do(b"10")), (10, Format), (0, Type), (0, End)],
-        Rule::N4,
-        2,
-    ),
-    (&[(0, Do(b"10")), (0, End), (0, Type)], Rule::N4, 2),
-    // No executable statement.
-    (&[(10, Type)], Rule::N2, 1),
-    (&[(10, Format), (0, Type)], Rule::N2, 2),
-    // END is missing: the last statement, or line 1.
-    (&[], Rule::N2, 1),
-    (&[(0, Set)], Rule::N2, 1),
-    (&[(0, Set), (0, Write), (10, Format)], Rule::N2, 3),
-    (&[(0, Do(b"10")), (0, Set)], Rule::N2, 2),
-    (&[(0, Do(b"10")), (10, Set)], Rule::N2, 2),
-    // At one line the lesser rule, and else the lesser line.
-    (&[(0, Do(b"10")), (10, Format)], Rule::N2, 2),
-    (&[(0, Do(b"10")), (10, Format), (0, Set)], Rule::N4, 2),
-    // The first statement behind END.
-    (&[(0, End), (0, Set)], Rule::N2, 2),
-    (&[(0, Set), (0, End), (0, End)], Rule::N2, 3),
-    (&[(0, Set), (0, End), (0, Set), (0, End)], Rule::N2, 3),
-    (&[(0, End), (0, Do(b"10")), (0, Format)], Rule::N2, 2),
-    // What may not end a range: FORMAT, DO and END.
-    (
-        &[(0, Do(b"10")), (10, Format), (10, Continue), (0, End)],
-        Rule::N4,
-        2,
-    ),
-    (
-        &[(0, Do(b"10")), (10, Do(b"20")), (20, Set), (0, End)],
-        Rule::N4,
-        2,
-    ),
-    (
-        &[(0, Do(b"10")), (10, Do(b"10")), (10, Set), (0, End)],
-        Rule::N4,
-        2,
-    ),
-    (&[(0, Do(b"10")), (0, Set), (10, End)], Rule::N4, 3),
-    // END in one range, in two, and behind a range in another.
-    (&[(0, Do(b"10")), (0, End)], Rule::N4, 2),
-    (
-        &[(0, Do(b"10")), (0, Do(b"10")), (0, Set), (0, End)],
-        Rule::N4,
-        4,
-    ),
-    (
-        &[(0, Do(b"10")), (0, Do(b"20")), (20, Set), (0, End)],
-        Rule::N4,
-        4,
-    ),
-    (&[(0, Do(b"10")), (0, End), (10, Continue)], Rule::N4, 2),
-    // Ranges that cross.
-    (
-        &[
-            (0, Do(b"10")),
-            (0, Do(b"20")),
-            (10, Set),
-            (20, Set),
-            (0, End),
-        ],
-        Rule::N4,
-        3,
-    ),
-    (
-        &[
-            (0, Do(b"10")),
-            (0, Do(b"10")),
-            (0, Do(b"20")),
-            (10, Set),
-            (20, Set),
-            (0, End),
-        ],
-        Rule::N4,
-        4,
-    ),
-    (
-        &[
-            (0, Do(b"10")),
-            (0, Do(b"20")),
-            (10, Format),
-            (20, Set),
-            (0, End),
-        ],
-        Rule::N4,
-        3,
-    ),
-    // A label that is named again behind one that is still open.
-    (
-        &[
-            (0, Do(b"10")),
-            (0, Do(b"20")),
-            (0, Do(b"10")),
-            (10, Set),
-            (20, Set),
-            (0, End),
-        ],
-        Rule::N4,
-        3,
-    ),
-    (
-        &[
-            (0, Do(b"10")),
-            (0, Do(b"10")),
-            (0, Do(b"20")),
-            (0, Set),
-            (0, Do(b"10")),
-            (0, End),
-        ],
-        Rule::N4,
-        5,
-    ),
-    // The terminal statement of both ranges at once is that of the inner one first.
-    (
-        &[
-            (0, Do(b"10")),
-            (0, Do(b"20")),
-            (20, Set),
-            (20, Set),
-            (0, End),
-        ],
-        Rule::N4,
-        5,
-    ),
-    // A DO statement's own label isn't in its range.
-    (&[(10, Do(b"10")), (0, End)], Rule::N4, 2),
-    // The label stands only before the DO statement.
-    (
-        &[(10, Set), (0, Do(b"10")), (0, Set), (0, End)],
-        Rule::N4,
-        4,
-    ),
-    (
-        &[(0, Do(b"10")), (10, Set), (0, Do(b"10")), (0, End)],
-        Rule::N4,
-        4,
-    ),
-];
-
-#[test]
-fn refuses(rt: HostRuntime) -> Result<(), Fail> {
-    for (program, rule, line) in REFUSED {
-        let refused = tree(rt.alloc(), items(&rt, rt.alloc(), program)?).err();
-        assert_eq!(rt;
-            refused,
-            Some(Refusal::Rule { rule, line }),
-            "{rule} at {line}"
+    for (text, shape) in NESTED {
+        assert!(rt;
+            shape_of(rt.alloc(), items(&rt, rt.alloc(), text)?)?.as_slice() == shape.as_bytes(),
+            "{text}"
         );
     }
     Ok(())
 }
 
-/// The digits of a label from 100 to 999.
-fn digits(alloc: Global, label: u32) -> Result<Vec<u8>, AllocError> {
-    let mut text = Vec::new(alloc);
-    for place in [100, 10, 1] {
-        text.push(48 + (label / place % 10) as u8)?;
+/// A program that doesn't nest, and the rule and the line that are told.
+type Refused = (&'static str, Rule, u32);
+
+/// Programs whose statements stand in no order that is allowed.
+const ORDER: [Refused; 29] = [
+    // PROGRAM behind another statement.
+    ("SET PROGRAM END", Rule::N1, 2),
+    ("1:FORMAT PROGRAM END", Rule::N1, 2),
+    ("INTEGER PROGRAM END", Rule::N1, 2),
+    ("IMPLICIT PROGRAM END", Rule::N1, 2),
+    ("PROGRAM PROGRAM END", Rule::N1, 2),
+    ("IF PROGRAM ENDIF END", Rule::N1, 2),
+    // A specification statement behind an executable one.
+    ("SET IMPLICIT END", Rule::N1, 2),
+    ("SET PARAMETER END", Rule::N1, 2),
+    ("SET INTEGER END", Rule::N1, 2),
+    ("SET LOGICAL END", Rule::N1, 2),
+    ("SET DIMENSION END", Rule::N1, 2),
+    ("FUNCTION INTEGER END", Rule::N1, 2),
+    ("WRITE INTEGER END", Rule::N1, 2),
+    ("PRINT PARAMETER END", Rule::N1, 2),
+    ("CONTINUE IMPLICIT END", Rule::N1, 2),
+    ("GOTO DIMENSION END", Rule::N1, 2),
+    ("COMPUTED INTEGER END", Rule::N1, 2),
+    ("ARITHMETIC INTEGER END", Rule::N1, 2),
+    ("LOGICALIF INTEGER END", Rule::N1, 2),
+    ("STOP INTEGER END", Rule::N1, 2),
+    ("DO10 INTEGER 10:CONTINUE END", Rule::N1, 2),
+    ("DO10 10:SET INTEGER END", Rule::N1, 3),
+    ("IF INTEGER ENDIF END", Rule::N1, 2),
+    ("IF ENDIF PARAMETER END", Rule::N1, 3),
+    // The first one, whatever stands between and before.
+    (
+        "PROGRAM INTEGER 10:FORMAT SET 20:FORMAT INTEGER INTEGER END",
+        Rule::N1,
+        6,
+    ),
+    // IMPLICIT behind a type statement or DIMENSION.
+    ("INTEGER IMPLICIT END", Rule::N1, 2),
+    ("LOGICAL IMPLICIT END", Rule::N1, 2),
+    ("DIMENSION IMPLICIT END", Rule::N1, 2),
+    ("PROGRAM INTEGER PARAMETER IMPLICIT SET END", Rule::N1, 4),
+];
+
+#[test]
+fn refuses_order(rt: HostRuntime) -> Result<(), Fail> {
+    for (text, rule, line) in ORDER {
+        let refused = told(rt.alloc(), items(&rt, rt.alloc(), text)?);
+        assert_eq!(rt; refused, broken(rule, line), "{text}");
     }
-    Ok(text)
+    Ok(())
 }
 
-/// A DO statement that names a label from 100 to 999.
-fn do_to(rt: &impl Abort, alloc: Global, line: u32, label: u32) -> Result<Item, AllocError> {
-    Ok(Item {
-        line,
-        label: None,
-        form: do_form(rt, alloc, digits(alloc, label)?)?,
-    })
+/// Programs without END, and with statements behind it.
+const ENDS: [Refused; 24] = [
+    // END is missing: the last statement, or line 1.
+    ("", Rule::N2, 1),
+    ("SET", Rule::N2, 1),
+    ("INTEGER", Rule::N2, 1),
+    ("10:FORMAT INTEGER", Rule::N2, 2),
+    ("SET WRITE 10:FORMAT", Rule::N2, 3),
+    ("DO10 SET", Rule::N2, 2),
+    ("DO10 10:SET", Rule::N2, 2),
+    ("DO10 DO10", Rule::N2, 2),
+    ("IF", Rule::N2, 1),
+    ("IF SET ENDIF", Rule::N2, 3),
+    // A statement behind END.
+    ("END SET", Rule::N2, 2),
+    ("END 10:FORMAT", Rule::N2, 2),
+    ("END IF", Rule::N2, 2),
+    ("END ELSE", Rule::N2, 2),
+    ("END ENDIF", Rule::N2, 2),
+    ("SET END END", Rule::N2, 3),
+    ("SET END SET END", Rule::N2, 3),
+    ("END DO10 FORMAT", Rule::N2, 2),
+    ("INTEGER END 10:FORMAT INTEGER", Rule::N2, 3),
+    // N1 is less where the statement behind END is one of these.
+    ("END INTEGER", Rule::N1, 2),
+    ("END PROGRAM", Rule::N1, 2),
+    ("END IMPLICIT", Rule::N1, 2),
+    ("END PARAMETER", Rule::N1, 2),
+    ("END DIMENSION", Rule::N1, 2),
+];
+
+#[test]
+fn refuses_ends(rt: HostRuntime) -> Result<(), Fail> {
+    for (text, rule, line) in ENDS {
+        let refused = told(rt.alloc(), items(&rt, rt.alloc(), text)?);
+        assert_eq!(rt; refused, broken(rule, line), "{text}");
+    }
+    Ok(())
 }
 
-/// CONTINUE with a label.
-fn go_on(line: u32, label: u32) -> Item {
-    Item {
-        line,
-        label: Some(label),
-        form: Form {
-            shape: Shape::Continue,
-        },
+/// Programs with statements of a block IF out of place.
+const BLOCKS: [Refused; 21] = [
+    // ELSE IF, ELSE and END IF where nothing is open.
+    ("ELSEIF END", Rule::N3, 1),
+    ("ELSE END", Rule::N3, 1),
+    ("ENDIF END", Rule::N3, 1),
+    ("SET ELSE END", Rule::N3, 2),
+    ("IF ENDIF ELSE END", Rule::N3, 3),
+    ("IF ENDIF ENDIF END", Rule::N3, 3),
+    // Where a range is open within.
+    ("DO10 ELSEIF 10:SET END", Rule::N3, 2),
+    ("DO10 ELSE 10:SET END", Rule::N3, 2),
+    ("DO10 ENDIF 10:SET END", Rule::N3, 2),
+    ("IF DO10 ELSEIF 10:SET ENDIF END", Rule::N3, 3),
+    ("IF DO10 ELSE 10:SET ENDIF END", Rule::N3, 3),
+    ("IF DO10 ENDIF 10:SET END", Rule::N3, 3),
+    // Behind ELSE.
+    ("IF ELSE ELSE ENDIF END", Rule::N3, 3),
+    ("IF ELSE ELSEIF ENDIF END", Rule::N3, 3),
+    ("IF ELSEIF ELSE SET ELSE ENDIF END", Rule::N3, 5),
+    ("IF ELSE IF ELSE ENDIF ELSE ENDIF END", Rule::N3, 6),
+    // END in a block IF.
+    ("IF END", Rule::N3, 2),
+    ("IF ELSE END", Rule::N3, 3),
+    ("IF IF ENDIF END", Rule::N3, 4),
+    ("DO10 IF END", Rule::N3, 3),
+    ("DO10 IF 10:END", Rule::N3, 3),
+];
+
+#[test]
+fn refuses_blocks(rt: HostRuntime) -> Result<(), Fail> {
+    for (text, rule, line) in BLOCKS {
+        let refused = told(rt.alloc(), items(&rt, rt.alloc(), text)?);
+        assert_eq!(rt; refused, broken(rule, line), "{text}");
     }
+    Ok(())
 }
 
-fn end(line: u32) -> Item {
-    Item {
-        line,
-        label: None,
-        form: Form { shape: Shape::End },
+/// Programs with ranges that don't end, or cross.
+const RANGES: [Refused; 38] = [
+    // END in a range.
+    ("DO10 END", Rule::N4, 2),
+    ("DO10 DO10 SET END", Rule::N4, 4),
+    ("DO10 DO20 20:SET END", Rule::N4, 4),
+    ("IF DO10 END", Rule::N4, 3),
+    ("DO10 IF ENDIF END", Rule::N4, 4),
+    ("DO10 END 10:CONTINUE", Rule::N4, 2),
+    // A statement with the label that may not end a range.
+    ("DO10 10:FORMAT 10:CONTINUE END", Rule::N4, 2),
+    ("DO10 10:DO20 20:SET END", Rule::N4, 2),
+    ("DO10 10:DO10 10:SET END", Rule::N4, 2),
+    ("DO10 10:GOTO END", Rule::N4, 2),
+    ("DO10 10:ARITHMETIC END", Rule::N4, 2),
+    ("DO10 10:STOP END", Rule::N4, 2),
+    ("DO10 10:IF ENDIF 10:SET END", Rule::N4, 2),
+    ("DO10 SET 10:END", Rule::N4, 3),
+    // ELSE IF, ELSE and END IF with the label: N3 is less where the range is innermost.
+    ("DO10 10:ELSEIF END", Rule::N3, 2),
+    ("DO10 10:ELSE END", Rule::N3, 2),
+    ("DO10 10:ENDIF END", Rule::N3, 2),
+    ("IF DO10 10:ELSE 10:SET ENDIF END", Rule::N3, 3),
+    ("DO10 IF 10:ELSEIF ENDIF 10:SET END", Rule::N4, 3),
+    ("DO10 IF 10:ELSE ENDIF 10:SET END", Rule::N4, 3),
+    ("DO10 IF 10:ENDIF END", Rule::N4, 3),
+    // Ranges that cross.
+    ("DO10 DO20 10:SET 20:SET END", Rule::N4, 3),
+    ("DO10 DO10 DO20 10:SET 20:SET END", Rule::N4, 4),
+    ("DO10 DO10 DO20 10:SET", Rule::N2, 4),
+    ("DO10 DO20 10:FORMAT 20:SET END", Rule::N4, 3),
+    ("DO10 DO20 20:SET 20:SET END", Rule::N4, 5),
+    // A range that crosses a block IF.
+    ("DO10 IF 10:SET ENDIF END", Rule::N4, 3),
+    ("DO10 IF SET ELSE 10:SET ENDIF END", Rule::N4, 5),
+    ("DO10 DO10 IF 10:CONTINUE ENDIF END", Rule::N4, 4),
+    ("DO10 IF 10:IF ENDIF ENDIF 10:SET END", Rule::N4, 3),
+    ("DO20 DO10 IF 20:SET ENDIF 10:SET 20:SET END", Rule::N4, 4),
+    // A label that is named again behind something else that is still open.
+    ("DO10 DO20 DO10 10:SET 20:SET END", Rule::N4, 3),
+    ("DO10 DO10 DO20 SET DO10 END", Rule::N4, 5),
+    ("DO10 IF DO10 10:SET ENDIF 10:SET END", Rule::N4, 3),
+    (
+        "DO10 DO10 IF ELSE DO10 10:SET ENDIF 10:SET END",
+        Rule::N4,
+        5,
+    ),
+    // A DO statement's own label isn't in its range, and one that stands only before it ends nothing.
+    ("10:DO10 END", Rule::N4, 2),
+    ("10:SET DO10 SET END", Rule::N4, 4),
+    ("DO10 10:SET DO10 END", Rule::N4, 4),
+];
+
+#[test]
+fn refuses_ranges(rt: HostRuntime) -> Result<(), Fail> {
+    for (text, rule, line) in RANGES {
+        let refused = told(rt.alloc(), items(&rt, rt.alloc(), text)?);
+        assert_eq!(rt; refused, broken(rule, line), "{text}");
     }
+    Ok(())
 }
 
-/// So many DO statements, on the lines from 1 on, that name the labels from 500 down, or all of them 500.
-fn opened(
-    rt: &impl Abort,
-    alloc: Global,
-    count: u32,
-    apart: bool,
-) -> Result<Vec<Item>, AllocError> {
-    let mut made = Vec::new(alloc);
-    for index in 0..count.min(400) {
-        let label = if apart { 500 - index } else { 500 };
-        made.push(do_to(rt, alloc, index + 1, label)?)?;
+/// Programs in which more than one rule is broken.
+const TIES: [Refused; 18] = [
+    // At one line the lesser rule, and else the lesser line.
+    ("SET INTEGER", Rule::N1, 2),
+    ("SET PROGRAM", Rule::N1, 2),
+    ("DO10 10:INTEGER END", Rule::N1, 2),
+    ("DO10 10:PROGRAM", Rule::N1, 2),
+    ("SET INTEGER END SET", Rule::N1, 2),
+    ("ELSE", Rule::N2, 1),
+    ("IF ELSE ELSE", Rule::N2, 3),
+    ("DO10 ELSE", Rule::N2, 2),
+    ("DO10 10:FORMAT", Rule::N2, 2),
+    ("DO10 10:GOTO", Rule::N2, 2),
+    ("DO10 IF 10:SET", Rule::N2, 3),
+    ("DO10 10:FORMAT SET", Rule::N4, 2),
+    ("DO10 10:FORMAT INTEGER END", Rule::N4, 2),
+    ("DO10 END INTEGER", Rule::N4, 2),
+    ("ELSE INTEGER END", Rule::N3, 1),
+    ("ELSE SET INTEGER", Rule::N3, 1),
+    ("IF END SET", Rule::N3, 2),
+    ("IF SET ENDIF DO10 ELSE 10:FORMAT END", Rule::N3, 5),
+];
+
+#[test]
+fn refuses_ties(rt: HostRuntime) -> Result<(), Fail> {
+    for (text, rule, line) in TIES {
+        let refused = told(rt.alloc(), items(&rt, rt.alloc(), text)?);
+        assert_eq!(rt; refused, broken(rule, line), "{text}");
     }
-    Ok(made)
+    Ok(())
 }
 
 /// What is told of some statements; nothing where they nest.
@@ -545,76 +539,81 @@ fn broken(rule: Rule, line: u32) -> Option<Refusal> {
     Some(Refusal::Rule { rule, line })
 }
 
-#[test]
-fn nests_32_with_one_terminal_statement(rt: HostRuntime) -> Result<(), Fail> {
-    let mut program = opened(&rt, rt.alloc(), 32, false)?;
-    program.push(go_on(33, 500))?;
-    program.push(end(34))?;
-    let shape = shape_of(rt.alloc(), program)?;
-    let wanted: &[u8] = b"((((((((((((((((((((((((((((((((c))))))))))))))))))))))))))))))))e";
-    assert!(rt; shape.as_slice() == wanted);
-    Ok(())
-}
-
-#[test]
-fn nests_32_with_terminal_statements_of_their_own(rt: HostRuntime) -> Result<(), Fail> {
-    let mut program = opened(&rt, rt.alloc(), 32, true)?;
-    for index in 0..32 {
-        program.push(go_on(33 + index, 469 + index))?;
+/// A text so many times, and then another.
+fn repeated(alloc: Global, text: &str, count: u32, rest: &str) -> Result<String, AllocError> {
+    let mut made = String::new(alloc);
+    for _ in 0..count {
+        made.push_str(text)?;
+        made.push(' ')?;
     }
-    program.push(end(65))?;
-    let shape = shape_of(rt.alloc(), program)?;
-    let wanted: &[u8] =
-        b"((((((((((((((((((((((((((((((((c)c)c)c)c)c)c)c)c)c)c)c)c)c)c)c)c)c)c)c)c)c)c)c)c)c)c)c)c)c)c)c)e";
-    assert!(rt; shape.as_slice() == wanted);
+    made.push_str(rest)?;
+    Ok(made)
+}
+
+/// What stands so many times in front, what stands behind it, and the shape of the tree: 32 things are open at once.
+const DEEPEST: [(&str, u32, &str, &str); 4] = [
+    (
+        "DO10",
+        32,
+        "10:SET END",
+        "((((((((((((((((((((((((((((((((s))))))))))))))))))))))))))))))))e",
+    ),
+    (
+        "DO10",
+        32,
+        "10:SET DO10 10:SET END",
+        "((((((((((((((((((((((((((((((((s))))))))))))))))))))))))))))))))(s)e",
+    ),
+    (
+        "IF ENDIF",
+        33,
+        "END",
+        "[][][][][][][][][][][][][][][][][][][][][][][][][][][][][][][][][]e",
+    ),
+    (
+        "DO10",
+        31,
+        "IF SET ELSE SET ENDIF 10:SET END",
+        "((((((((((((((((((((((((((((((([s|s]s)))))))))))))))))))))))))))))))e",
+    ),
+];
+
+#[test]
+fn nests_32(rt: HostRuntime) -> Result<(), Fail> {
+    for (text, count, rest, shape) in DEEPEST {
+        let program = repeated(rt.alloc(), text, count, rest)?;
+        let found = shape_of(rt.alloc(), items(&rt, rt.alloc(), &program)?)?;
+        assert!(rt; found.as_slice() == shape.as_bytes(), "{rest}");
+    }
     Ok(())
 }
 
-#[test]
-fn nests_two_behind_32_that_are_closed(rt: HostRuntime) -> Result<(), Fail> {
-    let mut program = opened(&rt, rt.alloc(), 32, false)?;
-    program.push(go_on(33, 500))?;
-    program.push(do_to(&rt, rt.alloc(), 34, 600)?)?;
-    program.push(go_on(35, 600))?;
-    program.push(end(36))?;
-    let shape = shape_of(rt.alloc(), program)?;
-    let wanted: &[u8] = b"((((((((((((((((((((((((((((((((c))))))))))))))))))))))))))))))))(c)e";
-    assert!(rt; shape.as_slice() == wanted);
-    Ok(())
-}
+/// What stands so many times in front, and what is told where something else stands behind it: 32 things are open already.
+const TOO_DEEP: [(&str, u32, &str, Rule, u32); 14] = [
+    ("DO10", 32, "DO10 10:SET END", Rule::N5, 33),
+    ("DO10", 32, "DO20 20:SET 10:SET END", Rule::N5, 33),
+    ("DO10", 32, "IF ENDIF 10:SET END", Rule::N5, 33),
+    ("IF", 32, "IF END", Rule::N5, 33),
+    ("IF", 32, "DO10 10:SET END", Rule::N5, 33),
+    ("IF ELSE", 32, "IF END", Rule::N5, 65),
+    ("DO10", 31, "IF DO20 20:SET ENDIF 10:SET END", Rule::N5, 33),
+    // The 33rd with more than one rule broken.
+    ("DO10", 31, "IF DO10 10:SET ENDIF 10:SET END", Rule::N4, 33),
+    ("DO10", 31, "DO20 10:DO30 END", Rule::N4, 33),
+    ("DO10", 32, "10:IF END", Rule::N4, 33),
+    ("DO10", 32, "DO10", Rule::N2, 33),
+    ("DO10", 32, "DO10 DO10", Rule::N5, 33),
+    ("IF", 32, "END", Rule::N3, 33),
+    ("DO10", 32, "END", Rule::N4, 33),
+];
 
 #[test]
 fn refuses_the_33rd(rt: HostRuntime) -> Result<(), Fail> {
-    for apart in [false, true] {
-        let mut program = opened(&rt, rt.alloc(), 33, apart)?;
-        program.push(end(34))?;
-        assert_eq!(rt; told(rt.alloc(), program), broken(Rule::N5, 33));
+    for (text, count, rest, rule, line) in TOO_DEEP {
+        let program = repeated(rt.alloc(), text, count, rest)?;
+        let refused = told(rt.alloc(), items(&rt, rt.alloc(), &program)?);
+        assert_eq!(rt; refused, broken(rule, line), "{rest}");
     }
-    Ok(())
-}
-
-#[test]
-fn refuses_the_33rd_that_crosses(rt: HostRuntime) -> Result<(), Fail> {
-    // The innermost label may be named once more, and the outermost may not.
-    for (label, rule) in [(469, Rule::N5), (500, Rule::N4)] {
-        let mut program = opened(&rt, rt.alloc(), 32, true)?;
-        program.push(do_to(&rt, rt.alloc(), 33, label)?)?;
-        program.push(end(34))?;
-        assert_eq!(rt; told(rt.alloc(), program), broken(rule, 33));
-    }
-    Ok(())
-}
-
-#[test]
-fn tells_the_lesser_rule_where_the_33rd_is_the_last_statement(rt: HostRuntime) -> Result<(), Fail> {
-    assert_eq!(rt;
-        told(rt.alloc(), opened(&rt, rt.alloc(), 33, false)?),
-        broken(Rule::N2, 33)
-    );
-    assert_eq!(rt;
-        told(rt.alloc(), opened(&rt, rt.alloc(), 34, false)?),
-        broken(Rule::N5, 33)
-    );
     Ok(())
 }
 

@@ -1,15 +1,16 @@
 //! A program unit as far as it was read, and what may stand behind it.
 
-ghost use Rattle.std.specs.Prelude.{◌≡◌, nat_le, length, option_map, IfOk};
-ghost use Rattle.meaning.specs.Nesting.{is_end, is_executable, is_typing, may_end, named, labels, innermost, is_named as named_by, is_hidden as hidden_by, is_crossing, is_too_deep, breaks, add as added, past as past_of};
+ghost use Rattle.std.specs.Prelude.{◌≡◌, nat_le, length, IfOk};
+ghost use Rattle.meaning.specs.Nesting.{levels, innermost, is_stray as stray, is_named as named_by, is_hidden as hidden_by, is_end_in_range as ends_in_range, is_crossing, is_too_deep, breaks_nesting, is_ended as ended_by, add as added, next_arm as next_arm_of, close_block as close_block_of, past as past_of, ended, joined, effect_of};
 ghost use Rattle.meaning.specs.Rules.{is_label_at};
-ghost use Rattle.meaning.specs.Syntax.{shape_tree};
-ghost use Rattle.meaning.specs.Trees.{item_tree, member_before, members_tree, none};
-ghost use Rattle.nesting.specs.Open.{unfinished};
+ghost use Rattle.meaning.specs.Trees.{item_tree, member_before, members_tree, none, plain};
+ghost use Rattle.nesting.specs.Open.{unfinished, effect};
 
-use meaning::number::number;
+use crate::effect::{
+    Effect, closes_unit, effect_of_item, is_else_item, label_named, may_end_range, opens_level,
+};
 use meaning::refusal::Rule;
-use meaning::syntax::{Item, Loop, Member, Shape};
+use meaning::syntax::{Arm, Block, Item, Loop, Member};
 use std::alloc::{AllocError, Global};
 
 /// A program unit as far as it was read.
@@ -17,88 +18,28 @@ use std::alloc::{AllocError, Global};
 pub enum Open {
     /// END was reached.
     Ended(Vec<Member>),
-    /// No range is open.
+    /// No range and no block IF is open.
     Body(Vec<Member>),
-    /// The innermost range that is open: its DO statement, the label that it names and what stands in the range so far.
+    /// The innermost thing that is open is a range: its DO statement, the label that it names and what stands in the range so
+    /// far.
     Range {
         head: Item,
         label: u64,
         members: Vec<Member>,
         around: Box<Open>,
     },
+    /// The innermost thing that is open is a block IF: its earlier arms, the statement of the arm that is read, and what stands
+    /// in this so far.
+    Branch {
+        arms: Vec<Arm>,
+        head: Item,
+        members: Vec<Member>,
+        around: Box<Open>,
+    },
 }
 
-/// How many DO statements are open at most.
+/// How many DO statements and block IFs are open at most.
 const MOST_OPEN: u32 = 32;
-
-/// Whether a statement is END.
-pub fn is_end_item(item: &Item) -> bool
-    ensures { result ≡ is_end (item_tree item.now).shape }
-{
-    match item.form.shape {
-        Shape::End => true,
-        Shape::Assignment { .. }
-        | Shape::Write { .. }
-        | Shape::Format(_)
-        | Shape::Do { .. }
-        | Shape::Continue
-        | Shape::Integer(_) => false,
-    }
-}
-
-/// Whether a statement is executable (ANSI X3.9-1978, 7.1).
-pub fn is_executable_item(item: &Item) -> bool
-    ensures { result ≡ is_executable (item_tree item.now).shape }
-{
-    match item.form.shape {
-        Shape::Format(_) | Shape::Integer(_) => false,
-        Shape::Assignment { .. }
-        | Shape::Write { .. }
-        | Shape::Do { .. }
-        | Shape::Continue
-        | Shape::End => true,
-    }
-}
-
-/// Whether a statement is a type statement.
-fn is_typing_item(item: &Item) -> bool
-    ensures { result ≡ is_typing (item_tree item.now).shape }
-{
-    match item.form.shape {
-        Shape::Integer(_) => true,
-        Shape::Assignment { .. }
-        | Shape::Write { .. }
-        | Shape::Format(_)
-        | Shape::Do { .. }
-        | Shape::Continue
-        | Shape::End => false,
-    }
-}
-
-/// Whether a statement may be the last one of a range (ANSI X3.9-1978, 11.10).
-fn may_end_range(item: &Item) -> bool
-    ensures { result ≡ may_end (item_tree item.now).shape }
-{
-    match item.form.shape {
-        Shape::Assignment { .. } | Shape::Write { .. } | Shape::Continue => true,
-        Shape::Format(_) | Shape::Do { .. } | Shape::Integer(_) | Shape::End => false,
-    }
-}
-
-/// The label that a DO statement names, or 4294967296 where it is more.
-fn label_named(item: &Item) -> Option<u64>
-    ensures { result ≡ named (item_tree item.now).shape }
-{
-    match &item.form.shape {
-        Shape::Do { label, .. } => Some(number(label)),
-        Shape::Assignment { .. }
-        | Shape::Write { .. }
-        | Shape::Format(_)
-        | Shape::Continue
-        | Shape::Integer(_)
-        | Shape::End => None,
-    }
-}
 
 /// The label of a statement.
 fn label_of(item: &Item) -> Option<u64>
@@ -122,7 +63,7 @@ fn is_label(label: Option<u64>, other: u64) -> bool
 
 /// Whether an open DO statement names the label.
 fn is_named(so_far: &Open, label: Option<u64>) -> bool
-    ensures { result ≡ named_by label (labels (unfinished so_far.now)) }
+    ensures { result ≡ named_by label (levels (unfinished so_far.now)) }
 {
     match so_far {
         Open::Ended(_) | Open::Body(_) => false,
@@ -131,12 +72,13 @@ fn is_named(so_far: &Open, label: Option<u64>) -> bool
             around,
             ..
         } => is_label(label, *other) || is_named(around, label),
+        Open::Branch { around, .. } => is_named(around, label),
     }
 }
 
-/// Whether an open DO statement names the label behind one that names another.
+/// Whether an open DO statement names the label, behind which one that names another, or a block IF, is open.
 fn is_hidden(so_far: &Open, label: Option<u64>) -> bool
-    ensures { result ≡ hidden_by label (labels (unfinished so_far.now)) }
+    ensures { result ≡ hidden_by label (levels (unfinished so_far.now)) }
 {
     match so_far {
         Open::Ended(_) | Open::Body(_) => false,
@@ -151,12 +93,13 @@ fn is_hidden(so_far: &Open, label: Option<u64>) -> bool
                 is_named(around, label)
             }
         }
+        Open::Branch { around: outer, .. } => is_named(outer, label),
     }
 }
 
-/// Whether so many DO statements are open.
+/// Whether so many DO statements and block IFs are open.
 fn holds(so_far: &Open, count: u32) -> bool
-    ensures { result ≡ nat_le count (length (labels (unfinished so_far.now))) }
+    ensures { result ≡ nat_le count (length (levels (unfinished so_far.now))) }
 {
     if count == 0 {
         return true;
@@ -164,42 +107,78 @@ fn holds(so_far: &Open, count: u32) -> bool
     match so_far {
         Open::Ended(_) | Open::Body(_) => false,
         Open::Range { around, .. } => holds(around, count - 1),
+        Open::Branch { around, .. } => holds(around, count - 1),
     }
 }
 
-/// Whether a range would cross another with the statement, or end with one that may not end it, or hold END.
-fn crosses(so_far: &Open, item: &Item) -> bool
-    ensures { result ≡ is_crossing (labels (unfinished so_far.now)) (item_tree item.now) }
+/// Whether ELSE IF, ELSE or END IF stands out of place, or END in a block IF (ANSI X3.9-1978, 11.6 to 11.9).
+fn is_stray(so_far: &Open, done: Effect) -> bool
+    ensures { result ≡ stray (effect done) (levels (unfinished so_far.now)) }
 {
-    is_hidden(so_far, label_of(item))
-        || (is_named(so_far, label_of(item)) && !may_end_range(item))
-        || is_hidden(so_far, label_named(item))
-        || (is_end_item(item) && holds(so_far, 1))
+    match so_far {
+        Open::Branch { head, .. } => match done {
+            Effect::OpensArm => is_else_item(head),
+            Effect::ClosesUnit => true,
+            Effect::OpensRange(_) | Effect::OpensBlock | Effect::ClosesBlock | Effect::Stands(_) =>
+                false,
+        },
+        Open::Ended(_) | Open::Body(_) | Open::Range { .. } => match done {
+            Effect::OpensArm | Effect::ClosesBlock => true,
+            Effect::OpensRange(_) | Effect::OpensBlock | Effect::ClosesUnit | Effect::Stands(_) =>
+                false,
+        },
+    }
 }
 
-/// Whether the statement would be one open DO statement too many.
-fn is_one_too_many(so_far: &Open, item: &Item) -> bool
-    ensures { result ≡ is_too_deep (labels (unfinished so_far.now)) (item_tree item.now) }
+/// Whether END would stand in a range.
+fn ends_unit_in_range(so_far: &Open, done: Effect) -> bool
+    ensures { result ≡ ends_in_range (effect done) (levels (unfinished so_far.now)) }
 {
-    label_named(item).is_some() && holds(so_far, MOST_OPEN)
+    match so_far {
+        Open::Range { .. } => closes_unit(done),
+        Open::Ended(_) | Open::Body(_) | Open::Branch { .. } => false,
+    }
 }
 
-/// The least rule that a statement breaks there, if it breaks one; `executable` says whether an executable statement was
-/// read.
-#[tactic(auto, unfolding(meaning::specs::Nesting::breaks))]
-pub fn broken_rule(executable: bool, so_far: &Open, item: &Item) -> Option<Rule>
-    ensures { result ≡ breaks executable (unfinished so_far.now) (item_tree item.now) }
+/// Whether a range would cross another or a block IF with the statement, or end with one that may not end it, or hold END.
+fn crosses(so_far: &Open, label: Option<u64>, done: Effect) -> bool
+    ensures { result ≡ is_crossing (levels (unfinished so_far.now)) label (effect done) }
 {
-    if executable && is_typing_item(item) {
-        return Some(Rule::N1);
+    is_hidden(so_far, label)
+        || (is_named(so_far, label) && !may_end_range(done))
+        || is_hidden(so_far, label_named(done))
+        || ends_unit_in_range(so_far, done)
+}
+
+/// Whether the statement would open one thing too many.
+fn is_one_too_many(so_far: &Open, done: Effect) -> bool
+    ensures { result ≡ is_too_deep (levels (unfinished so_far.now)) (effect done) }
+{
+    opens_level(done) && holds(so_far, MOST_OPEN)
+}
+
+/// Whether END was read.
+pub fn is_ended(so_far: &Open) -> bool
+    ensures { result ≡ ended_by (unfinished so_far.now) }
+{
+    match so_far {
+        Open::Ended(_) => true,
+        Open::Body(_) | Open::Range { .. } | Open::Branch { .. } => false,
     }
-    if let Open::Ended(_) = so_far {
-        return Some(Rule::N2);
+}
+
+/// The least of N3, N4 and N5 that a statement breaks there, if it breaks one.
+pub fn broken_nesting(so_far: &Open, item: &Item) -> Option<Rule>
+    ensures { result ≡ breaks_nesting (levels (unfinished so_far.now)) (item_tree item.now).label (effect_of (item_tree item.now).shape) }
+{
+    let done = effect_of_item(item);
+    if is_stray(so_far, done) {
+        return Some(Rule::N3);
     }
-    if crosses(so_far, item) {
+    if crosses(so_far, label_of(item), done) {
         return Some(Rule::N4);
     }
-    if is_one_too_many(so_far, item) {
+    if is_one_too_many(so_far, done) {
         return Some(Rule::N5);
     }
     None
@@ -213,6 +192,7 @@ pub fn into_innermost(so_far: Open) -> Vec<Member>
         Open::Ended(members) => members,
         Open::Body(members) => members,
         Open::Range { members, .. } => members,
+        Open::Branch { members, .. } => members,
     }
 }
 
@@ -251,28 +231,129 @@ fn with_member(so_far: Open, label: Option<u64>, member: Member) -> Result<Open,
                 })
             }
         }
+        Open::Branch {
+            arms,
+            head,
+            mut members,
+            around,
+        } => {
+            members.push(member)?;
+            Ok(Open::Branch {
+                arms,
+                head,
+                members,
+                around,
+            })
+        }
     }
 }
 
+/// The next arm of the innermost block IF, behind ELSE IF or ELSE.
+fn next_arm(alloc: Global, so_far: Open, item: Item) -> Result<Open, AllocError>
+    ensures { IfOk result (λ z. unfinished z ≡ next_arm_of (item_tree item) (unfinished so_far)) }
+{
+    match so_far {
+        Open::Ended(members) => Ok(Open::Ended(members)),
+        Open::Body(members) => Ok(Open::Body(members)),
+        Open::Range {
+            head,
+            label,
+            members,
+            around,
+        } => Ok(Open::Range {
+            head,
+            label,
+            members,
+            around,
+        }),
+        Open::Branch {
+            mut arms,
+            head,
+            members,
+            around,
+        } => {
+            arms.push(Arm {
+                head,
+                body: members,
+            })?;
+            Ok(Open::Branch {
+                arms,
+                head: item,
+                members: Vec::new(alloc),
+                around,
+            })
+        }
+    }
+}
+
+/// The innermost block IF as a member of the list that holds it, behind END IF.
+fn close_block(so_far: Open, item: Item) -> Result<Open, AllocError>
+    ensures { IfOk result (λ z. unfinished z ≡ close_block_of (item_tree item) (unfinished so_far)) }
+{
+    match so_far {
+        Open::Ended(members) => Ok(Open::Ended(members)),
+        Open::Body(members) => Ok(Open::Body(members)),
+        Open::Range {
+            head,
+            label,
+            members,
+            around,
+        } => Ok(Open::Range {
+            head,
+            label,
+            members,
+            around,
+        }),
+        Open::Branch {
+            mut arms,
+            head,
+            members,
+            around,
+        } => {
+            let ends = label_of(&item);
+            arms.push(Arm {
+                head,
+                body: members,
+            })?;
+            let whole = Member::Block(Block { arms, end: item });
+            with_member(Box::into_inner(around), ends, whole)
+        }
+    }
+}
+
+/// The program unit behind END.
+fn close_unit(so_far: Open, item: Item) -> Result<Open, AllocError>
+    ensures { IfOk result (λ z. unfinished z ≡ ended (joined (innermost (unfinished so_far)) (plain (item_tree item) none))) }
+{
+    let mut members = into_innermost(so_far);
+    members.push(Member::Plain(item))?;
+    Ok(Open::Ended(members))
+}
+
 /// The program unit as far as it was read, with one statement more.
-#[tactic(auto, using(crate::proofs::Pushes::tree_push), unfolding(meaning::specs::Nesting::past))]
+#[tactic(auto, unfolding(meaning::specs::Nesting::past))]
 pub fn past(alloc: Global, so_far: Open, item: Item) -> Result<Open, AllocError>
     ensures { IfOk result (λ z. unfinished z ≡ past_of (unfinished so_far) (item_tree item)) }
 {
-    if let Some(label) = label_named(&item) {
-        let around = Box::new(alloc, so_far)?;
-        return Ok(Open::Range {
+    match effect_of_item(&item) {
+        Effect::OpensRange(label) => Ok(Open::Range {
             head: item,
             label,
             members: Vec::new(alloc),
-            around,
-        });
+            around: Box::new(alloc, so_far)?,
+        }),
+        Effect::OpensBlock => Ok(Open::Branch {
+            arms: Vec::new(alloc),
+            head: item,
+            members: Vec::new(alloc),
+            around: Box::new(alloc, so_far)?,
+        }),
+        Effect::OpensArm => next_arm(alloc, so_far, item),
+        Effect::ClosesBlock => close_block(so_far, item),
+        Effect::ClosesUnit => close_unit(so_far, item),
+        Effect::Stands(_) => {
+            let label = label_of(&item);
+            with_member(so_far, label, Member::Plain(item))
+        }
     }
-    if is_end_item(&item) {
-        let mut members = into_innermost(so_far);
-        members.push(Member::Plain(item))?;
-        return Ok(Open::Ended(members));
-    }
-    let label = label_of(&item);
-    with_member(so_far, label, Member::Plain(item))
 }

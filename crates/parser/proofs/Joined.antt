@@ -3,16 +3,8 @@ use Rattle.std.proofs.Common.{◌≡◌, List, [], ◌∷◌, ◌++◌, true, le
 use Rattle.std.proofs.lemmas.Bool.{lt-ltb}
 use Rattle.std.specs.Prelude.{IsTrue, nat_lt}
 use Rattle.meaning.specs.Syntax.{BoundsTree, DeclaratorTree}
-use Rattle.meaning.specs.Spelling.{spell_bounds, spell_more_bounds, spell_dimensions, spell_declarator, spell_more_declarators, spell_declarators}
+use Rattle.meaning.specs.Spelling.{spell_bounds, spell_more_bounds, spell_dimensions, spell_declarator, spell_more_declarators, spell_declarators, joined_more, joined}
 use Rattle.meaning.specs.Reading.{Text}
-
-abbrev pub joined_more : {A : Type 0} → (A → Text) → List A → Text
-joined_more spelling [] = []
-joined_more spelling (x ∷ xs) = 44 ∷ (spelling x ++ joined_more spelling xs)
-
-abbrev pub joined : {A : Type 0} → (A → Text) → List A → Text
-joined spelling [] = []
-joined spelling (x ∷ xs) = spelling x ++ joined_more spelling xs
 
 pub has_some : {A : Type 0} → (x : A) (xs : List A) → nat_lt 0 (length (x ∷ xs)) ≡ true
 has_some x xs = lt-ltb 0 (length (x ∷ xs)) (omega arith)
@@ -33,3 +25,13 @@ joined_more_declarators (d ∷ ds) = ap (λ t. 44 ∷ (spell_declarator d ++ t))
 pub joined_declarators : (ds : List DeclaratorTree) → spell_declarators ds ≡ joined spell_declarator ds
 joined_declarators [] = refl
 joined_declarators (d ∷ ds) = ap (λ t. spell_declarator d ++ t) (joined_more_declarators ds)
+
+-- an implied DO with its parts regrouped
+pub loop_regrouped : (xs v limits rest : Text) → ((xs ++ (44 ∷ (v ++ (61 ∷ limits)))) ++ 41 ∷ []) ++ rest ≡ xs ++ (44 ∷ (v ++ (61 ∷ (limits ++ (41 ∷ rest)))))
+loop_regrouped xs v limits rest =
+    append_assoc (xs ++ (44 ∷ (v ++ (61 ∷ limits)))) (41 ∷ []) rest ∙ append_assoc xs (44 ∷ (v ++ (61 ∷ limits))) (41 ∷ rest) ∙ ap (λ u. xs ++ (44 ∷ u)) (append_assoc v (61 ∷ limits) (41 ∷ rest))
+
+-- a list with its constants, with its parts regrouped
+pub set_regrouped : (comma xs vs rest : Text) → (comma ++ (xs ++ (47 ∷ (vs ++ 47 ∷ [])))) ++ rest ≡ comma ++ (xs ++ (47 ∷ (vs ++ (47 ∷ rest))))
+set_regrouped comma xs vs rest =
+    append_assoc comma (xs ++ (47 ∷ (vs ++ 47 ∷ []))) rest ∙ ap (λ u. comma ++ u) (append_assoc xs (47 ∷ (vs ++ 47 ∷ [])) rest ∙ ap (λ u. xs ++ (47 ∷ u)) (append_assoc vs (47 ∷ []) rest))

@@ -1,7 +1,8 @@
-pub mod Scans
 pub mod Words
 pub mod Turns
+pub mod Bounded
 pub mod Separated
+pub mod Sets
 pub mod Joined
 pub mod Sound
 pub mod Marks

@@ -1,18 +1,24 @@
 //! Expressions, by precedence climbing.
 
 ghost use Rattle.std.specs.Prelude.{◌≡◌, ◌+◌, length, IfOk};
-ghost use Rattle.meaning.specs.Spelling.{level, level_of};
+ghost use Rattle.meaning.specs.Spelling.{level, left_least, right_least, level_of};
 ghost use Rattle.meaning.specs.Syntax.{binary, exprs, expr_tree, exprs_tree};
-ghost use Rattle.meaning.specs.Reading.{paren_at, exprs_at, subscripts_at, named_by, name_or_element_at, primary_at, front_at, may_follow, operations_at, expression_at, whole_expression_at};
+ghost use Rattle.meaning.specs.Reading.{paren_at, exprs_at, subscripts_at, named_by, name_or_element_at, primary_at, negation_at, front_at, may_follow, operations_at, expression_at, expression_from, whole_expression_at};
 ghost use Rattle.parser.specs.Reports.{Agrees};
 
 use crate::read_error::ReadError;
-use crate::token::{behind, expect, read_name, read_operator, read_sign, split_digits};
+use crate::token::{behind, expect, read_name, read_operator, read_sign, read_truth, split_digits};
 use meaning::syntax::{Expr, Exprs, Operator};
 use std::alloc::{AllocError, Global};
 
 /// The level of a whole expression.
 const WEAKEST: u8 = 0;
+
+/// The level of `.NOT.` with its operand.
+const NEGATED: u8 = 3;
+
+/// The level of relations, of which `.NOT.` takes one.
+const RELATION: u8 = 4;
 
 /// The level of a sign with its operand.
 const SIGNED: u8 = 5;
@@ -20,16 +26,32 @@ const SIGNED: u8 = 5;
 /// The level of the term that a sign takes.
 const TERM: u8 = 6;
 
-/// The level of digits, names, elements and expressions in parentheses.
+/// The level of `**` with its operands.
+const POWER: u8 = 7;
+
+/// The level of constants, names, elements, function references and expressions in parentheses.
 const PRIMARY: u8 = 8;
 
-/// How strongly an operator binds (ANSI X3.9-1978, 6.1.3 and 6.5).
+/// How strongly an operator binds (ANSI X3.9-1978, 6.1.3, 6.4.2 and 6.5).
 fn level_of_operator(operator: Operator) -> u8
     ensures { result ≡ level operator }
 {
     match operator {
-        Operator::Add | Operator::Subtract => 5,
-        Operator::Multiply => 6,
+        Operator::Power => POWER,
+        Operator::Multiply => TERM,
+        Operator::Divide => TERM,
+        Operator::Add => SIGNED,
+        Operator::Subtract => SIGNED,
+        Operator::Less => RELATION,
+        Operator::LessOrEqual => RELATION,
+        Operator::Equal => RELATION,
+        Operator::NotEqual => RELATION,
+        Operator::GreaterOrEqual => RELATION,
+        Operator::Greater => RELATION,
+        Operator::And => 2,
+        Operator::Or => 1,
+        Operator::Equivalent => WEAKEST,
+        Operator::NotEquivalent => WEAKEST,
     }
 }
 
@@ -38,17 +60,38 @@ fn level_of_expression(expression: &Expr) -> u8
     ensures { result ≡ level_of (expr_tree expression.now) }
 {
     match expression {
-        Expr::Number(_) | Expr::Name(_) | Expr::Paren(_) | Expr::Element(_, _) => PRIMARY,
+        Expr::Number(_) => PRIMARY,
+        Expr::Truth(_) => PRIMARY,
+        Expr::Name(_) => PRIMARY,
         Expr::Signed(_, _) => SIGNED,
+        Expr::Not(_) => NEGATED,
         Expr::Binary(operator, _, _) => level_of_operator(*operator),
+        Expr::Paren(_) => PRIMARY,
+        Expr::Element(_, _) => PRIMARY,
+        Expr::Call(_) => PRIMARY,
     }
 }
 
-/// The least level of what stands on the right of an operator: operators of one level group from the left.
-fn least_on_right(operator: Operator) -> u8
-    ensures { result ≡ level operator + 1 }
+/// The least level of what stands on the left of an operator of a level: relations don't chain, and `**` groups from
+/// the right.
+fn least_on_left(level: u8) -> u8
+    ensures { result ≡ left_least level }
 {
-    level_of_operator(operator) + 1
+    if level == RELATION {
+        SIGNED
+    } else if level == POWER {
+        PRIMARY
+    } else {
+        level
+    }
+}
+
+/// The least level of what stands on the right of an operator: `**` groups from the right, the others from the left.
+fn least_on_right(operator: Operator) -> u8
+    ensures { result ≡ right_least (level operator) }
+{
+    let level = level_of_operator(operator);
+    if level == POWER { POWER } else { level + 1 }
 }
 
 /// Whether an operator of this level or a stronger one may have this operand on its left.
@@ -56,7 +99,7 @@ fn continues(least: u8, left: &Expr, operator: Operator) -> bool
     ensures { result ≡ may_follow least (expr_tree left.now) operator }
 {
     let level = level_of_operator(operator);
-    least <= level && level <= level_of_expression(left)
+    least <= level && least_on_left(level) <= level_of_expression(left)
 }
 
 /// An operator and its operands.
@@ -142,9 +185,9 @@ fn read_inner_subscripts(
     }
 }
 
-/// A name, or with subscripts an element.
+/// A name, with subscripts an element, or with `()` a function reference.
 #[cycle(expression)]
-#[tactic(auto, unfolding(meaning::specs::Reading::name_or_element_at))]
+#[tactic(auto, unfolding(meaning::specs::Reading::name_or_element_at, meaning::specs::Reading::either))]
 fn read_name_or_element(
     alloc: Global,
     depth: usize,
@@ -153,11 +196,16 @@ fn read_name_or_element(
     ensures { Agrees (λ x. (expr_tree x.0, x.1.now)) result (name_or_element_at (expression_at depth) text.now) }
 {
     let (name, rest) = read_name(alloc, text)?;
-    let (subscripts, rest) = read_inner_subscripts(alloc, depth, rest)?;
-    Ok((name_with(alloc, name, subscripts)?, rest))
+    match behind(b"()", rest) {
+        None => {
+            let (subscripts, rest) = read_inner_subscripts(alloc, depth, rest)?;
+            Ok((name_with(alloc, name, subscripts)?, rest))
+        }
+        Some(rest) => Ok((Expr::Call(name), rest)),
+    }
 }
 
-/// Digits, a name, an element, or an expression in parentheses.
+/// Digits, an expression in parentheses, a logical constant, a name, an element or a function reference.
 #[cycle(expression)]
 #[tactic(auto, unfolding(meaning::specs::Reading::primary_at))]
 fn read_primary(alloc: Global, depth: usize, text: &[u8]) -> Result<(Expr, &[u8]), ReadError>
@@ -171,10 +219,38 @@ fn read_primary(alloc: Global, depth: usize, text: &[u8]) -> Result<(Expr, &[u8]
     if *first == b'(' {
         return read_parenthesis(alloc, depth, behind);
     }
+    if *first == b'.' {
+        let (value, rest) = read_truth(text).ok_or(ReadError::NoReading)?;
+        return Ok((Expr::Truth(value), rest));
+    }
     read_name_or_element(alloc, depth, text)
 }
 
-/// What an expression of a level begins with: a sign and one term, where the level lets a sign stand, or a primary.
+/// `.NOT.` and its operand, where the level lets it stand, or a primary.
+#[cycle(expression)]
+#[tactic(auto, unfolding(meaning::specs::Reading::negation_at, meaning::specs::Reading::either, meaning::specs::Reading::when))]
+fn read_negation(
+    alloc: Global,
+    depth: usize,
+    least: u8,
+    text: &[u8],
+) -> Result<(Expr, &[u8]), ReadError>
+    ensures { Agrees (λ x. (expr_tree x.0, x.1.now)) result (negation_at (expression_at depth) least text.now) }
+{
+    match behind(b".NOT.", text) {
+        None => read_primary(alloc, depth, text),
+        Some(behind) => {
+            if least > NEGATED {
+                return Err(ReadError::NoReading);
+            }
+            let (operand, rest) = read_expression(alloc, depth, RELATION, behind)?;
+            Ok((Expr::Not(Box::new(alloc, operand)?), rest))
+        }
+    }
+}
+
+/// What an expression of a level begins with: a sign and one term, where the level lets a sign stand, `.NOT.` and its
+/// operand, or a primary.
 #[cycle(expression)]
 #[tactic(auto, unfolding(meaning::specs::Reading::front_at, meaning::specs::Reading::either, meaning::specs::Reading::when))]
 fn read_front(
@@ -186,7 +262,7 @@ fn read_front(
     ensures { Agrees (λ x. (expr_tree x.0, x.1.now)) result (front_at (expression_at depth) least text.now) }
 {
     match read_sign(text) {
-        None => read_primary(alloc, depth, text),
+        None => read_negation(alloc, depth, least, text),
         Some((sign, behind)) => {
             if least > SIGNED {
                 return Err(ReadError::NoReading);
@@ -197,7 +273,7 @@ fn read_front(
     }
 }
 
-/// What begins with an operand: operators that bind this strongly, each with an operand that binds more strongly.
+/// What begins with an operand: operators that bind this strongly, each with an operand that binds strongly enough.
 #[cycle(expression)]
 #[tactic(auto, unfolding(meaning::specs::Reading::operations_at, meaning::specs::Reading::either))]
 fn read_operations(
@@ -248,6 +324,18 @@ fn read_expression(
     }
     let (front, rest) = read_front(alloc, depth - 1, least, text)?;
     read_operations(alloc, depth - 1, least, front, rest)
+}
+
+/// An expression of a level.
+#[tactic(auto, unfolding(meaning::specs::Reading::expression_from))]
+pub fn read_expression_from(
+    alloc: Global,
+    least: u8,
+    text: &[u8],
+) -> Result<(Expr, &[u8]), ReadError>
+    ensures { Agrees (λ x. (expr_tree x.0, x.1.now)) result (expression_from least text.now) }
+{
+    read_expression(alloc, text.len() + 1, least, text)
 }
 
 /// An expression of the weakest level.

@@ -1,17 +1,20 @@
-//! Statements' texts as forms: the bare text, its kind, and the form that it reads as.
+//! Bare texts as forms.
 #![tactic(auto)]
 
+mod control;
 mod declarators;
 mod expression;
+mod initial_values;
 mod laws;
-mod lexer;
+mod left_out;
+mod list;
+mod output;
 mod read_error;
-mod scan;
+mod specification;
 mod statement;
 mod token;
 
 pub use laws::{one_kind, one_reading, one_spelling};
-pub use lexer::{bare, kind};
 pub use statement::form;
 
 #[cfg(test)]

@@ -1,28 +1,34 @@
 //! Statements: a text as the form that it reads as.
 
 ghost use Rattle.std.specs.Prelude.{◌≡◌};
-ghost use Rattle.meaning.specs.Syntax.{exprs_tree, exprs_trees, unit_tree, limits_tree, shape_tree};
-ghost use Rattle.meaning.specs.Reading.{at_end as ends, whole_expression_at, exprs_at, subscripts_at, expressions_at, list_of, unit_at, assignment_of, writing_of, format_of, ending_of, limits_at, comma_at, doing_of, continuing_of, typing_of, shape_of, read_shape};
+ghost use Rattle.meaning.specs.Syntax.{expr_tree, exprs_tree, limits_tree, shape_tree};
+ghost use Rattle.meaning.specs.Reading.{at_end as ends, whole_expression_at, exprs_at, subscripts_at, value_of, target_of, assignment_of, format_of, alone_of, limits_at, comma_at, doing_of, simple_by, logical_if_of, shape_by, shape_of, read_shape};
 ghost use Rattle.meaning.specs.Answers.{at_line};
 ghost use Rattle.meaning.specs.Reports.{Gives};
 ghost use Rattle.parser.specs.Reports.{Agrees};
 
-use crate::declarators::read_declarators;
+use crate::control::{
+    read_arithmetic_if, read_computed_go_to, read_condition, read_else_if, read_go_to,
+    read_if_then, read_stop,
+};
+use crate::declarators::{read_dimension, read_integer, read_logical};
 use crate::expression::{list_with, read_whole_expression};
-use crate::lexer::kind;
+use crate::initial_values::read_data;
+use crate::left_out::begins_left_out;
+use crate::output::{read_print, read_write};
 use crate::read_error::ReadError;
-use crate::scan::{begins_left_out, is_balanced, is_too_deep};
+use crate::specification::{read_implicit, read_parameter, read_program};
 use crate::token::{before_parenthesis, behind, expect, read_label, read_name};
+use lexer::{is_balanced, is_too_deep, kind, kind_of_text};
 use meaning::refusal::{Refusal, Rule};
 use meaning::statement::Bare;
-use meaning::syntax::{Exprs, Form, Kind, Limits, Shape, Unit};
+use meaning::syntax::{Expr, Exprs, Form, Kind, Limits, Shape};
 use std::alloc::Global;
 
 /// Expressions with commas between, one at least.
-#[tactic(auto, unfolding(meaning::specs::Reading::exprs_at, meaning::specs::Reading::expressions_at, meaning::specs::Reading::either))]
+#[tactic(auto, unfolding(meaning::specs::Reading::exprs_at, meaning::specs::Reading::either))]
 fn read_expressions(alloc: Global, most: usize, text: &[u8]) -> Result<(Exprs, &[u8]), ReadError>
-    ensures tree { Agrees (λ x. (exprs_tree x.0, x.1.now)) result (exprs_at (λ _ t. whole_expression_at t) most text.now) }
-    ensures list { Agrees (λ x. (exprs_trees x.0, x.1.now)) result (expressions_at most text.now) }
+    ensures { Agrees (λ x. (exprs_tree x.0, x.1.now)) result (exprs_at (λ _ t. whole_expression_at t) most text.now) }
 {
     if most == 0 {
         return Err(ReadError::NoReading);
@@ -37,37 +43,8 @@ fn read_expressions(alloc: Global, most: usize, text: &[u8]) -> Result<(Exprs, &
     }
 }
 
-/// The rest of a text: expressions with commas between, or nothing.
-#[tactic(auto, unfolding(meaning::specs::Reading::list_of))]
-fn read_list(alloc: Global, text: &[u8]) -> Result<Exprs, ReadError>
-    ensures { Agrees (λ x. exprs_trees x) result (list_of text.now) }
-{
-    if text.is_empty() {
-        return Ok(Exprs::Empty);
-    }
-    let (list, rest) = read_expressions(alloc, text.len() + 1, text)?;
-    if !rest.is_empty() {
-        return Err(ReadError::NoReading);
-    }
-    Ok(list)
-}
-
-/// The unit of a WRITE statement (ANSI X3.9-1978, 12.9.1): an asterisk or an expression.
-#[tactic(auto, unfolding(meaning::specs::Reading::unit_at, meaning::specs::Reading::either))]
-fn read_unit(alloc: Global, text: &[u8]) -> Result<(Unit, &[u8]), ReadError>
-    ensures { Agrees (λ x. (unit_tree x.0, x.1.now)) result (unit_at text.now) }
-{
-    match behind(b"*", text) {
-        Some(rest) => Ok((Unit::Star, rest)),
-        None => {
-            let (number, rest) = read_whole_expression(alloc, text)?;
-            Ok((Unit::Number(number), rest))
-        }
-    }
-}
-
 /// What was read, where nothing stands behind it.
-fn at_end(shape: Shape, rest: &[u8]) -> Result<Shape, ReadError>
+pub fn at_end(shape: Shape, rest: &[u8]) -> Result<Shape, ReadError>
     ensures { Agrees (λ x. shape_tree x) result (ends (shape_tree shape, rest.now)) }
 {
     if !rest.is_empty() {
@@ -90,37 +67,46 @@ fn read_subscripts(alloc: Global, text: &[u8]) -> Result<(Exprs, &[u8]), ReadErr
     }
 }
 
-/// An assignment (ANSI X3.9-1978, 10.1).
-#[tactic(auto, unfolding(meaning::specs::Reading::assignment_of))]
+/// An expression up to the end.
+#[tactic(auto, unfolding(meaning::specs::Reading::value_of))]
+pub fn read_value(alloc: Global, text: &[u8]) -> Result<Expr, ReadError>
+    ensures { Agrees (λ x. expr_tree x) result (value_of text.now) }
+{
+    let (value, rest) = read_whole_expression(alloc, text)?;
+    if !rest.is_empty() {
+        return Err(ReadError::NoReading);
+    }
+    Ok(value)
+}
+
+/// What stands behind the name on the left of an assignment.
+#[tactic(auto, unfolding(meaning::specs::Reading::target_of))]
+fn read_behind_name(alloc: Global, name: Vec<u8>, text: &[u8]) -> Result<Shape, ReadError>
+    ensures { Agrees (λ x. shape_tree x) result (target_of name.items text.now) }
+{
+    let (subscripts, rest) = read_subscripts(alloc, text)?;
+    let rest = expect(b"=", rest)?;
+    let value = read_value(alloc, rest)?;
+    Ok(Shape::Assignment {
+        name,
+        subscripts,
+        value,
+    })
+}
+
+/// An assignment (ANSI X3.9-1978, 10.1), or a statement function without dummy arguments (15.4).
+#[tactic(auto, unfolding(meaning::specs::Reading::assignment_of, meaning::specs::Reading::either))]
 fn read_assignment(alloc: Global, text: &[u8]) -> Result<Shape, ReadError>
     ensures { Agrees (λ x. shape_tree x) result (assignment_of text.now) }
 {
     let (name, rest) = read_name(alloc, text)?;
-    let (subscripts, rest) = read_subscripts(alloc, rest)?;
-    let rest = expect(b"=", rest)?;
-    let (value, rest) = read_whole_expression(alloc, rest)?;
-    at_end(
-        Shape::Assignment {
-            name,
-            subscripts,
-            value,
-        },
-        rest,
-    )
-}
-
-/// A WRITE statement (ANSI X3.9-1978, 12.8).
-#[tactic(auto, unfolding(meaning::specs::Reading::writing_of))]
-fn read_write(alloc: Global, text: &[u8]) -> Result<Shape, ReadError>
-    ensures { Agrees (λ x. shape_tree x) result (writing_of text.now) }
-{
-    let rest = expect(b"WRITE(", text)?;
-    let (unit, rest) = read_unit(alloc, rest)?;
-    let rest = expect(b",", rest)?;
-    let (label, rest) = read_label(alloc, rest)?;
-    let rest = expect(b")", rest)?;
-    let list = read_list(alloc, rest)?;
-    Ok(Shape::Write { unit, label, list })
+    match behind(b"()=", rest) {
+        None => read_behind_name(alloc, name, rest),
+        Some(rest) => {
+            let value = read_value(alloc, rest)?;
+            Ok(Shape::Definition(name, value))
+        }
+    }
 }
 
 /// A FORMAT statement (ANSI X3.9-1978, 13.1).
@@ -136,18 +122,18 @@ fn read_format(alloc: Global, text: &[u8]) -> Result<Shape, ReadError>
     Ok(Shape::Format(Vec::from_slice(alloc, format)?))
 }
 
-/// An END statement (ANSI X3.9-1978, 3.5).
-#[tactic(auto, unfolding(meaning::specs::Reading::ending_of))]
-fn read_end(text: &[u8]) -> Result<Shape, ReadError>
-    ensures { Agrees (λ x. shape_tree x) result (ending_of text.now) }
+/// A statement that is a keyword alone.
+#[tactic(auto, unfolding(meaning::specs::Reading::alone_of))]
+fn read_alone(word: &[u8], shape: Shape, text: &[u8]) -> Result<Shape, ReadError>
+    ensures { Agrees (λ x. shape_tree x) result (alone_of word.now (shape_tree shape) text.now) }
 {
-    let rest = expect(b"END", text)?;
-    at_end(Shape::End, rest)
+    let rest = expect(word, text)?;
+    at_end(shape, rest)
 }
 
 /// The limits of a DO statement (ANSI X3.9-1978, 11.10): two expressions or three, with commas between.
 #[tactic(auto, unfolding(meaning::specs::Reading::limits_at, meaning::specs::Reading::either))]
-fn read_limits(alloc: Global, text: &[u8]) -> Result<(Limits, &[u8]), ReadError>
+pub fn read_limits(alloc: Global, text: &[u8]) -> Result<(Limits, &[u8]), ReadError>
     ensures { Agrees (λ x. (limits_tree x.0, x.1.now)) result (limits_at text.now) }
 {
     let (first, rest) = read_whole_expression(alloc, text)?;
@@ -178,7 +164,7 @@ fn read_limits(alloc: Global, text: &[u8]) -> Result<(Limits, &[u8]), ReadError>
 
 /// Whether a comma stands at the front, and what stands behind it.
 #[tactic(auto, unfolding(meaning::specs::Reading::comma_at, meaning::specs::Reading::either))]
-fn split_comma(text: &[u8]) -> (bool, &[u8])
+pub fn split_comma(text: &[u8]) -> (bool, &[u8])
     ensures { (result.0, result.1.now) ≡ comma_at text.now }
 {
     match behind(b",", text) {
@@ -209,26 +195,80 @@ fn read_do(alloc: Global, text: &[u8]) -> Result<Shape, ReadError>
     )
 }
 
-/// A CONTINUE statement (ANSI X3.9-1978, 11.11).
-#[tactic(auto, unfolding(meaning::specs::Reading::continuing_of))]
-fn read_continue(text: &[u8]) -> Result<Shape, ReadError>
-    ensures { Agrees (λ x. shape_tree x) result (continuing_of text.now) }
+/// A statement of a kind that may stand under a logical IF (ANSI X3.9-1978, 11.5).
+#[tactic(auto, unfolding(meaning::specs::Reading::simple_by))]
+fn read_simple(alloc: Global, kind: Kind, text: &[u8]) -> Result<Shape, ReadError>
+    ensures { Agrees (λ x. shape_tree x) result (simple_by kind text.now) }
 {
-    let rest = expect(b"CONTINUE", text)?;
-    at_end(Shape::Continue, rest)
+    match kind {
+        Kind::Assignment => read_assignment(alloc, text),
+        Kind::Write => read_write(alloc, text),
+        Kind::Format => Err(ReadError::NoReading),
+        Kind::Do => Err(ReadError::NoReading),
+        Kind::Continue => read_alone(b"CONTINUE", Shape::Continue, text),
+        Kind::Integer => Err(ReadError::NoReading),
+        Kind::End => Err(ReadError::NoReading),
+        Kind::Program => Err(ReadError::NoReading),
+        Kind::Implicit => Err(ReadError::NoReading),
+        Kind::Logical => Err(ReadError::NoReading),
+        Kind::Dimension => Err(ReadError::NoReading),
+        Kind::Parameter => Err(ReadError::NoReading),
+        Kind::Data => Err(ReadError::NoReading),
+        Kind::GoTo => read_go_to(alloc, text),
+        Kind::ComputedGoTo => read_computed_go_to(alloc, text),
+        Kind::ArithmeticIf => read_arithmetic_if(alloc, text),
+        Kind::LogicalIf => Err(ReadError::NoReading),
+        Kind::IfThen => Err(ReadError::NoReading),
+        Kind::ElseIf => Err(ReadError::NoReading),
+        Kind::Else => Err(ReadError::NoReading),
+        Kind::EndIf => Err(ReadError::NoReading),
+        Kind::Stop => read_stop(alloc, text),
+        Kind::Print => read_print(alloc, text),
+        Kind::Other => Err(ReadError::NoReading),
+    }
 }
 
-/// An INTEGER statement (ANSI X3.9-1978, 8.4.1).
-#[tactic(auto, unfolding(meaning::specs::Reading::typing_of))]
-fn read_integer(alloc: Global, text: &[u8]) -> Result<Shape, ReadError>
-    ensures { Agrees (λ x. shape_tree x) result (typing_of text.now) }
+/// A logical IF statement (ANSI X3.9-1978, 11.5).
+#[tactic(auto, unfolding(meaning::specs::Reading::logical_if_of))]
+fn read_logical_if(alloc: Global, text: &[u8]) -> Result<Shape, ReadError>
+    ensures { Agrees (λ x. shape_tree x) result (logical_if_of text.now) }
 {
-    let rest = expect(b"INTEGER", text)?;
-    let (declarators, rest) = read_declarators(alloc, rest)?;
-    if !rest.is_empty() {
-        return Err(ReadError::NoReading);
+    let (condition, rest) = read_condition(alloc, b"IF(", text)?;
+    let statement = read_simple(alloc, kind_of_text(rest), rest)?;
+    Ok(Shape::LogicalIf(condition, Box::new(alloc, statement)?))
+}
+
+/// A statement of a kind.
+#[tactic(auto, unfolding(meaning::specs::Reading::shape_by))]
+fn read_statement(alloc: Global, kind: Kind, text: &[u8]) -> Result<Shape, ReadError>
+    ensures { Agrees (λ x. shape_tree x) result (shape_by kind text.now) }
+{
+    match kind {
+        Kind::Assignment => read_simple(alloc, kind, text),
+        Kind::Write => read_simple(alloc, kind, text),
+        Kind::Format => read_format(alloc, text),
+        Kind::Do => read_do(alloc, text),
+        Kind::Continue => read_simple(alloc, kind, text),
+        Kind::Integer => read_integer(alloc, text),
+        Kind::End => read_alone(b"END", Shape::End, text),
+        Kind::Program => read_program(alloc, text),
+        Kind::Implicit => read_implicit(alloc, text),
+        Kind::Logical => read_logical(alloc, text),
+        Kind::Dimension => read_dimension(alloc, text),
+        Kind::Parameter => read_parameter(alloc, text),
+        Kind::Data => read_data(alloc, text),
+        Kind::GoTo => read_simple(alloc, kind, text),
+        Kind::ComputedGoTo => read_simple(alloc, kind, text),
+        Kind::ArithmeticIf => read_simple(alloc, kind, text),
+        Kind::LogicalIf => read_logical_if(alloc, text),
+        Kind::IfThen => read_if_then(alloc, text),
+        Kind::ElseIf => read_else_if(alloc, text),
+        Kind::Else => read_alone(b"ELSE", Shape::Else, text),
+        Kind::EndIf => read_alone(b"ENDIF", Shape::EndIf, text),
+        Kind::Stop => read_simple(alloc, kind, text),
+        Kind::Print => read_simple(alloc, kind, text),
+        Kind::Other => read_simple(alloc, kind, text),
     }
-    Ok(Shape::Integer(declarators))
 }
 
 /// The form that a bare text reads as.
@@ -236,16 +276,7 @@ fn read_integer(alloc: Global, text: &[u8]) -> Result<Shape, ReadError>
 fn read_shape_of(alloc: Global, bare: &Bare) -> Result<Shape, ReadError>
     ensures { Agrees (λ x. shape_tree x) result (shape_of bare.now.text.items) }
 {
-    match kind(bare) {
-        Kind::Assignment => read_assignment(alloc, &bare.text),
-        Kind::Write => read_write(alloc, &bare.text),
-        Kind::Format => read_format(alloc, &bare.text),
-        Kind::Do => read_do(alloc, &bare.text),
-        Kind::Continue => read_continue(&bare.text),
-        Kind::Integer => read_integer(alloc, &bare.text),
-        Kind::End => read_end(&bare.text),
-        Kind::Other => Err(ReadError::NoReading),
-    }
+    read_statement(alloc, kind(bare), &bare.text)
 }
 
 /// The form that a bare text reads as. More than 64 parentheses open at once break G3. Where there is no reading,

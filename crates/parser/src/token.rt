@@ -2,8 +2,9 @@
 
 ghost use Rattle.std.specs.Prelude.{◌≡◌, option_map, nat_lt};
 ghost use Rattle.std.specs.List.{list_all, list_any, prefix_len};
-ghost use Rattle.meaning.specs.Characters.{is_digit as digit_test, is_alphanumeric as alphanumeric_test, is_name, is_label, number_of};
-ghost use Rattle.meaning.specs.Reading.{after, before_last_parenthesis, run, name_at, label_at, sign_at, operator_at};
+ghost use Rattle.meaning.specs.Characters.{is_digit as digit_test, is_alphanumeric as alphanumeric_test, is_number as number_test, is_name, is_label, number_of};
+ghost use Rattle.meaning.specs.Reading.{after, before_last_parenthesis, run, name_at, label_at, sign_at, first_operator_at, operator_at, truth_at};
+ghost use Rattle.meaning.specs.Spelling.{operator_text};
 ghost use Rattle.parser.specs.Reports.{Agrees};
 
 use crate::read_error::ReadError;
@@ -26,7 +27,7 @@ pub fn expect<'t>(word: &[u8], text: &'t [u8]) -> Result<&'t [u8], ReadError>
 }
 
 /// What stands before a last closing parenthesis.
-#[tactic(auto, using(crate::proofs::Words::before_is))]
+#[tactic(auto, using(meaning::proofs::Readers::before_is))]
 pub fn before_parenthesis(text: &[u8]) -> Option<&[u8]>
     ensures { option_map (λ x. x.now) result ≡ before_last_parenthesis text.now }
 {
@@ -71,7 +72,7 @@ pub fn split_digits(text: &[u8]) -> (&[u8], &[u8])
 
 /// The longest front of letters and digits, and what stands behind.
 #[tactic(auto, using(crate::proofs::Words::runs))]
-fn split_alphanumerics(text: &[u8]) -> (&[u8], &[u8])
+pub fn split_alphanumerics(text: &[u8]) -> (&[u8], &[u8])
     ensures { (result.0.now, result.1.now) ≡ run alphanumeric_test text.now }
 {
     text.split_at(alphanumerics_len(text))
@@ -98,8 +99,15 @@ fn has_positive(digits: &[u8]) -> bool
     digits.iter().any(|c| *c > b'0')
 }
 
+/// Whether a text is digits, one at least.
+pub fn is_number(text: &[u8]) -> bool
+    ensures { result ≡ number_test text.now }
+{
+    !text.is_empty() && are_digits(text)
+}
+
 /// Whether a text is a symbolic name: a letter and up to five letters or digits (ANSI X3.9-1978, 2.2).
-fn is_symbolic_name(text: &[u8]) -> bool
+pub fn is_symbolic_name(text: &[u8]) -> bool
     ensures { result ≡ is_name text.now }
 {
     match text.split_first() {
@@ -115,7 +123,7 @@ fn is_symbolic_name(text: &[u8]) -> bool
 fn is_statement_label(digits: &[u8]) -> bool
     ensures { result ≡ is_label digits.now }
 {
-    !digits.is_empty() && are_digits(digits) && digits.len() <= 5 && has_positive(digits)
+    is_number(digits) && digits.len() <= 5 && has_positive(digits)
 }
 
 /// A symbolic name at the front, and what stands behind.
@@ -155,16 +163,79 @@ pub fn read_sign(text: &[u8]) -> Option<(Sign, &[u8])>
     }
 }
 
+/// The operators; `**` stands before `*`, with which it begins.
+const OPERATORS: [Operator; 15] = [
+    Operator::Power,
+    Operator::Multiply,
+    Operator::Divide,
+    Operator::Add,
+    Operator::Subtract,
+    Operator::Less,
+    Operator::LessOrEqual,
+    Operator::Equal,
+    Operator::NotEqual,
+    Operator::GreaterOrEqual,
+    Operator::Greater,
+    Operator::And,
+    Operator::Or,
+    Operator::Equivalent,
+    Operator::NotEquivalent,
+];
+
+/// How an operator is written (ANSI X3.9-1978, 6.1.1, 6.3.1 and 6.4.1).
+fn spelling(operator: Operator) -> &'static [u8]
+    ensures { result.now ≡ operator_text operator }
+{
+    match operator {
+        Operator::Power => b"**",
+        Operator::Multiply => b"*",
+        Operator::Divide => b"/",
+        Operator::Add => b"+",
+        Operator::Subtract => b"-",
+        Operator::Less => b".LT.",
+        Operator::LessOrEqual => b".LE.",
+        Operator::Equal => b".EQ.",
+        Operator::NotEqual => b".NE.",
+        Operator::GreaterOrEqual => b".GE.",
+        Operator::Greater => b".GT.",
+        Operator::And => b".AND.",
+        Operator::Or => b".OR.",
+        Operator::Equivalent => b".EQV.",
+        Operator::NotEquivalent => b".NEQV.",
+    }
+}
+
+/// The first of these operators that stands at the front, and what stands behind.
+#[tactic(auto, unfolding(meaning::specs::Reading::first_operator_at, meaning::specs::Reading::either))]
+fn read_first_operator<'t>(operators: &[Operator], text: &'t [u8]) -> Option<(Operator, &'t [u8])>
+    ensures { option_map (λ x. (x.0, x.1.now)) result ≡ first_operator_at operators.now text.now }
+{
+    for &operator in operators {
+        if let Some(rest) = behind(spelling(operator), text) {
+            return Some((operator, rest));
+        }
+    }
+    None
+}
+
 /// An operator at the front, and what stands behind.
 #[tactic(auto, unfolding(meaning::specs::Reading::operator_at))]
 pub fn read_operator(text: &[u8]) -> Option<(Operator, &[u8])>
     ensures { option_map (λ x. (x.0, x.1.now)) result ≡ operator_at text.now }
 {
-    let (c, rest) = text.split_first()?;
-    match c {
-        b'+' => Some((Operator::Add, rest)),
-        b'-' => Some((Operator::Subtract, rest)),
-        b'*' => Some((Operator::Multiply, rest)),
-        _ => None,
+    read_first_operator(&OPERATORS, text)
+}
+
+/// A logical constant at the front, and what stands behind (ANSI X3.9-1978, 4.7).
+#[tactic(auto, unfolding(meaning::specs::Reading::truth_at, meaning::specs::Reading::either))]
+pub fn read_truth(text: &[u8]) -> Option<(bool, &[u8])>
+    ensures { option_map (λ x. (x.0, x.1.now)) result ≡ truth_at text.now }
+{
+    if let Some(rest) = behind(b".TRUE.", text) {
+        return Some((true, rest));
     }
+    if let Some(rest) = behind(b".FALSE.", text) {
+        return Some((false, rest));
+    }
+    None
 }

@@ -1,4 +1,5 @@
 pub mod Exact
+pub mod Powers
 pub mod Lists
 pub mod Naturals
 pub mod Places

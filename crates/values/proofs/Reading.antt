@@ -1,5 +1,6 @@
 -- The values of expressions, read from a store, one part after another.
-use Rattle.std.proofs.Common.{◌≡◌, ℕ, ℤ, pos, List, [], ◌∷◌, Option, Some, Result, Ok, Err, refl, sym, ap, subst, ◌∙◌}
+use Rattle.std.specs.Prelude.{not}
+use Rattle.std.proofs.Common.{◌≡◌, ℕ, ℤ, pos, Bool, List, [], ◌∷◌, Option, Some, None, Result, Ok, Err, refl, sym, ap, subst, ◌∙◌}
 use Rattle.meaning.specs.declared.ending.FaultKind.{FaultKind}
 use Rattle.meaning.specs.declared.ending.FaultKind.TheVariants.{F3}
 use Rattle.meaning.specs.declared.ending.Value.{Value}
@@ -9,9 +10,10 @@ use Rattle.meaning.specs.declared.syntax.Expr.{Expr}
 use Rattle.meaning.specs.declared.syntax.Exprs.{Exprs}
 use Rattle.meaning.specs.Characters.{number_of}
 use Rattle.meaning.specs.Arrays.{Dimension}
-use Rattle.meaning.specs.Syntax.{ExprTree, number, name, signed, binary, paren, element, ExprsTree, no_exprs, exprs, expr_tree, exprs_tree}
+use Rattle.meaning.specs.declared.ending.Value.TheVariants as values
+use Rattle.meaning.specs.Syntax.{ExprTree, number, truth, name, signed, negated, binary, paren, element, call, ExprsTree, no_exprs, exprs, expr_tree, exprs_tree}
 use Rattle.meaning.specs.Maps.{Map, start, CellNumbers, value_at, map_by}
-use Rattle.meaning.specs.Values.{Arrays, Valued, value, subscripts, integer, as_integer, with_sign, combined, dimensions_in, in_first, others, and_then}
+use Rattle.meaning.specs.Values.{Arrays, Valued, value, subscripts, integer, as_integer, as_logical, logical, with_sign, operated, decided, unless_decided, dimensions_in, in_first, others, and_then}
 use Rattle.meaning.specs.Stores.{Cells, World, LeavesRead, known, Reads}
 use Rattle.meaning.proofs.Stores.{reads_nothing, reads_cell, reads_so, reads_then}
 use Rattle.values.specs.declared.place.Place.{Place}
@@ -28,17 +30,29 @@ module _ (arrays : Arrays) (m : Map) where
   unfolding value and_then
   signed_fault sign e k h = rw h refl
 
-  binary_is : (operator : Operator) (a b : ExprTree) (x y : Value) (r : Valued) → value arrays a m ≡ Ok x → value arrays b m ≡ Ok y → r ≡ integer (combined operator (as_integer x) (as_integer y)) → value arrays (binary operator a b) m ≡ r
+  negated_is : (e : ExprTree) (x : Value) (b : Bool) → value arrays e m ≡ Ok x → b ≡ not (as_logical x) → value arrays (negated e) m ≡ logical b
   unfolding value and_then
-  binary_is operator a b x y r h k is = rw h (rw k (sym is))
+  negated_is e x b h is = rw h (ap logical (sym is))
+
+  negated_fault : (e : ExprTree) (k : FaultKind) → value arrays e m ≡ Err k → value arrays (negated e) m ≡ Err k
+  unfolding value and_then
+  negated_fault e k h = rw h refl
+
+  binary_is : (operator : Operator) (a b : ExprTree) (x y : Value) (r : Valued) → value arrays a m ≡ Ok x → decided operator x ≡ None → value arrays b m ≡ Ok y → r ≡ operated operator x y → value arrays (binary operator a b) m ≡ r
+  unfolding value and_then
+  binary_is operator a b x y r h undecided k is = rw h (rw undecided (rw k (sym is)))
+
+  decided_is : (operator : Operator) (a b : ExprTree) (x : Value) (t : Bool) → value arrays a m ≡ Ok x → decided operator x ≡ Some t → value arrays (binary operator a b) m ≡ logical t
+  unfolding value and_then
+  decided_is operator a b x t h is = rw h (rw is refl)
 
   left_fault : (operator : Operator) (a b : ExprTree) (k : FaultKind) → value arrays a m ≡ Err k → value arrays (binary operator a b) m ≡ Err k
   unfolding value and_then
   left_fault operator a b k h = rw h refl
 
-  right_fault : (operator : Operator) (a b : ExprTree) (x : Value) (k : FaultKind) → value arrays a m ≡ Ok x → value arrays b m ≡ Err k → value arrays (binary operator a b) m ≡ Err k
+  right_fault : (operator : Operator) (a b : ExprTree) (x : Value) (k : FaultKind) → value arrays a m ≡ Ok x → decided operator x ≡ None → value arrays b m ≡ Err k → value arrays (binary operator a b) m ≡ Err k
   unfolding value and_then
-  right_fault operator a b x k h f = rw h (rw f refl)
+  right_fault operator a b x k h undecided f = rw h (rw undecided (rw f refl))
 
   element_is : (letters : List ℕ) (es : ExprsTree) (ss : List ℤ) (z : ℤ) (r : Valued) → subscripts arrays (dimensions_in (arrays letters)) es m ≡ Ok ss → m letters ss ≡ z → r ≡ integer z → value arrays (element letters es) m ≡ r
   unfolding value and_then
@@ -100,17 +114,37 @@ module _ (arrays : Arrays) (numbers : CellNumbers) where
   signed_fails u v sign e k reads =
       reads_so u v (Values e (Err k)) (Values (signed sign e) (Err k)) reads (λ m h. signed_fault arrays (map_by numbers m) sign e k h)
 
-  pub binary_reads : (u v w : World) (operator : Operator) (a b : ExprTree) (x y : Value) (r : Valued) → Reads u v (Values a (Ok x)) → Reads v w (Values b (Ok y)) → r ≡ integer (combined operator (as_integer x) (as_integer y)) → Reads u w (Values (binary operator a b) r)
-  binary_reads u v w operator a b x y r first second is =
-      reads_then u v w (Values a (Ok x)) (Values b (Ok y)) (Values (binary operator a b) r) first second (λ m h k. binary_is arrays (map_by numbers m) operator a b x y r h k is)
+  pub truth_reads : (w : World) (b : Bool) → Reads w w (Values (truth b) (logical b))
+  unfolding value
+  truth_reads w b = reads_nothing w (Values (truth b) (logical b)) (λ m. refl)
+
+  pub call_reads : (w : World) (letters : List ℕ) → Reads w w (Values (call letters) (Ok (values.Int (pos 0))))
+  unfolding value
+  call_reads w letters = reads_nothing w (Values (call letters) (Ok (values.Int (pos 0)))) (λ m. refl)
+
+  pub negated_reads : (u v : World) (e : ExprTree) (x : Value) (b : Bool) → Reads u v (Values e (Ok x)) → b ≡ not (as_logical x) → Reads u v (Values (negated e) (logical b))
+  negated_reads u v e x b reads is =
+      reads_so u v (Values e (Ok x)) (Values (negated e) (logical b)) reads (λ m h. negated_is arrays (map_by numbers m) e x b h is)
+
+  pub negated_fails : (u v : World) (e : ExprTree) (k : FaultKind) → Reads u v (Values e (Err k)) → Reads u v (Values (negated e) (Err k))
+  negated_fails u v e k reads =
+      reads_so u v (Values e (Err k)) (Values (negated e) (Err k)) reads (λ m h. negated_fault arrays (map_by numbers m) e k h)
+
+  pub binary_reads : (u v w : World) (operator : Operator) (a b : ExprTree) (x y : Value) (r : Valued) → Reads u v (Values a (Ok x)) → decided operator x ≡ None → Reads v w (Values b (Ok y)) → r ≡ operated operator x y → Reads u w (Values (binary operator a b) r)
+  binary_reads u v w operator a b x y r first undecided second is =
+      reads_then u v w (Values a (Ok x)) (Values b (Ok y)) (Values (binary operator a b) r) first second (λ m h k. binary_is arrays (map_by numbers m) operator a b x y r h undecided k is)
+
+  pub decided_reads : (u v : World) (operator : Operator) (a b : ExprTree) (x : Value) (t : Bool) → Reads u v (Values a (Ok x)) → decided operator x ≡ Some t → Reads u v (Values (binary operator a b) (logical t))
+  decided_reads u v operator a b x t reads is =
+      reads_so u v (Values a (Ok x)) (Values (binary operator a b) (logical t)) reads (λ m h. decided_is arrays (map_by numbers m) operator a b x t h is)
 
   pub left_fails : (u v : World) (operator : Operator) (a b : ExprTree) (k : FaultKind) → Reads u v (Values a (Err k)) → Reads u v (Values (binary operator a b) (Err k))
   left_fails u v operator a b k reads =
       reads_so u v (Values a (Err k)) (Values (binary operator a b) (Err k)) reads (λ m h. left_fault arrays (map_by numbers m) operator a b k h)
 
-  pub right_fails : (u v w : World) (operator : Operator) (a b : ExprTree) (x : Value) (k : FaultKind) → Reads u v (Values a (Ok x)) → Reads v w (Values b (Err k)) → Reads u w (Values (binary operator a b) (Err k))
-  right_fails u v w operator a b x k first second =
-      reads_then u v w (Values a (Ok x)) (Values b (Err k)) (Values (binary operator a b) (Err k)) first second (λ m h f. right_fault arrays (map_by numbers m) operator a b x k h f)
+  pub right_fails : (u v w : World) (operator : Operator) (a b : ExprTree) (x : Value) (k : FaultKind) → Reads u v (Values a (Ok x)) → decided operator x ≡ None → Reads v w (Values b (Err k)) → Reads u w (Values (binary operator a b) (Err k))
+  right_fails u v w operator a b x k first undecided second =
+      reads_then u v w (Values a (Ok x)) (Values b (Err k)) (Values (binary operator a b) (Err k)) first second (λ m h f. right_fault arrays (map_by numbers m) operator a b x k h undecided f)
 
   pub paren_reads : (u v : World) (e : ExprTree) (r : Valued) → Reads u v (Values e r) → Reads u v (Values (paren e) r)
   unfolding value

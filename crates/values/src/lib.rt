@@ -6,14 +6,14 @@ mod numbering;
 mod place;
 mod spare;
 
-ghost use Rattle.std.specs.Prelude.{◌≡◌, ◌<◌, ◌≤◌, ◌^◌, ℤ, pos, [], FitsSigned, SomeIff, IfOk};
+ghost use Rattle.std.specs.Prelude.{◌≡◌, ◌<◌, ◌≤◌, ◌^◌, ℤ, pos, [], int_div, FitsSigned, SomeIff, IfOk};
 ghost use Rattle.std.specs.Int.{w32};
-ghost use Rattle.meaning.specs.Syntax.{expr_tree, exprs_tree, exprs_trees};
-ghost use Rattle.meaning.specs.Values.{value as value_of, subscripts as subscripts_of, values_of, integer, as_integer as integer_in, with_sign, combined};
+ghost use Rattle.meaning.specs.Syntax.{expr_tree, exprs_tree, list_items_tree};
+ghost use Rattle.meaning.specs.Values.{value as value_of, subscripts as subscripts_of, values_of, integer, as_integer as integer_in, as_logical as logical_in, with_sign, operated as operated_on, decided as decided_by, divided as divided_by, raised as raised_to};
 ghost use Rattle.meaning.specs.Maps.{start, map_by, value_at as value_in};
 ghost use Rattle.meaning.specs.Stores.{IsLater, Reads};
 ghost use Rattle.meaning.specs.Characters.{number_of};
-ghost use Rattle.meaning.specs.Rules.{no_arrays};
+ghost use Rattle.meaning.specs.Rules.{no_arrays, values_in};
 ghost use Rattle.values.specs.Listed.{Listed};
 ghost use Rattle.values.specs.Places.{left, behind, limit, Found};
 
@@ -21,7 +21,7 @@ use array_store::Store;
 pub use dimension::Dimension;
 use meaning::ending::{FaultKind, Value};
 use meaning::number::number;
-use meaning::syntax::{Expr, Exprs, Operator, Sign};
+use meaning::syntax::{Expr, Exprs, ListItem, ListItems, Operator, Sign};
 pub use numbering::{Nameless, Numbering};
 pub use place::Place;
 use spare::Spare;
@@ -42,6 +42,7 @@ pub fn value<N: Numbering, S: Store>(
 {
     match expression {
         Expr::Number(digits) => constant(digits),
+        Expr::Truth(truth) => Ok(Value::Bool(*truth)),
         Expr::Name(name) => integer_of(Some(value_at(numbering.find(name), store))),
         Expr::Signed(sign, operand) => {
             let x = value(operand, numbering, store)?;
@@ -49,14 +50,25 @@ pub fn value<N: Numbering, S: Store>(
         }
         Expr::Binary(operator, left, right) => {
             let x = value(left, numbering, store)?;
-            let y = value(right, numbering, store)?;
-            operated(*operator, as_integer(x), as_integer(y))
+            match decided(*operator, x) {
+                Some(truth) => Ok(Value::Bool(truth)),
+                None => {
+                    let y = value(right, numbering, store)?;
+                    operated(*operator, x, y)
+                }
+            }
+        }
+        Expr::Not(operand) => {
+            let x = value(operand, numbering, store)?;
+            Ok(Value::Bool(!as_logical(x)))
         }
         Expr::Paren(operand) => value(operand, numbering, store),
         Expr::Element(name, subscripts) => {
             let place = place_of(subscripts, numbering, numbering.find(name), store)?;
             integer_of(Some(value_at(place, store)))
         }
+        // The rules leave no reference to a function.
+        Expr::Call(_) => Ok(Value::Int(0)),
     }
 }
 
@@ -138,14 +150,90 @@ fn signed(sign: Sign, x: i32) -> Result<Value, FaultKind>
     }
 }
 
-// An operator and its operands.
-fn operated(operator: Operator, x: i32, y: i32) -> Result<Value, FaultKind>
-    ensures { result ≡ integer (combined operator x y) }
+/// A value as the operand of a logical operator. The rules of the language leave only LOGICAL values there; an INTEGER would
+/// count as true unless it is 0.
+pub fn as_logical(value: Value) -> bool
+    ensures { result ≡ logical_in value }
+{
+    match value {
+        Value::Bool(truth) => truth,
+        Value::Int(x) => x != 0,
+    }
+}
+
+// The value where the left operand decides it.
+fn decided(operator: Operator, x: Value) -> Option<bool>
+    ensures { result ≡ decided_by operator x }
 {
     match operator {
-        Operator::Add => integer_of(x.checked_add(y)),
-        Operator::Subtract => integer_of(x.checked_sub(y)),
-        Operator::Multiply => integer_of(x.checked_mul(y)),
+        Operator::And => { if as_logical(x) { None } else { Some(false) } }
+        Operator::Or => { if as_logical(x) { Some(true) } else { None } }
+        _ => None,
+    }
+}
+
+// An operator and the values of its operands.
+fn operated(operator: Operator, x: Value, y: Value) -> Result<Value, FaultKind>
+    ensures { result ≡ operated_on operator x y }
+{
+    match operator {
+        Operator::Add => integer_of(as_integer(x).checked_add(as_integer(y))),
+        Operator::Subtract => integer_of(as_integer(x).checked_sub(as_integer(y))),
+        Operator::Multiply => integer_of(as_integer(x).checked_mul(as_integer(y))),
+        Operator::Divide => divided(as_integer(x), as_integer(y)),
+        Operator::Power => raised(as_integer(x), as_integer(y)),
+        Operator::Less => Ok(Value::Bool(as_integer(x) < as_integer(y))),
+        Operator::LessOrEqual => Ok(Value::Bool(as_integer(x) <= as_integer(y))),
+        Operator::Equal => Ok(Value::Bool(as_integer(x) == as_integer(y))),
+        Operator::NotEqual => Ok(Value::Bool(as_integer(x) != as_integer(y))),
+        Operator::GreaterOrEqual => Ok(Value::Bool(as_integer(x) >= as_integer(y))),
+        Operator::Greater => Ok(Value::Bool(as_integer(x) > as_integer(y))),
+        Operator::And => Ok(Value::Bool(as_logical(x) && as_logical(y))),
+        Operator::Or => Ok(Value::Bool(as_logical(x) || as_logical(y))),
+        Operator::Equivalent => Ok(Value::Bool(as_logical(x) == as_logical(y))),
+        Operator::NotEquivalent => Ok(Value::Bool(as_logical(x) != as_logical(y))),
+    }
+}
+
+// A quotient towards zero.
+fn divided(x: i32, y: i32) -> Result<Value, FaultKind>
+    ensures { result ≡ divided_by x y }
+{
+    if y == 0 {
+        return Err(FaultKind::F1);
+    }
+    integer_of(x.checked_div(y))
+}
+
+// A power; with a negative exponent the quotient of 1 by it.
+fn raised(x: i32, y: i32) -> Result<Value, FaultKind>
+    ensures { result ≡ raised_to x y }
+{
+    if x == 0 && y <= 0 {
+        return Err(FaultKind::F6);
+    }
+    let power = x.checked_pow(y.unsigned_abs());
+    if y < 0 {
+        return inverse(power);
+    }
+    integer_of(power)
+}
+
+// The quotient of 1 by a power z, which is there exactly where z is an INTEGER: it is 0 unless z is 1 or -1.
+fn inverse(power: Option<i32>) -> Result<Value, FaultKind>
+    ensures { (z : ℤ) → SomeIff power (FitsSigned w32 z) z → result ≡ integer (int_div (pos 1) z) }
+{
+    match power {
+        Some(power) => {
+            if power == 1 {
+                return Ok(Value::Int(1));
+            }
+            if power == -1 {
+                return Ok(Value::Int(-1));
+            }
+            Ok(Value::Int(0))
+        }
+        None => Ok(Value::Int(0)),
     }
 }
 
@@ -159,24 +247,28 @@ fn integer_of(exact: Option<i32>) -> Result<Value, FaultKind>
     }
 }
 
-/// The values of a list, first to last, or the leftmost fault. The `AllocError` comes where a growth was refused.
+/// The values of the expressions of a list, first to last, or the leftmost fault; an implied DO is passed over. The
+/// `AllocError` comes where a growth was refused.
 pub fn values<N: Numbering, S: Store>(
     alloc: Global,
-    list: &Exprs,
+    list: &ListItems,
     numbering: &N,
     store: &mut S,
 ) -> Result<Result<Vec<Value>, FaultKind>, AllocError>
     requires sound { N.is_sound numbering.now }
     requires sized { (S.world store.old).cells ≡ N.count numbering.now }
-    ensures reads { IfOk result (λ r. Reads (S.world store.old) (S.world store.new) (λ m. Listed r (values_of (N.arrays numbering.now) (exprs_trees list.now) (map_by (N.numbers numbering.now) m)))) }
+    ensures reads { IfOk result (λ r. Reads (S.world store.old) (S.world store.new) (λ m. Listed r (values_of (N.arrays numbering.now) (values_in (list_items_tree list.now)) (map_by (N.numbers numbering.now) m)))) }
     ensures later { IsLater (S.world store.old) (S.world store.new) }
 {
     let mut found = Vec::new(alloc);
     let mut rest = list;
-    while let Exprs::More(first, next) = rest {
-        match value(first, numbering, store) {
-            Ok(x) => found.push(x)?,
-            Err(kind) => return Ok(Err(kind)),
+    while let ListItems::More(item, next) = rest {
+        match item {
+            ListItem::Value(first) => match value(first, numbering, store) {
+                Ok(x) => found.push(x)?,
+                Err(kind) => return Ok(Err(kind)),
+            },
+            ListItem::Loop { .. } => {}
         }
         rest = next;
     }

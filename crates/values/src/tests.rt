@@ -7,12 +7,13 @@ ghost use Rattle.values.specs.Places.{limit};
 ghost use Rattle.values.specs.Sample.{sample_dimensions};
 
 use super::{
-    Dimension, Nameless, Numbering, Place, as_integer, constant_value, place_of, value, values,
+    Dimension, Nameless, Numbering, Place, as_integer, as_logical, constant_value, place_of, value,
+    values,
 };
 use array_store::{Store, Whole};
 use meaning::cell::Cell;
 use meaning::ending::{FaultKind, Value};
-use meaning::syntax::{Expr, Exprs, Operator, Sign};
+use meaning::syntax::{Expr, Exprs, Limits, ListItem, ListItems, Operator, Sign};
 use std::alloc::{AllocError, Global};
 use std::process::Abort;
 use std::test::*;
@@ -87,17 +88,47 @@ fn binary(
     Ok(Expr::Binary(operator, left, right))
 }
 
+fn negated(rt: &impl Abort, alloc: Global, stack: &mut Vec<Expr>) -> Result<Expr, AllocError> {
+    Ok(Expr::Not(Box::new(alloc, popped(rt, stack))?))
+}
+
 fn paren(rt: &impl Abort, alloc: Global, stack: &mut Vec<Expr>) -> Result<Expr, AllocError> {
     Ok(Expr::Paren(Box::new(alloc, popped(rt, stack))?))
 }
 
-/// A constant, a variable, or an element, whose name has a slash and the number of its subscripts behind it.
+/// The operator that a word is, if it is one.
+fn operator_in(word: &str) -> Option<Operator> {
+    match word {
+        "**" => Some(Operator::Power),
+        "*" => Some(Operator::Multiply),
+        "/" => Some(Operator::Divide),
+        "+" => Some(Operator::Add),
+        "-" => Some(Operator::Subtract),
+        ".LT." => Some(Operator::Less),
+        ".LE." => Some(Operator::LessOrEqual),
+        ".EQ." => Some(Operator::Equal),
+        ".NE." => Some(Operator::NotEqual),
+        ".GE." => Some(Operator::GreaterOrEqual),
+        ".GT." => Some(Operator::Greater),
+        ".AND." => Some(Operator::And),
+        ".OR." => Some(Operator::Or),
+        ".EQV." => Some(Operator::Equivalent),
+        ".NEQV." => Some(Operator::NotEquivalent),
+        _ => None,
+    }
+}
+
+/// A constant, a variable, a function reference without arguments, or an element, whose name has a slash and the number of
+/// its subscripts behind it.
 fn operand(
     rt: &impl Abort,
     alloc: Global,
     stack: &mut Vec<Expr>,
     word: &str,
 ) -> Result<Expr, AllocError> {
+    if let Some(name) = word.strip_suffix("()") {
+        return Ok(Expr::Call(Vec::from_slice(alloc, name.as_bytes())?));
+    }
     if let Some((name, count)) = word.split_once('/') {
         let count = count.parse::<usize>().expect(rt, "how many subscripts");
         let own = Vec::from_slice(alloc, name.as_bytes())?;
@@ -118,19 +149,23 @@ fn made(
     stack: &mut Vec<Expr>,
     word: &str,
 ) -> Result<Expr, AllocError> {
+    if let Some(operator) = operator_in(word) {
+        return binary(rt, alloc, stack, operator);
+    }
     match word {
         "neg" => signed(rt, alloc, stack, Sign::Minus),
         "pos" => signed(rt, alloc, stack, Sign::Plus),
         "()" => paren(rt, alloc, stack),
-        "+" => binary(rt, alloc, stack, Operator::Add),
-        "-" => binary(rt, alloc, stack, Operator::Subtract),
-        "*" => binary(rt, alloc, stack, Operator::Multiply),
+        ".NOT." => negated(rt, alloc, stack),
+        ".TRUE." => Ok(Expr::Truth(true)),
+        ".FALSE." => Ok(Expr::Truth(false)),
         _ => operand(rt, alloc, stack, word),
     }
 }
 
-/// Expressions in postfix notation, with blanks between the words: digits, names, operators, `neg` and `pos` for a sign, `()`
-/// for parentheses, and a name with its number of subscripts for an element: `2 0 A/2 1 +` is `A(2,0)+1`.
+/// Expressions in postfix notation, with blanks between the words: constants, names, operators, `neg` and `pos` for a sign,
+/// `()` for parentheses, a name with its number of subscripts for an element, and a name with `()` for a function reference:
+/// `2 0 A/2 1 +` is `A(2,0)+1`.
 fn stacked(rt: &impl Abort, alloc: Global, text: &str) -> Result<Vec<Expr>, AllocError> {
     let mut stack = Vec::new(alloc);
     for word in text.split_whitespace() {
@@ -148,11 +183,15 @@ fn expression(rt: &impl Abort, alloc: Global, text: &str) -> Result<Expr, AllocE
     Ok(last)
 }
 
-/// The list of the expressions of a text in postfix notation.
-fn list(rt: &impl Abort, alloc: Global, text: &str) -> Result<Exprs, AllocError> {
+/// A list of the expressions of a text in postfix notation.
+fn list(rt: &impl Abort, alloc: Global, text: &str) -> Result<ListItems, AllocError> {
     let mut stack = stacked(rt, alloc, text)?;
-    let count = stack.len();
-    popped_list(rt, alloc, &mut stack, count)
+    let mut list = ListItems::Empty;
+    for _ in 0..stack.len() {
+        let item = ListItem::Value(popped(rt, &mut stack));
+        list = ListItems::More(item, Box::new(alloc, list)?);
+    }
+    Ok(list)
 }
 
 /// A value or a fault.
@@ -230,7 +269,7 @@ fn expressions(rt: HostRuntime) {
 }
 
 /// Expressions without names, and the value or the fault.
-const CONSTANT_EXPRESSIONS: [(&str, Wanted); 19] = [
+const CONSTANT_EXPRESSIONS: [(&str, Wanted); 48] = [
     // Digits.
     ("0", Ok(0)),
     ("000", Ok(0)),
@@ -252,7 +291,96 @@ const CONSTANT_EXPRESSIONS: [(&str, Wanted); 19] = [
     ("65536 32768 *", Err(FaultKind::F2)),
     ("65536 65536 *", Err(FaultKind::F2)),
     ("65536 neg 32769 *", Err(FaultKind::F2)),
+    // Quotients, towards zero.
+    ("7 2 /", Ok(3)),
+    ("7 2 / neg", Ok(-3)),
+    ("7 neg () 2 /", Ok(-3)),
+    ("7 2 neg () /", Ok(-3)),
+    ("7 neg () 2 neg () /", Ok(3)),
+    ("1 0 /", Err(FaultKind::F1)),
+    ("0 0 /", Err(FaultKind::F1)),
+    ("2147483647 neg 1 - () 2 /", Ok(-1_073_741_824)),
+    ("2147483647 neg 1 - () 1 neg () /", Err(FaultKind::F2)),
+    // Powers.
+    ("2 3 2 ** **", Ok(512)),
+    ("2 30 **", Ok(1_073_741_824)),
+    ("2 31 **", Err(FaultKind::F2)),
+    ("2 neg () 31 **", Ok(-2_147_483_648)),
+    ("2 neg () 32 **", Err(FaultKind::F2)),
+    ("10 2147483647 **", Err(FaultKind::F2)),
+    ("1 neg () 2147483647 **", Ok(-1)),
+    ("0 5 **", Ok(0)),
+    ("5 0 **", Ok(1)),
+    ("0 0 **", Err(FaultKind::F6)),
+    ("0 1 neg () **", Err(FaultKind::F6)),
+    // 1 by a power, towards zero.
+    ("1 5 neg () **", Ok(1)),
+    ("1 neg () 3 neg () **", Ok(-1)),
+    ("1 neg () 4 neg () **", Ok(1)),
+    ("2 3 neg () **", Ok(0)),
+    ("2 neg () 1 neg () **", Ok(0)),
+    ("10 2147483647 neg () **", Ok(0)),
+    ("1 neg () 2147483647 neg 1 - () **", Ok(1)),
+    // The left fault of two, and a function reference, which counts as 0.
+    ("1 0 / 0 0 ** +", Err(FaultKind::F1)),
+    ("F() 7 +", Ok(7)),
 ];
+
+/// Relations and logical expressions, and the value or the leftmost fault.
+const LOGICAL_EXPRESSIONS: [(&str, Result<bool, FaultKind>); 37] = [
+    (".TRUE.", Ok(true)),
+    (".FALSE.", Ok(false)),
+    (".TRUE. ()", Ok(true)),
+    (".TRUE. .NOT.", Ok(false)),
+    (".FALSE. .NOT.", Ok(true)),
+    // Relations, below, equal and above.
+    ("1 2 .LT.", Ok(true)),
+    ("2 2 .LT.", Ok(false)),
+    ("1 2 .LE.", Ok(true)),
+    ("2 2 .LE.", Ok(true)),
+    ("3 2 .LE.", Ok(false)),
+    ("2 2 .EQ.", Ok(true)),
+    ("1 2 .EQ.", Ok(false)),
+    ("2 2 .NE.", Ok(false)),
+    ("1 2 .NE.", Ok(true)),
+    ("2 2 .GE.", Ok(true)),
+    ("1 2 .GE.", Ok(false)),
+    ("3 2 .GT.", Ok(true)),
+    ("2 2 .GT.", Ok(false)),
+    ("2147483647 neg 1 - () 2147483647 .LT.", Ok(true)),
+    // Both operands, and one that decides: the other isn't evaluated then.
+    (".TRUE. .TRUE. .AND.", Ok(true)),
+    (".TRUE. .FALSE. .AND.", Ok(false)),
+    (".FALSE. .TRUE. .OR.", Ok(true)),
+    (".FALSE. .FALSE. .OR.", Ok(false)),
+    (".FALSE. 1 0 / 1 .EQ. .AND.", Ok(false)),
+    (".TRUE. 1 0 / 1 .EQ. .OR.", Ok(true)),
+    (".TRUE. 1 0 / 1 .EQ. .AND.", Err(FaultKind::F1)),
+    (".FALSE. 1 0 / 1 .EQ. .OR.", Err(FaultKind::F1)),
+    ("1 0 / 1 .EQ. .FALSE. .AND.", Err(FaultKind::F1)),
+    ("1 0 / 1 .EQ. .NOT.", Err(FaultKind::F1)),
+    (".TRUE. .TRUE. .EQV.", Ok(true)),
+    (".TRUE. .FALSE. .EQV.", Ok(false)),
+    (".FALSE. .FALSE. .EQV.", Ok(true)),
+    (".TRUE. .FALSE. .NEQV.", Ok(true)),
+    (".FALSE. .FALSE. .NEQV.", Ok(false)),
+    (".FALSE. 1 0 / 1 .EQ. .EQV.", Err(FaultKind::F1)),
+    // Operands of the other type.
+    ("5 .NOT.", Ok(false)),
+    ("0 .NOT.", Ok(true)),
+];
+
+#[test]
+fn logical_expressions(rt: HostRuntime) {
+    for (text, want) in LOGICAL_EXPRESSIONS {
+        let expression = expression(&rt, rt.alloc(), text).expect(&rt, "memory");
+        assert_eq!(rt;
+            constant_value(&expression),
+            want.map(Value::Bool),
+            "{text}"
+        );
+    }
+}
 
 /// Where names have no cells, a name and an element are 0.
 const NAMELESS: [(&str, Wanted); 3] = [
@@ -282,15 +410,14 @@ fn constant_expressions(rt: HostRuntime) {
 }
 
 #[test]
-fn no_names(rt: HostRuntime) -> Result<(), Fail> {
+fn no_names(rt: HostRuntime) {
     for (text, want) in NAMELESS {
-        evaluates_nameless(&rt, rt.alloc(), text, want)?;
+        evaluates_nameless(&rt, rt.alloc(), text, want).expect(&rt, "memory");
     }
-    let mut store = Whole::new(rt.alloc(), &[5])?;
-    let name = expression(&rt, rt.alloc(), "I")?;
+    let mut store = Whole::new(rt.alloc(), &[5]).expect(&rt, "memory");
+    let name = expression(&rt, rt.alloc(), "I").expect(&rt, "memory");
     assert_eq!(rt; value(&name, &Nameless, &mut store), Ok(Value::Int(0)));
     assert_eq!(rt; Nameless.find(b"I").cell(), None);
-    Ok(())
 }
 
 #[test]
@@ -298,6 +425,9 @@ fn logical_operands(rt: HostRuntime) {
     assert_eq!(rt; as_integer(Value::Bool(true)), 1);
     assert_eq!(rt; as_integer(Value::Bool(false)), 0);
     assert_eq!(rt; as_integer(Value::Int(-5)), -5);
+    assert!(rt; as_logical(Value::Bool(true)));
+    assert!(rt; !as_logical(Value::Bool(false)));
+    assert!(rt; as_logical(Value::Int(-5)));
 }
 
 /// Lists, and the values or the fault of the first that has one.
@@ -326,11 +456,11 @@ fn lists_values(
     let list = list(rt, alloc, text)?;
     let mut store = Whole::new(alloc, &CELLS)?;
     let found = values(alloc, &list, &Fake, &mut store)?;
-    assert_eq!(rt; found.as_ref().err().copied(), want.err(), "{text}");
-    assert!(rt;
-        found.as_ref().ok().map(|all| all.as_slice()) == want.ok(),
-        "{text}"
-    );
+    let found = match &found {
+        Ok(all) => Ok(all.as_slice()),
+        Err(kind) => Err(*kind),
+    };
+    assert!(rt; found == want, "{text}");
     assert!(rt;
         store.cells() == CELLS.as_slice(),
         "cells that stay: {text}"
@@ -343,6 +473,28 @@ fn lists(rt: HostRuntime) {
     for (text, want) in LISTS {
         lists_values(&rt, rt.alloc(), text, want).expect(&rt, "memory");
     }
+}
+
+/// `(1,K=2,3),4`
+fn list_with_loop(rt: &impl Abort, alloc: Global) -> Result<ListItems, AllocError> {
+    let inner = ListItem::Loop {
+        items: Box::new(alloc, list(rt, alloc, "1")?)?,
+        variable: Vec::from_slice(alloc, b"K")?,
+        limits: Limits {
+            first: expression(rt, alloc, "2")?,
+            last: expression(rt, alloc, "3")?,
+            step: None,
+        },
+    };
+    Ok(ListItems::More(inner, Box::new(alloc, list(rt, alloc, "4")?)?))
+}
+
+#[test]
+fn an_implied_do_is_passed_over(rt: HostRuntime) {
+    let list = list_with_loop(&rt, rt.alloc()).expect(&rt, "memory");
+    let mut store = Whole::new(rt.alloc(), &CELLS).expect(&rt, "memory");
+    let found = values(rt.alloc(), &list, &Fake, &mut store).expect(&rt, "memory");
+    assert!(rt; found.is_ok_and(|all| all.as_slice() == [Value::Int(4)].as_slice()));
 }
 
 /// The cell behind two subscripts that are within their bounds, where there is one.
@@ -476,7 +628,9 @@ fn assigns(
     let mut store = Whole::new(alloc, &CELLS)?;
     for (name, subscripts, text, want) in rows {
         assert!(rt; store.cells().len() == 8, "as many cells as before");
-        let subscripts = list(rt, alloc, subscripts)?;
+        let mut stack = stacked(rt, alloc, subscripts)?;
+        let count = stack.len();
+        let subscripts = popped_list(rt, alloc, &mut stack, count)?;
         let expression = expression(rt, alloc, text)?;
         let found = assign(&Fake, &mut store, name, &subscripts, &expression)?;
         assert_eq!(rt; found, *want, "{text}");
@@ -486,9 +640,8 @@ fn assigns(
 }
 
 #[test]
-fn assignments(rt: HostRuntime) -> Result<(), Fail> {
+fn assignments(rt: HostRuntime) {
     let behind = [7, 20, 3, 20, 30, 40, 10, 60];
-    assigns(&rt, rt.alloc(), &ASSIGNMENTS, &behind)?;
-    assigns(&rt, rt.alloc(), &FAULTY_ASSIGNMENTS, &CELLS)?;
-    Ok(())
+    assigns(&rt, rt.alloc(), &ASSIGNMENTS, &behind).expect(&rt, "memory");
+    assigns(&rt, rt.alloc(), &FAULTY_ASSIGNMENTS, &CELLS).expect(&rt, "memory");
 }

@@ -2,7 +2,7 @@
 
 use super::building::checked;
 use super::{arrays, loops};
-use format_edit::Descriptor;
+use format_edit::{Descriptor, Part};
 use std::alloc::Global;
 use std::process::Abort;
 
@@ -18,29 +18,24 @@ const ACCEPTED: [&str; 8] = [
     "@9 #30 END",
 ];
 
+/// A move, or integers in so many positions, so many times.
+#[derive(Clone, Copy, PartialEq, Eq)]
+enum Wanted {
+    Skip(u16),
+    Integers(u16, u16),
+}
+
 /// `2X,I5`
-const FIVE: [Descriptor; 2] = [
-    Descriptor::Skip(2),
-    Descriptor::Field {
-        repeat: 1,
-        width: 5,
-    },
-];
+const FIVE: [Wanted; 2] = [Wanted::Skip(2), Wanted::Integers(1, 5)];
 
 /// `3I7`
-const SEVEN: [Descriptor; 1] = [Descriptor::Field {
-    repeat: 3,
-    width: 7,
-}];
+const SEVEN: [Wanted; 1] = [Wanted::Integers(3, 7)];
 
 /// `I5`
-const OF_LOOPS: [Descriptor; 1] = [Descriptor::Field {
-    repeat: 1,
-    width: 5,
-}];
+const OF_LOOPS: [Wanted; 1] = [Wanted::Integers(1, 5)];
 
-/// Programs, labels, and the descriptors of the formats that have them.
-const FORMATS: [(&[&str], &[u8], Option<&[Descriptor]>); 14] = [
+/// Programs, labels, and the parts of the formats that have them.
+const FORMATS: [(&[&str], &[u8], Option<&[Wanted]>); 14] = [
     (&ACCEPTED, b"10", Some(&FIVE)),
     (&ACCEPTED, b"010", Some(&FIVE)),
     (&ACCEPTED, b"00010", Some(&FIVE)),
@@ -57,18 +52,36 @@ const FORMATS: [(&[&str], &[u8], Option<&[Descriptor]>); 14] = [
     (&loops::ACCEPTED, b"55", None),
 ];
 
+/// Whether a part is the one that is wanted.
+fn is_wanted(part: &Part, want: Wanted) -> bool {
+    match part {
+        Part::Single(count, Descriptor::Skip(width)) => *count == 1 && want == Wanted::Skip(*width),
+        Part::Single(count, Descriptor::Integer { width, least }) => {
+            *least == 1 && want == Wanted::Integers(*count, *width)
+        }
+        _ => false,
+    }
+}
+
 /// Compares the format that a label has.
 fn has_format(
     rt: &impl Abort,
     alloc: Global,
     texts: &[&str],
     digits: &[u8],
-    want: Option<&[Descriptor]>,
+    want: Option<&[Wanted]>,
 ) {
     let program = checked(rt, alloc, texts);
-    match program.format(digits) {
-        Some(format) => { assert_eq!(rt; Some(format.descriptors.as_slice()), want, "{digits:?}") }
-        None => assert!(rt; want.is_none(), "{digits:?}"),
+    assert_eq!(rt;
+        program.format(digits).is_some(),
+        want.is_some(),
+        "{digits:?}"
+    );
+    if let (Some(format), Some(parts)) = (program.format(digits), want) {
+        assert_eq!(rt; format.parts.len(), parts.len(), "{digits:?}");
+        for (part, want) in format.parts.iter().zip(parts) {
+            assert!(rt; is_wanted(part, *want), "{digits:?}");
+        }
     }
 }
 

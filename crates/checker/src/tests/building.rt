@@ -1,15 +1,15 @@
 // Program units that texts give in postfix notation.
 
 ghost use Rattle.std.specs.Prelude.{◌≤◌, length, map, option_map};
-ghost use Rattle.meaning.specs.Spelling.{spell, spell_behind, spell_bounds, spell_declarator, spell_expr, spell_exprs, spell_limits, spell_list, spell_lower, spell_more, spell_more_bounds, spell_more_declarators, spell_step, spell_unit};
-ghost use Rattle.meaning.specs.Syntax.{bounds_tree, declarator_tree, expr_tree, exprs_tree, exprs_trees, limits_tree, shape_tree, unit_tree};
+ghost use Rattle.meaning.specs.Spelling.{spell, spell_behind, spell_bounds, spell_declarator, spell_expr, spell_exprs, spell_items_behind, spell_limits, spell_lower, spell_more_bounds, spell_more_declarators, spell_source, spell_step, spell_unit};
+ghost use Rattle.meaning.specs.Syntax.{bounds_tree, declarator_tree, expr_tree, exprs_tree, format_tree, limits_tree, list_items_tree, shape_tree, unit_tree};
 ghost use Rattle.checker.specs.Checked.{IsNumbered};
 
 use crate::{Program, check};
 use meaning::refusal::{Refusal, Rule};
 use meaning::syntax::{
-    Bounds, Declarator, Expr, Exprs, Form, Item, Limits, Loop, Member, Operator, Shape, Sign, Tree,
-    Unit,
+    Bounds, Control, ControlOrder, Declarator, Expr, Exprs, Form, FormatSource, Item, Limits,
+    ListItem, ListItems, Loop, Member, Operator, Shape, Sign, Tree, Unit,
 };
 use std::alloc::{AllocError, Global};
 use std::mem::replace;
@@ -22,16 +22,19 @@ fn expression_length(expression: &Expr) -> usize
 {
     match expression {
         Expr::Number(digits) => digits.len(),
+        Expr::Truth(_) => 7,
         Expr::Name(letters) => letters.len(),
         Expr::Signed(_, operand) => expression_length(operand).saturating_add(1),
+        Expr::Not(operand) => expression_length(operand).saturating_add(5),
         Expr::Binary(_, left, right) => expression_length(left)
-            .saturating_add(1)
+            .saturating_add(6)
             .saturating_add(expression_length(right)),
         Expr::Paren(operand) => expression_length(operand).saturating_add(2),
         Expr::Element(letters, subscripts) => letters
             .len()
             .saturating_add(2)
             .saturating_add(subscripts_length(subscripts)),
+        Expr::Call(letters) => letters.len().saturating_add(2),
     }
 }
 
@@ -59,15 +62,27 @@ fn behind_length(list: &Exprs) -> usize
     }
 }
 
-// Each expression with a comma.
-fn list_length(list: &Exprs) -> usize
-    ensures { result ≤ 1320 → length (spell_more (exprs_trees list.now)) ≤ result }
+// Each expression with a comma; no test has an implied DO.
+fn items_length(items: &ListItems) -> usize
+    ensures { result ≤ 1320 → length (spell_items_behind (list_items_tree items.now)) ≤ result }
 {
-    match list {
-        Exprs::Empty => 0,
-        Exprs::More(first, rest) => expression_length(first)
-            .saturating_add(1)
-            .saturating_add(list_length(rest)),
+    match items {
+        ListItems::Empty => 0,
+        ListItems::More(item, rest) => match item {
+            ListItem::Value(value) => expression_length(value)
+                .saturating_add(1)
+                .saturating_add(items_length(rest)),
+            ListItem::Loop { .. } => usize::MAX,
+        },
+    }
+}
+
+fn source_length(source: &FormatSource) -> usize
+    ensures { result ≤ 1320 → length (spell_source (format_tree source.now)) ≤ result }
+{
+    match source {
+        FormatSource::Label(label) => label.len(),
+        FormatSource::Constant(text) => text.len().saturating_add(2),
     }
 }
 
@@ -149,6 +164,7 @@ fn declarators_length(declarators: &[Declarator]) -> usize
     }
 }
 
+// No test has another statement.
 fn shape_length(shape: &Shape) -> usize
     ensures { result ≤ 1320 → length (spell (shape_tree shape.now)) ≤ result }
 {
@@ -162,10 +178,10 @@ fn shape_length(shape: &Shape) -> usize
             .saturating_add(3)
             .saturating_add(subscripts_length(subscripts))
             .saturating_add(expression_length(value)),
-        Shape::Write { unit, label, list } => unit_length(unit)
-            .saturating_add(8)
-            .saturating_add(label.len())
-            .saturating_add(list_length(list)),
+        Shape::Write { control, list } => unit_length(&control.unit)
+            .saturating_add(17)
+            .saturating_add(source_length(&control.format))
+            .saturating_add(items_length(list)),
         Shape::Format(text) => text.len().saturating_add(8),
         Shape::Do {
             label,
@@ -180,6 +196,7 @@ fn shape_length(shape: &Shape) -> usize
         Shape::Continue => 8,
         Shape::Integer(declarators) => declarators_length(declarators).saturating_add(7),
         Shape::End => 3,
+        _ => usize::MAX,
     }
 }
 
@@ -353,12 +370,18 @@ fn add_write(
     label: &str,
 ) -> Result<(), AllocError> {
     let label = Vec::from_slice(alloc, label.as_bytes())?;
-    let list = popped_list(rt, alloc, &mut draft.stack, 1)?;
+    let item = ListItem::Value(popped(rt, &mut draft.stack));
+    let list = ListItems::More(item, Box::new(alloc, ListItems::Empty)?);
     let unit = match draft.stack.pop() {
         None => Unit::Star,
         Some(number) => Unit::Number(number),
     };
-    add(rt, draft, Shape::Write { unit, label, list })
+    let control = Control {
+        order: ControlOrder::Plain,
+        unit,
+        format: FormatSource::Label(label),
+    };
+    add(rt, draft, Shape::Write { control, list })
 }
 
 /// The first and the last value, and the step, where there is one.

@@ -14,7 +14,7 @@ use Rattle.driver.specs.Cells.{arrays_in, map_in, IsKnown}
 use Rattle.driver.specs.Limited.{span_values}
 use Rattle.driver.specs.Walk.{Halts, Runs, SoFar, Steps, member_does}
 use Rattle.driver.proofs.Composed.{so_far_none, so_far_goes, step_fault, step_halts, over_at_end, fault_along, steps_on}
-use Rattle.driver.proofs.Executed.{runs_quietly}
+use Rattle.driver.proofs.Executed.{passed_over, runs_quietly}
 use Rattle.driver.proofs.Looped.{known_at, head_known, range_known, loop_does, from_place, behind_place, at_place, at_end_of, trips_left, behind_range, at_trip, at_last_trip, do_unexecuted, do_fails, do_runs, add_fails, steps_same, steps_unless_do}
 use denote.Param.Weighed.{at_most}
 use Rattle.meaning.proofs.syntax.Member.TheLaws.{the_size}
@@ -133,6 +133,13 @@ execute_member-returns-in-Loop-clause-steps g t c =
     let y = c.execute_loop in
     let steps = steps_same (λ go. looped (arrays_in c.args.program.now) (exec program) (shape_tree (out-Loop c.in-Loop.repeated).head.form.shape) (out-Loop c.in-Loop.repeated).head.line (members_tree (out-Loop c.in-Loop.repeated).range.items) m c.args.turns.now go) (λ go. member_does program (exec program) (Loop c.in-Loop.repeated) m c.args.turns.now go) c.args.turns.now (map_in c.args.program.now y.new.cells) y.new.turns y.result (told c.args.sink.now) (told y.new.sink) (λ go. loop_does program (exec program) c.in-Loop.repeated m c.args.turns.now go) y.ensures.steps in
     subst (λ x. Steps (λ go. member_does program (exec program) x m c.args.turns.now go) c.args.turns.now (map_in c.args.program.now y.new.cells) y.new.turns y.result (told c.args.sink.now) (told y.new.sink)) (sym c.in-Loop.is) steps
+
+pub execute_member-returns-in-Block-clause-steps : goal.execute_member-returns-in-Block-clause-steps
+execute_member-returns-in-Block-clause-steps g t c =
+    let told = g.S.Sink.told c.args.sink.now in
+    let program = flatten (tree_of c.args.program.now) in
+    let m = map_in c.args.program.now c.args.cells.now in
+    subst (λ x. Steps (λ go. member_does program (exec program) x m c.args.turns.now go) c.args.turns.now m c.args.turns.now (Ok None) told told) (sym c.in-Block.is) (passed_over m c.args.turns.now told)
 
 -- ---- trips
 

@@ -3,7 +3,7 @@ use Rattle.std.specs.Prelude.{◌&&◌}
 use Rattle.std.proofs.lemmas.List.{drop_all}
 use Rattle.meaning.specs.Trees.{none, member_before, members_tree}
 use Rattle.driver.specs.Quiet.{is_quiet}
-use Rattle.driver.proofs.Silent.{quiet_left, quiet_range_is}
+use Rattle.driver.proofs.Silent.{quiet_left, quiet_range_is, quiet_block}
 use Rattle.driver.proofs.shapes.+quiet.Goals as goal
 
 pub is_quiet_list-loop-member-init : goal.is_quiet_list-loop-member-init
@@ -30,3 +30,6 @@ is_quiet_list-returns t c =
 pub is_quiet_member-returns-in-Loop : goal.is_quiet_member-returns-in-Loop
 is_quiet_member-returns-in-Loop t c =
     c.is_quiet_list.ensures ∙ ap (λ ms. is_quiet (members_tree ms)) c.deref.ensures.value ∙ sym (quiet_range_is c.in-Loop.repeated) ∙ ap (λ x. is_quiet (member_before x none)) (sym c.in-Loop.is)
+
+pub is_quiet_member-returns-in-Block : goal.is_quiet_member-returns-in-Block
+is_quiet_member-returns-in-Block t c = quiet_block c.args.member.now _ c.in-Block.is

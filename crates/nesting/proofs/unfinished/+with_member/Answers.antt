@@ -19,3 +19,6 @@ returns-then-is_label t c =
 
 pub returns-else-is_label : goal.returns-else-is_label
 returns-else-is_label t c = rw (c.in_ok-push-in-Range.ensures.items, c.in-Range.is, tree_push, sym c.if-is_label.ensures) refl
+
+pub returns-in_ok-push-in-Branch : goal.returns-in_ok-push-in-Branch
+returns-in_ok-push-in-Branch t c = rw (c.in_ok-push-in-Branch.ensures.items, c.in-Branch.is, tree_push) refl

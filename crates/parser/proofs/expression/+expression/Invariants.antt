@@ -8,7 +8,10 @@ abbrev pub decreases-read_expression : goal.decreases-read_expression
 decreases-read_expression l = 36893488147419103232 * l.depth
 
 abbrev pub decreases-read_front : goal.decreases-read_front
-decreases-read_front l = 36893488147419103232 * l.depth + 18446744073709551621
+decreases-read_front l = 36893488147419103232 * l.depth + 18446744073709551622
+
+abbrev pub decreases-read_negation : goal.decreases-read_negation
+decreases-read_negation l = 36893488147419103232 * l.depth + 18446744073709551621
 
 abbrev pub decreases-read_primary : goal.decreases-read_primary
 decreases-read_primary l = 36893488147419103232 * l.depth + 18446744073709551620

@@ -1,0 +1,148 @@
+//! WRITE and PRINT statements.
+
+ghost use Rattle.meaning.specs.Syntax.{unit_tree, format_tree, control_tree, shape_tree};
+ghost use Rattle.meaning.specs.Reading.{unit_at, source_at, format_first_at, unit_first_at, behind_unit_at, control_at, writing_of, printing_of};
+ghost use Rattle.parser.specs.Reports.{Agrees};
+
+use crate::control::read_quoted;
+use crate::expression::read_whole_expression;
+use crate::list::{read_list, read_list_behind_comma};
+use crate::read_error::ReadError;
+use crate::token::{behind, expect, read_label};
+use meaning::syntax::{Control, ControlOrder, FormatSource, Shape, Unit};
+use std::alloc::Global;
+
+/// The unit of a WRITE statement (ANSI X3.9-1978, 12.9.1): an asterisk or an expression.
+#[tactic(auto, unfolding(meaning::specs::Reading::unit_at, meaning::specs::Reading::either))]
+fn read_unit(alloc: Global, text: &[u8]) -> Result<(Unit, &[u8]), ReadError>
+    ensures { Agrees (λ x. (unit_tree x.0, x.1.now)) result (unit_at text.now) }
+{
+    match behind(b"*", text) {
+        Some(rest) => Ok((Unit::Star, rest)),
+        None => {
+            let (number, rest) = read_whole_expression(alloc, text)?;
+            Ok((Unit::Number(number), rest))
+        }
+    }
+}
+
+/// A format: a label, or a character constant (ANSI X3.9-1978, 12.4).
+#[tactic(auto, unfolding(meaning::specs::Reading::source_at, meaning::specs::Reading::either))]
+fn read_source(alloc: Global, text: &[u8]) -> Result<(FormatSource, &[u8]), ReadError>
+    ensures { Agrees (λ x. (format_tree x.0, x.1.now)) result (source_at text.now) }
+{
+    match behind(b"'", text) {
+        None => {
+            let (label, rest) = read_label(alloc, text)?;
+            Ok((FormatSource::Label(label), rest))
+        }
+        Some(rest) => {
+            let (constant, rest) = read_quoted(Vec::new(alloc), rest.len() + 1, rest)?;
+            Ok((FormatSource::Constant(constant), rest))
+        }
+    }
+}
+
+/// A format and a unit behind `FMT=`.
+#[tactic(auto, unfolding(meaning::specs::Reading::format_first_at))]
+fn read_format_first(alloc: Global, text: &[u8]) -> Result<(Control, &[u8]), ReadError>
+    ensures { Agrees (λ x. (control_tree x.0, x.1.now)) result (format_first_at text.now) }
+{
+    let (format, rest) = read_source(alloc, text)?;
+    let rest = expect(b",UNIT=", rest)?;
+    let (unit, rest) = read_unit(alloc, rest)?;
+    Ok((
+        Control {
+            order: ControlOrder::FormatFirst,
+            unit,
+            format,
+        },
+        rest,
+    ))
+}
+
+/// A unit and a format behind `UNIT=`.
+#[tactic(auto, unfolding(meaning::specs::Reading::unit_first_at))]
+fn read_unit_first(alloc: Global, text: &[u8]) -> Result<(Control, &[u8]), ReadError>
+    ensures { Agrees (λ x. (control_tree x.0, x.1.now)) result (unit_first_at text.now) }
+{
+    let (unit, rest) = read_unit(alloc, text)?;
+    let rest = expect(b",FMT=", rest)?;
+    let (format, rest) = read_source(alloc, rest)?;
+    Ok((
+        Control {
+            order: ControlOrder::UnitFirst,
+            unit,
+            format,
+        },
+        rest,
+    ))
+}
+
+/// A format behind a unit that has no keyword.
+#[tactic(auto, unfolding(meaning::specs::Reading::behind_unit_at, meaning::specs::Reading::either))]
+fn read_behind_unit(alloc: Global, unit: Unit, text: &[u8]) -> Result<(Control, &[u8]), ReadError>
+    ensures { Agrees (λ x. (control_tree x.0, x.1.now)) result (behind_unit_at (unit_tree unit) text.now) }
+{
+    if let Some(rest) = behind(b",FMT=", text) {
+        let (format, rest) = read_source(alloc, rest)?;
+        let order = ControlOrder::FormatNamed;
+        return Ok((
+            Control {
+                order,
+                unit,
+                format,
+            },
+            rest,
+        ));
+    }
+    let rest = expect(b",", text)?;
+    let (format, rest) = read_source(alloc, rest)?;
+    let order = ControlOrder::Plain;
+    Ok((
+        Control {
+            order,
+            unit,
+            format,
+        },
+        rest,
+    ))
+}
+
+/// What the parentheses of a WRITE statement hold.
+#[tactic(auto, unfolding(meaning::specs::Reading::control_at, meaning::specs::Reading::either))]
+fn read_control(alloc: Global, text: &[u8]) -> Result<(Control, &[u8]), ReadError>
+    ensures { Agrees (λ x. (control_tree x.0, x.1.now)) result (control_at text.now) }
+{
+    if let Some(rest) = behind(b"FMT=", text) {
+        return read_format_first(alloc, rest);
+    }
+    if let Some(rest) = behind(b"UNIT=", text) {
+        return read_unit_first(alloc, rest);
+    }
+    let (unit, rest) = read_unit(alloc, text)?;
+    read_behind_unit(alloc, unit, rest)
+}
+
+/// A WRITE statement (ANSI X3.9-1978, 12.8).
+#[tactic(auto, unfolding(meaning::specs::Reading::writing_of))]
+pub fn read_write(alloc: Global, text: &[u8]) -> Result<Shape, ReadError>
+    ensures { Agrees (λ x. shape_tree x) result (writing_of text.now) }
+{
+    let rest = expect(b"WRITE(", text)?;
+    let (control, rest) = read_control(alloc, rest)?;
+    let rest = expect(b")", rest)?;
+    let list = read_list(alloc, rest)?;
+    Ok(Shape::Write { control, list })
+}
+
+/// A PRINT statement (ANSI X3.9-1978, 12.8).
+#[tactic(auto, unfolding(meaning::specs::Reading::printing_of))]
+pub fn read_print(alloc: Global, text: &[u8]) -> Result<Shape, ReadError>
+    ensures { Agrees (λ x. shape_tree x) result (printing_of text.now) }
+{
+    let rest = expect(b"PRINT", text)?;
+    let (format, rest) = read_source(alloc, rest)?;
+    let list = read_list_behind_comma(alloc, rest)?;
+    Ok(Shape::Print { format, list })
+}
