@@ -290,6 +290,15 @@ fn refused_writes(rt: HostRuntime) {
     }
 }
 
+#[test]
+fn a_record_broken_off(rt: HostRuntime) {
+    let source = b"      WRITE (6,10)\n   10 FORMAT ('ABCDEFGHIJ')\n      END\n";
+    let mut sink = Out::new(make_meter(rt.alloc(), usize::MAX, 3, true));
+    let ending = run(rt.alloc(), source.as_slice(), MANY, &mut sink);
+    assert_eq!(rt; ending, Ending::WriteRefused);
+    assert_eq!(rt; sink.into_inner().bytes.as_slice(), b"ABC".as_slice());
+}
+
 // The status of the program, what it writes and its line on standard error.
 fn whole(
     rt: &HostRuntime,
