@@ -42,6 +42,14 @@ fn operator_name(operator: Operator) -> &'static [u8] {
     }
 }
 
+/// How a sign is written.
+fn sign_byte(sign: Sign) -> u8 {
+    match sign {
+        Sign::Plus => b'+',
+        Sign::Minus => b'-',
+    }
+}
+
 /// An expression with parentheses round each sign and each operator with its operands, with brackets in place of the
 /// parentheses that were written, and with braces round subscripts.
 #[cycle(expression)]
@@ -52,10 +60,7 @@ fn write_expression(out: &mut Vec<u8>, expression: &Expr) -> Result<(), AllocErr
         Expr::Name(name) => out.extend_from_slice(name)?,
         Expr::Signed(sign, operand) => {
             out.push(b'(')?;
-            out.push(match sign {
-                Sign::Plus => b'+',
-                Sign::Minus => b'-',
-            })?;
+            out.push(sign_byte(*sign))?;
             write_expression(out, operand)?;
             out.push(b')')?;
         }
@@ -317,10 +322,7 @@ fn write_data_value(out: &mut Vec<u8>, value: &DataValue) -> Result<(), AllocErr
     match &value.constant {
         DataConstant::Number(sign, digits) => {
             if let Some(sign) = sign {
-                out.push(match sign {
-                    Sign::Plus => b'+',
-                    Sign::Minus => b'-',
-                })?;
+                out.push(sign_byte(*sign))?;
             }
             out.extend_from_slice(digits)?;
         }
@@ -346,85 +348,98 @@ fn write_data(out: &mut Vec<u8>, sets: &Vec<DataSet>) -> Result<(), AllocError> 
     Ok(())
 }
 
+/// A word and a name, a label or a text.
+fn write_named(out: &mut Vec<u8>, word: &[u8], name: &Vec<u8>) -> Result<(), AllocError> {
+    out.extend_from_slice(word)?;
+    out.extend_from_slice(name)?;
+    Ok(())
+}
+
+/// A word and an expression.
+fn write_condition(out: &mut Vec<u8>, word: &[u8], condition: &Expr) -> Result<(), AllocError> {
+    out.extend_from_slice(word)?;
+    write_expression(out, condition)
+}
+
+/// An assignment: its name, its subscripts, its value.
+fn write_assignment(out: &mut Vec<u8>, shape: &Shape) -> Result<(), AllocError> {
+    if let Shape::Assignment {
+        name,
+        subscripts,
+        value,
+    } = shape
+    {
+        write_named(out, b"assign ", name)?;
+        write_list(out, subscripts)?;
+        write_condition(out, b" ", value)?;
+    }
+    Ok(())
+}
+
+/// WRITE and PRINT: how they are written, and their items.
+fn write_output(out: &mut Vec<u8>, shape: &Shape) -> Result<(), AllocError> {
+    if let Shape::Write { control, list } = shape {
+        out.extend_from_slice(b"write ")?;
+        write_control(out, control)?;
+        write_items(out, list)?;
+    }
+    if let Shape::Print { format, list } = shape {
+        out.extend_from_slice(b"print ")?;
+        write_source(out, format)?;
+        write_items(out, list)?;
+    }
+    Ok(())
+}
+
+/// DO: its label, a comma, its variable, its limits.
+fn write_do(out: &mut Vec<u8>, shape: &Shape) -> Result<(), AllocError> {
+    if let Shape::Do {
+        label,
+        comma,
+        variable,
+        limits,
+    } = shape
+    {
+        write_named(out, b"do ", label)?;
+        write_named(out, if *comma { b" , " } else { b" " }, variable)?;
+        out.push(b' ')?;
+        write_limits(out, limits)?;
+    }
+    Ok(())
+}
+
+/// A form with its parts told apart.
 #[cycle(shape)]
 fn write_shape(out: &mut Vec<u8>, shape: &Shape) -> Result<(), AllocError> {
     match shape {
-        Shape::Assignment {
-            name,
-            subscripts,
-            value,
-        } => {
-            out.extend_from_slice(b"assign ")?;
-            out.extend_from_slice(name)?;
-            write_list(out, subscripts)?;
-            out.push(b' ')?;
-            write_expression(out, value)?;
-        }
-        Shape::Write { control, list } => {
-            out.extend_from_slice(b"write ")?;
-            write_control(out, control)?;
-            write_items(out, list)?;
-        }
-        Shape::Print { format, list } => {
-            out.extend_from_slice(b"print ")?;
-            write_source(out, format)?;
-            write_items(out, list)?;
-        }
-        Shape::Format(text) => {
-            out.extend_from_slice(b"format ")?;
-            out.extend_from_slice(text)?;
-        }
-        Shape::Do {
-            label,
-            comma,
-            variable,
-            limits,
-        } => {
-            out.extend_from_slice(b"do ")?;
-            out.extend_from_slice(label)?;
-            out.extend_from_slice(if *comma { b" , " } else { b" " })?;
-            out.extend_from_slice(variable)?;
-            out.push(b' ')?;
-            write_limits(out, limits)?;
-        }
+        Shape::Assignment { .. } => write_assignment(out, shape)?,
+        Shape::Write { .. } => write_output(out, shape)?,
+        Shape::Print { .. } => write_output(out, shape)?,
+        Shape::Format(text) => write_named(out, b"format ", text)?,
+        Shape::Do { .. } => write_do(out, shape)?,
         Shape::Continue => out.extend_from_slice(b"continue")?,
         Shape::Integer(declarators) => write_declarators(out, b"integer", declarators)?,
         Shape::Logical(declarators) => write_declarators(out, b"logical", declarators)?,
         Shape::Dimension(declarators) => write_declarators(out, b"dimension", declarators)?,
         Shape::End => out.extend_from_slice(b"end")?,
-        Shape::Program(name) => {
-            out.extend_from_slice(b"program ")?;
-            out.extend_from_slice(name)?;
-        }
+        Shape::Program(name) => write_named(out, b"program ", name)?,
         Shape::Implicit(parts) => write_implicit(out, parts)?,
         Shape::Parameter(constants) => write_constants(out, constants)?,
         Shape::Data(sets) => write_data(out, sets)?,
         Shape::Definition(name, value) => {
-            out.extend_from_slice(b"define ")?;
-            out.extend_from_slice(name)?;
-            out.push(b' ')?;
-            write_expression(out, value)?;
+            write_named(out, b"define ", name)?;
+            write_condition(out, b" ", value)?;
         }
-        Shape::GoTo(label) => {
-            out.extend_from_slice(b"goto ")?;
-            out.extend_from_slice(label)?;
-        }
+        Shape::GoTo(label) => write_named(out, b"goto ", label)?,
         Shape::ComputedGoTo { .. } => write_computed(out, shape)?,
         Shape::ArithmeticIf { .. } => write_arithmetic(out, shape)?,
         Shape::LogicalIf(condition, statement) => {
-            out.extend_from_slice(b"if ")?;
-            write_expression(out, condition)?;
+            write_condition(out, b"if ", condition)?;
             out.extend_from_slice(b": ")?;
             write_shape(out, statement)?;
         }
-        Shape::IfThen(condition) => {
-            out.extend_from_slice(b"then ")?;
-            write_expression(out, condition)?;
-        }
-        Shape::ElseIf(condition) => {
-            out.extend_from_slice(b"elseif ")?;
-            write_expression(out, condition)?;
-        }
+        Shape::IfThen(condition) => write_condition(out, b"then ", condition)?,
+        Shape::ElseIf(condition) => write_condition(out, b"elseif ", condition)?,
         Shape::Else => out.extend_from_slice(b"else")?,
         Shape::EndIf => out.extend_from_slice(b"endif")?,
         Shape::Stop(text) => write_stop(out, text)?,
@@ -1203,27 +1218,43 @@ fn deepest_expressions(rt: HostRuntime) -> Result<(), Fail> {
     Ok(())
 }
 
-/// The longest texts are read within the stack.
-#[test]
-fn long_texts(rt: HostRuntime) -> Result<(), Fail> {
-    let table = [
-        ("I=1", "-1", ""),
-        ("WRITE(6,10)I", ",I", ""),
-        ("I=A(1", ",1", ")"),
-        ("A(1", ",1", ")=1"),
-        ("INTEGERI", ",I", ""),
-        ("INTEGERI(1", ",1", ")"),
-        ("DATAI", ",I", "/1/"),
-        ("DATAI/1", ",1", "/"),
-    ];
-    for (front, more, end) in table {
-        let mut text = Vec::from_slice(rt.alloc(), front.as_bytes())?;
-        for _ in 0..650 {
-            text.extend_from_slice(more.as_bytes())?;
-        }
-        text.extend_from_slice(end.as_bytes())?;
-        let read = bare_of(rt.alloc(), &text)?.ok_or("the text is too long")?;
-        assert!(rt; form(rt.alloc(), &read).is_ok());
-    }
+/// A front, 650 times the same text, and an end are read within the stack.
+fn reads_long(
+    rt: &impl Abort,
+    alloc: Global,
+    front: &str,
+    more: &str,
+    end: &str,
+) -> Result<(), Fail> {
+    let mut text = Vec::from_slice(alloc, front.as_bytes())?;
+    repeated(&mut text, more.as_bytes(), 650)?;
+    text.extend_from_slice(end.as_bytes())?;
+    let read = bare_of(alloc, &text)?.ok_or("the text is too long")?;
+    assert!(rt; form(alloc, &read).is_ok(), "{front}");
     Ok(())
+}
+
+#[test]
+fn long_expressions(rt: HostRuntime) -> Result<(), Fail> {
+    reads_long(&rt, rt.alloc(), "I=1", "-1", "")
+}
+
+#[test]
+fn long_subscripts(rt: HostRuntime) -> Result<(), Fail> {
+    reads_long(&rt, rt.alloc(), "I=A(1", ",1", ")")?;
+    reads_long(&rt, rt.alloc(), "A(1", ",1", ")=1")
+}
+
+#[test]
+fn long_lists(rt: HostRuntime) -> Result<(), Fail> {
+    reads_long(&rt, rt.alloc(), "WRITE(6,10)I", ",I", "")?;
+    reads_long(&rt, rt.alloc(), "PRINT10,I", ",I", "")?;
+    reads_long(&rt, rt.alloc(), "DATAI", ",I", "/1/")
+}
+
+#[test]
+fn long_declarations(rt: HostRuntime) -> Result<(), Fail> {
+    reads_long(&rt, rt.alloc(), "INTEGERI", ",I", "")?;
+    reads_long(&rt, rt.alloc(), "INTEGERI(1", ",1", ")")?;
+    reads_long(&rt, rt.alloc(), "DATAI/1", ",1", "/")
 }
