@@ -1,10 +1,9 @@
 -- The declarator of an array.
-use Rattle.std.proofs.Common.{◌≡◌, ℕ, ◌&&◌, Bool, true, false, List, [], ◌∷◌, length, map, Option, Some, None, option_map, refl, sym, ap, ◌∙◌}
+use Rattle.std.proofs.Common.{◌≡◌, ℕ, ◌&&◌, Bool, true, false, List, [], ◌∷◌, length, map, Option, Some, option_map, refl, sym, ap, ◌∙◌}
 use Rattle.std.specs.Prelude.{nat_lt, if◌then◌else◌}
 use Rattle.std.specs.Borrow.{Bor}
 use Rattle.meaning.specs.declared.syntax.Declarator.{Declarator}
 use Rattle.meaning.specs.Syntax.{DeclaratorTree}
-use Rattle.meaning.specs.Arrays.{Dimension}
 use Rattle.meaning.specs.Rules.{array_if, arrays_by, declares, dimension_of, dimensions_given}
 use Rattle.checker.specs.Used.{array_by, declarator_at}
 

@@ -1,6 +1,5 @@
 -- Names with more than one declaration, one declarator or one statement more.
 use Rattle.std.proofs.Common.{◌≡◌, ℕ, ◌+◌, ◌<◌, ◌≤◌, Bool, true, false, ◌||◌, ◌&&◌, List, [], ◌∷◌, ◌++◌, length, get_or, take, drop, map, Option, Some, None, refl, sym, ap, ap₂, ◌∙◌, append_assoc, subst}
-use Rattle.std.specs.Prelude.{flat_map}
 use Rattle.std.specs.Borrow.{Bor}
 use Rattle.std.specs.List.{list_any}
 use Rattle.std.specs.Global.{Vec}
@@ -11,7 +10,7 @@ use Rattle.meaning.specs.declared.refusal.Broken.{Broken}
 use Rattle.meaning.specs.declared.refusal.Rule.TheVariants.{K4}
 use Rattle.meaning.specs.declared.syntax.Item.{Item}
 use Rattle.meaning.specs.declared.syntax.Declarator.{Declarator}
-use Rattle.meaning.specs.Syntax.{DeclaratorTree, ExprsTree, no_exprs, exprs, ShapeTree, assignment, ItemTree, declarator_tree}
+use Rattle.meaning.specs.Syntax.{DeclaratorTree, no_exprs, exprs, ShapeTree, assignment, ItemTree, declarator_tree}
 use Rattle.meaning.specs.Statements.{broken_if}
 use Rattle.meaning.specs.Refusals.{least, merge}
 use Rattle.meaning.specs.Rules.{Use, all_expression_uses, all_uses, bare_use, declarators, declarators_in, disputed_names, elements_set, expression_uses, is_bare_use_of, is_both, is_declared, is_function_use, is_function_use_of, repeats, targets_of, uses_of}

@@ -1,17 +1,17 @@
 -- Where no rule is broken, each statement fits the arrays.
 use Rattle.std.proofs.Common.{◌≡◌, ℕ, ◌==◌, Bool, true, false, ◌||◌, ◌&&◌, not, List, [], ◌∷◌, ◌++◌, length, map, Option, Some, None, option_map, unwrap_or, refl, sym, ap, ◌∙◌}
 use Rattle.std.specs.Prelude.{flat_map, is_some}
-use Rattle.std.specs.List.{list_any, AllByRecursion}
+use Rattle.std.specs.List.{list_any}
 use Rattle.std.proofs.lemmas.List.{length-map}
-use Rattle.std.proofs.lemmas.Bool.{eqb-true, true≢false, false≢true}
+use Rattle.std.proofs.lemmas.Bool.{eqb-true, true≢false}
 use Rattle.meaning.specs.declared.refusal.Broken.{Broken}
 use Rattle.meaning.specs.declared.refusal.Rule.{Rule}
-use Rattle.meaning.specs.Syntax.{ExprsTree, no_exprs, exprs, DeclaratorTree, ShapeTree, assignment, doing, ItemTree}
+use Rattle.meaning.specs.Syntax.{no_exprs, exprs, DeclaratorTree, ShapeTree, assignment, doing, ItemTree}
 use Rattle.meaning.specs.Refusals.{least}
 use Rattle.meaning.specs.Statements.{broken_if}
 use Rattle.meaning.specs.Trees.{Nested, flatten}
 use Rattle.meaning.specs.Values.{dimensions_in}
-use Rattle.meaning.specs.Rules.{Use, count, uses_of, elements_set, dimensions_given, dimension_of, arrays_by, arrays_of, declarators, is_array, is_function_use, is_other_number, is_misused, misused_arrays, no_elements, functions, broken_names, broken_items, broken_rules, real_names, disputed_names, large_arrays, repeated_labels, great_constants, misformed}
+use Rattle.meaning.specs.Rules.{count, uses_of, elements_set, dimensions_given, dimension_of, arrays_by, arrays_of, declarators, is_function_use, is_other_number, is_misused, misused_arrays, no_elements, broken_names, broken_items, broken_rules, real_names, disputed_names, large_arrays, repeated_labels}
 use Rattle.checker.specs.Used.{array_by}
 use Rattle.checker.specs.Checked.{Fits, AllFit}
 use Rattle.checker.proofs.Bounded.{given_by, arrays_given_by}

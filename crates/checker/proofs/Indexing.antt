@@ -1,5 +1,5 @@
 -- Declarators by their names, one declarator more.
-use Rattle.std.proofs.Common.{◌≡◌, ℕ, suc, ◌+◌, ◌<◌, ◌≤◌, Bool, true, false, ◌||◌, ◌&&◌, List, [], ◌∷◌, ◌++◌, length, get_or, slice_get, take, drop, map, Option, Some, None, option_map, refl, sym, ap, ap₂, ◌∙◌, cond, arith}
+use Rattle.std.proofs.Common.{◌≡◌, ℕ, suc, ◌+◌, ◌<◌, ◌≤◌, Bool, true, false, ◌&&◌, List, [], ◌∷◌, ◌++◌, length, get_or, slice_get, take, map, Option, Some, None, option_map, refl, sym, ap, ap₂, ◌∙◌, cond, arith}
 use Rattle.std.specs.Prelude.{if◌then◌else◌, is_some, nat_lt}
 use Rattle.std.specs.Option.{IfSome, option_and_then, option_copied, option_or}
 use Rattle.std.specs.Borrow.{Bor}

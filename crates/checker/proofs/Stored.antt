@@ -12,9 +12,9 @@ use Rattle.values.specs.Dimensions.{dimension}
 use Rattle.checker.specs.declared.program.Storage.{Storage}
 use Rattle.checker.specs.Numbered.{texts, Holds, HoldsAll, Numbers, names_declared}
 use Rattle.checker.proofs.Appearance.{texts_any}
-use Rattle.std.proofs.lemmas.Bool.{true≢false, false≢true}
+use Rattle.std.proofs.lemmas.Bool.{true≢false}
 use Rattle.std.proofs.lemmas.Slice.Eq.{bytes_eq-Decides}
-use Rattle.meaning.specs.Arrays.{Dimension, Named, size, place, cells_of, cell_of}
+use Rattle.meaning.specs.Arrays.{size, place, cells_of, cell_of}
 use Rattle.meaning.specs.Values.{Arrays, dimensions_in}
 use Rattle.checker.specs.Placed.{Placed, named, placed, placed_at}
 

@@ -12,7 +12,7 @@ use Rattle.meaning.specs.declared.ending.FaultKind.TheVariants.{F4}
 use Rattle.meaning.specs.declared.ending.Fault.{Fault}
 use Rattle.meaning.specs.Promise.{Told}
 use Rattle.driver.specs.declared.halt.Halt.{Halt}
-use Rattle.meaning.specs.Syntax.{ItemTree, ShapeTree, LimitsTree, assignment, writing, format, doing, continuing, typing, ending, shape_tree}
+use Rattle.meaning.specs.Syntax.{ItemTree, ShapeTree, LimitsTree, doing, shape_tree}
 use Rattle.meaning.specs.Trees.{Members, none, flat, flat_arms, row_arms, item_tree, member_before, row_members, members_tree}
 use Rattle.meaning.specs.Trips.{Span, span_of, trips, trip_count}
 use Rattle.meaning.specs.Rules.{arrays_of}

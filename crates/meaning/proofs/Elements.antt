@@ -3,7 +3,7 @@ use Rattle.std.proofs.Common.{◌≡◌, ℕ, zero, suc, ℤ, pos, negsuc, ◌+�
 use Rattle.std.specs.Prelude.{option_map}
 use Rattle.std.specs.Str.{bytes_eq}
 use Rattle.std.proofs.Math.Nat.{mul-le-mul, le_refl, div-eq_of_lt, add-mul-div_left, add-mul-mod_self_left, mod-eq_of_lt, mod-lt, div-add-mod, div-lt_iff_lt-mul}
-use Rattle.std.proofs.lemmas.Bool.{cases_Bool, lt-ltb, ltb-true}
+use Rattle.std.proofs.lemmas.Bool.{lt-ltb, ltb-true}
 use Rattle.std.proofs.lemmas.Slice.Eq.{bytes_eq-Decides}
 use Rattle.std.proofs.lemmas.Int.{ints}
 use Rattle.meaning.specs.Arrays.{Dimension, extent, size, within, above, combined, place, Named, cells_of, cell_of, AreOneToOne, HaveOwnCells}

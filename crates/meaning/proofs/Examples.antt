@@ -1,5 +1,5 @@
 -- Worked examples: the definitions compute what the rules say.
-use Rattle.std.proofs.Common.{◌≡◌, ℕ, List, [], ◌∷◌, Some, None, Ok, Err, pos, negsuc, refl, true, false}
+use Rattle.std.proofs.Common.{◌≡◌, ℕ, List, [], ◌∷◌, Some, None, Err, pos, negsuc, refl, false}
 use Rattle.std.specs.Prelude.{codes}
 use Rattle.std.specs.Fmt.{digits}
 use Rattle.meaning.specs.declared.syntax.Sign.TheVariants as signs
@@ -7,7 +7,6 @@ use Rattle.meaning.specs.declared.syntax.Operator.TheVariants as operators
 use Rattle.meaning.specs.declared.syntax.Kind.TheVariants as kinds
 use Rattle.meaning.specs.declared.refusal.Rule.TheVariants.{K0, C3, C4, C5, C6, G1, G2}
 use Rattle.meaning.specs.declared.ending.Ending.TheVariants as endings
-use Rattle.meaning.specs.declared.ending.Value.TheVariants as values
 use Rattle.meaning.specs.Syntax.{number, name, signed, binary, paren, no_exprs, assignment, doing}
 use Rattle.meaning.specs.Answers.{answer, program_of, members_of, run_of}
 use Rattle.meaning.specs.Statements.{statements_of, statements_in, groups}

@@ -1,13 +1,13 @@
 -- Worked examples: formats that are read, and the records that they make.
-use Rattle.std.proofs.Common.{◌≡◌, ℕ, List, [], ◌∷◌, Option, Some, None, Result, Ok, Err, pos, negsuc, refl, true, false}
+use Rattle.std.proofs.Common.{◌≡◌, ℕ, List, [], ◌∷◌, Option, Some, None, Result, Ok, Err, pos, negsuc, refl, true}
 use Rattle.std.specs.Prelude.{codes}
 use Rattle.std.specs.Fmt.{digits}
 use Rattle.meaning.specs.declared.ending.FaultKind.{FaultKind}
-use Rattle.meaning.specs.declared.ending.FaultKind.TheVariants.{F7, F8}
+use Rattle.meaning.specs.declared.ending.FaultKind.TheVariants.{F7}
 use Rattle.meaning.specs.declared.ending.Value.{Value}
 use Rattle.meaning.specs.declared.ending.Value.TheVariants.{Int, Bool}
 use Rattle.meaning.specs.Reading.{◌>>=◌, when, either, after, run}
-use Rattle.meaning.specs.Formats.{integer_field, skip, single, group, parts, no_parts, Parts, descriptors_of, parts_in, parts_at, next_at, part_at, counted_at, behind_count, group_at, characters_at, quoted_at, integer_at, logical_at, least_at}
+use Rattle.meaning.specs.Formats.{integer_field, skip, single, parts, no_parts, Parts, descriptors_of, parts_in, parts_at, next_at, part_at, counted_at, behind_count, group_at, characters_at, quoted_at, integer_at, logical_at, least_at}
 use Rattle.meaning.specs.Records.{edited, outcome_of, written, text_of, laid, course}
 
 -- what a text makes of values, where it is a format

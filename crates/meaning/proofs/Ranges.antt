@@ -6,7 +6,7 @@ use Rattle.meaning.specs.declared.syntax.Member.{Member, Plain, Loop, Loop', Blo
 use Rattle.meaning.specs.declared.syntax.Arm.{Arm}
 use Rattle.meaning.specs.declared.syntax.Block.{out-Block, Block', Row_of-Arm, end_of-Arm, more_of-Arm, items-the_row-Arm, items_shown-the_row-Arm-1, items_shown-the_row-Member-0}
 use Rattle.meaning.specs.Syntax.{ItemTree}
-use Rattle.meaning.specs.Trees.{Members, none, loop, block, Arms, arm, item_tree, member_before, row_members, row_arms, members_tree, arms_tree}
+use Rattle.meaning.specs.Trees.{Members, loop, block, Arms, arm, item_tree, member_before, row_members, row_arms, members_tree, arms_tree}
 
 row_members-items : (n : _) (row : Row_of-Member n) → row_members row ≡ members_tree (items-the_row-Member n row)
 row_members-items n end_of-Member = refl

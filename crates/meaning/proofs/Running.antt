@@ -4,8 +4,7 @@ use Rattle.std.proofs.Common.{◌≡◌, ℕ, zero, suc, ℤ, ◌+◌, ◌-◌, 
 use mathlib.Core.Path.{fun_ext}
 use Rattle.meaning.specs.declared.ending.FaultKind.{FaultKind}
 use Rattle.meaning.specs.declared.ending.Value.{Value}
-use Rattle.meaning.specs.Characters.{number_of}
-use Rattle.meaning.specs.Syntax.{ExprsTree, ShapeTree, ListItemsTree, FormatTree, assignment, writing, printing, doing, continuing, ItemTree}
+use Rattle.meaning.specs.Syntax.{ShapeTree, ListItemsTree, FormatTree, assignment, writing, printing, doing, continuing, ItemTree}
 use Rattle.meaning.specs.Rules.{arrays_of, values_in}
 use Rattle.meaning.specs.Trees.{Members, none, plain, loop, block}
 use Rattle.meaning.specs.Trips.{span_of, trips}

@@ -7,7 +7,7 @@ use Rattle.meaning.specs.declared.refusal.Broken.{Broken}
 use Rattle.meaning.specs.declared.refusal.Rule.TheVariants.{K1, K3, K4, K6, K7, K8, K9, K11, K12, K13}
 use Rattle.meaning.specs.declared.ending.Value.TheVariants as values
 use Rattle.meaning.specs.Characters.{number_of}
-use Rattle.meaning.specs.Syntax.{listed, ExprTree, number, truth, name, signed, negated, binary, paren, element, call, ExprsTree, no_exprs, exprs, BoundsTree, DeclaratorTree, UnitTree, star, unit_number, LimitsTree, value_item, loop_item, ListItemsTree, no_items, more_items, FormatTree, format_label, format_constant, ControlTree, ShapeTree, assignment, writing, printing, format, doing, typing, ItemTree}
+use Rattle.meaning.specs.Syntax.{listed, ExprTree, number, truth, name, signed, negated, binary, paren, element, call, ExprsTree, no_exprs, exprs, BoundsTree, DeclaratorTree, UnitTree, star, unit_number, LimitsTree, value_item, loop_item, ListItemsTree, no_items, more_items, FormatTree, format_label, format_constant, ShapeTree, assignment, writing, printing, format, doing, typing, ItemTree}
 use Rattle.meaning.specs.Refusals.{least, unless}
 use Rattle.meaning.specs.Statements.{broken_if}
 use Rattle.meaning.specs.Trees.{Members, none, plain, loop, block, Arms, no_arms, arm, Nested, flatten}

@@ -1,5 +1,5 @@
 -- Quotients of 1, which powers with a negative exponent are.
-use Rattle.std.proofs.Common.{◌≡◌, ◌≢◌, ℕ, zero, suc, Option, Some, None, Ok, ℤ, pos, negsuc, neg_ℤ, int_div, refl, sym, ap, subst, arith}
+use Rattle.std.proofs.Common.{◌≡◌, ◌≢◌, zero, suc, Option, Some, None, Ok, ℤ, pos, negsuc, neg_ℤ, int_div, refl, sym, ap, subst, arith}
 use Rattle.std.specs.Prelude.{SomeIff, FitsSigned}
 use Rattle.std.specs.Int.{w32}
 use Rattle.std.proofs.Math.Nat.{div-eq_of_lt}

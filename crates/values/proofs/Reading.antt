@@ -13,7 +13,7 @@ use Rattle.meaning.specs.Arrays.{Dimension}
 use Rattle.meaning.specs.declared.ending.Value.TheVariants as values
 use Rattle.meaning.specs.Syntax.{ExprTree, number, truth, name, signed, negated, binary, paren, element, call, ExprsTree, no_exprs, exprs, expr_tree, exprs_tree}
 use Rattle.meaning.specs.Maps.{Map, start, CellNumbers, value_at, map_by}
-use Rattle.meaning.specs.Values.{Arrays, Valued, value, subscripts, integer, as_integer, as_logical, logical, with_sign, operated, decided, unless_decided, dimensions_in, in_first, others, and_then}
+use Rattle.meaning.specs.Values.{Arrays, Valued, value, subscripts, integer, as_integer, as_logical, logical, with_sign, operated, decided, dimensions_in, in_first, others, and_then}
 use Rattle.meaning.specs.Stores.{Cells, World, LeavesRead, known, Reads}
 use Rattle.meaning.proofs.Stores.{reads_nothing, reads_cell, reads_so, reads_then}
 use Rattle.values.specs.declared.place.Place.{Place}

@@ -1,4 +1,4 @@
-use Rattle.std.proofs.Common.{[], ◌++◌, ◌∷◌, sym, subst, ◌∙◌}
+use Rattle.std.proofs.Common.{sym, subst, ◌∙◌}
 use Rattle.meaning.specs.Stores.{Reads}
 use Rattle.meaning.proofs.Stores.{later-later}
 use Rattle.values.proofs.Lists.{Listing, listing_starts, listing_more, listing_fails, listing_skips, listing_ends}

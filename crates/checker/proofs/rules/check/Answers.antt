@@ -1,4 +1,4 @@
-use Rattle.std.proofs.Common.{◌≡◌, ◌<◌, ◌-◌, ◌^◌, [], pos, replicate, map, sym, ap, ap₂, subst, ◌∙◌, arith}
+use Rattle.std.proofs.Common.{◌≡◌, ◌<◌, ◌-◌, ◌^◌, [], pos, replicate, map, sym, ap, ap₂, subst, ◌∙◌}
 use Rattle.meaning.specs.Arrays.{cells_of}
 use Rattle.meaning.specs.Refusals.{unless}
 use Rattle.meaning.specs.Rules.{arrays_by, checked, declarators}

@@ -1,4 +1,4 @@
-use Rattle.std.proofs.Common.{rules, ◌≡◌, get_or, map, pos}
+use Rattle.std.proofs.Common.{rules, ◌≡◌, get_or, pos}
 use Rattle.values.specs.declared.dimension.Dimension.{Dimension}
 use Rattle.values.specs.Dimensions.{dimension}
 use Rattle.checker.proofs.Capped.{size_more}

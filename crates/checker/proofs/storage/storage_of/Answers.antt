@@ -1,4 +1,4 @@
-use Rattle.std.proofs.Common.{rules, map, ap, subst, sym, ◌∙◌}
+use Rattle.std.proofs.Common.{map, ap, subst, sym, ◌∙◌}
 use Rattle.std.proofs.lemmas.List.{map-append}
 use Rattle.meaning.specs.Arrays.{size}
 use Rattle.meaning.specs.Values.{dimensions_in}

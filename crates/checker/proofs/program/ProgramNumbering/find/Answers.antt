@@ -1,4 +1,4 @@
-use Rattle.std.proofs.Common.{rules, ◌≡◌, ◌+◌, ◌<◌, ◌≤◌, map, option_map, sym, ap, subst, ◌∙◌, arith}
+use Rattle.std.proofs.Common.{rules, ◌+◌, ◌≤◌, map, option_map, sym, ap, subst, ◌∙◌}
 use Rattle.std.proofs.Math.Nat.{le_trans, lt_of_le_of_lt}
 use Rattle.values.specs.Places.{limit}
 use Rattle.meaning.specs.Arrays.{size, place}
