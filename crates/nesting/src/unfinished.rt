@@ -3,7 +3,7 @@
 ghost use Rattle.std.specs.Prelude.{◌≡◌, nat_le, length, IfOk};
 ghost use Rattle.meaning.specs.Nesting.{levels, innermost, is_stray as stray, is_named as named_by, is_hidden as hidden_by, is_end_in_range as ends_in_range, is_crossing, is_too_deep, breaks_nesting, is_ended as ended_by, add as added, next_arm as next_arm_of, close_block as close_block_of, past as past_of, ended, joined, effect_of};
 ghost use Rattle.meaning.specs.Rules.{is_label_at};
-ghost use Rattle.meaning.specs.Trees.{item_tree, member_before, members_tree, none, plain};
+ghost use Rattle.meaning.specs.Trees.{item_tree, member_before, members_tree, none, plain, loop};
 ghost use Rattle.nesting.specs.Open.{unfinished, effect};
 
 use crate::effect::{
@@ -196,32 +196,38 @@ pub fn into_innermost(so_far: Open) -> Vec<Member>
     }
 }
 
+/// A list with one member more at its end.
+fn with_last(members: Vec<Member>, member: Member) -> Result<Vec<Member>, AllocError>
+    ensures { IfOk result (λ z. members_tree z.items ≡ joined (members_tree members.items) (member_before member none)) }
+{
+    let mut longer = members;
+    longer.push(member)?;
+    Ok(longer)
+}
+
+/// A DO statement with its range, as one member.
+fn whole_loop(head: Item, range: Vec<Member>) -> Member
+    ensures { member_before result none ≡ loop (item_tree head) (members_tree range.items) none }
+{
+    Member::Loop(Loop { head, range })
+}
+
 /// One member more in the innermost list; its last statement's label ends the innermost ranges that name it.
 fn with_member(so_far: Open, label: Option<u64>, member: Member) -> Result<Open, AllocError>
     ensures { IfOk result (λ z. unfinished z ≡ added label (member_before member none) (unfinished so_far)) }
 {
     match so_far {
-        Open::Ended(mut members) => {
-            members.push(member)?;
-            Ok(Open::Ended(members))
-        }
-        Open::Body(mut members) => {
-            members.push(member)?;
-            Ok(Open::Body(members))
-        }
+        Open::Ended(members) => Ok(Open::Ended(with_last(members, member)?)),
+        Open::Body(members) => Ok(Open::Body(with_last(members, member)?)),
         Open::Range {
             head,
             label: other,
-            mut members,
+            members,
             around,
         } => {
-            members.push(member)?;
+            let members = with_last(members, member)?;
             if is_label(label, other) {
-                let whole = Member::Loop(Loop {
-                    head,
-                    range: members,
-                });
-                with_member(Box::into_inner(around), label, whole)
+                with_member(Box::into_inner(around), label, whole_loop(head, members))
             } else {
                 Ok(Open::Range {
                     head,
@@ -234,17 +240,14 @@ fn with_member(so_far: Open, label: Option<u64>, member: Member) -> Result<Open,
         Open::Branch {
             arms,
             head,
-            mut members,
+            members,
             around,
-        } => {
-            members.push(member)?;
-            Ok(Open::Branch {
-                arms,
-                head,
-                members,
-                around,
-            })
-        }
+        } => Ok(Open::Branch {
+            arms,
+            head,
+            members: with_last(members, member)?,
+            around,
+        }),
     }
 }
 
@@ -253,19 +256,6 @@ fn next_arm(alloc: Global, so_far: Open, item: Item) -> Result<Open, AllocError>
     ensures { IfOk result (λ z. unfinished z ≡ next_arm_of (item_tree item) (unfinished so_far)) }
 {
     match so_far {
-        Open::Ended(members) => Ok(Open::Ended(members)),
-        Open::Body(members) => Ok(Open::Body(members)),
-        Open::Range {
-            head,
-            label,
-            members,
-            around,
-        } => Ok(Open::Range {
-            head,
-            label,
-            members,
-            around,
-        }),
         Open::Branch {
             mut arms,
             head,
@@ -283,6 +273,7 @@ fn next_arm(alloc: Global, so_far: Open, item: Item) -> Result<Open, AllocError>
                 around,
             })
         }
+        other => Ok(other),
     }
 }
 
@@ -291,19 +282,6 @@ fn close_block(so_far: Open, item: Item) -> Result<Open, AllocError>
     ensures { IfOk result (λ z. unfinished z ≡ close_block_of (item_tree item) (unfinished so_far)) }
 {
     match so_far {
-        Open::Ended(members) => Ok(Open::Ended(members)),
-        Open::Body(members) => Ok(Open::Body(members)),
-        Open::Range {
-            head,
-            label,
-            members,
-            around,
-        } => Ok(Open::Range {
-            head,
-            label,
-            members,
-            around,
-        }),
         Open::Branch {
             mut arms,
             head,
@@ -318,6 +296,7 @@ fn close_block(so_far: Open, item: Item) -> Result<Open, AllocError>
             let whole = Member::Block(Block { arms, end: item });
             with_member(Box::into_inner(around), ends, whole)
         }
+        other => Ok(other),
     }
 }
 
@@ -325,9 +304,8 @@ fn close_block(so_far: Open, item: Item) -> Result<Open, AllocError>
 fn close_unit(so_far: Open, item: Item) -> Result<Open, AllocError>
     ensures { IfOk result (λ z. unfinished z ≡ ended (joined (innermost (unfinished so_far)) (plain (item_tree item) none))) }
 {
-    let mut members = into_innermost(so_far);
-    members.push(Member::Plain(item))?;
-    Ok(Open::Ended(members))
+    let members = into_innermost(so_far);
+    Ok(Open::Ended(with_last(members, Member::Plain(item))?))
 }
 
 /// The program unit as far as it was read, with one statement more.
