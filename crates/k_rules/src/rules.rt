@@ -83,9 +83,10 @@ pub fn judge(alloc: Global, tree: &Tree) -> Result<Facts, Refusal>
     let declarators = declarators_of(alloc, &items)?;
     let declared = Declared::new(alloc, &declarators)?;
     match least_broken(alloc, tree, &declared, &items)? {
-        None => Ok(Facts {
-            arrays: into_arrays(declared),
-        }),
+        None => {
+            let arrays = into_arrays(declared);
+            Ok(Facts { arrays })
+        }
         Some(Broken { line, rule }) => Err(Refusal::Rule { rule, line }),
     }
 }

@@ -18,4 +18,4 @@ pub returns-in-None-clause-arrays : goal.returns-in-None-clause-arrays
 returns-in-None-clause-arrays c =
     let all = flatten (nested c.args.tree.now) in
     let declared : map declarator_at c.in_ok-declared.declared.declarators.now ≡ declarators all = ap (map declarator_at) (c.in_ok-declared.ensures ∙ c.deref-2.ensures.value) ∙ c.in_ok-declarators.ensures ∙ ap declarators (ap (map tree_at) c.deref.ensures.value ∙ c.in_ok-items.ensures) in
-    λ n. c.into_arrays.ensures n ∙ ap (λ ds. arrays_by ds n) declared
+    λ n. c.into_arrays-arrays.ensures n ∙ ap (λ ds. arrays_by ds n) declared
