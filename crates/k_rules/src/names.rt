@@ -13,7 +13,7 @@ use crate::uses::{Sought, in_shape};
 use meaning::refusal::{Broken, Rule};
 use meaning::syntax::{Exprs, Item};
 
-/// A name that is REAL: it doesn't begin with I to N, and no type statement declares it.
+/// A variable that is REAL: it doesn't begin with I to N, and no type statement declares it.
 #[derive(Clone, Copy)]
 struct RealName<'a> {
     declared: &'a Declared<'a>,
@@ -32,8 +32,8 @@ fn is_real(name: &[u8]) -> bool
 impl Sought for RealName<'_> {
     ghost is_use = { λ s. is_undeclared_real (map declarator_at s.declared.now.declarators.now) };
 
-    fn is(&self, name: &[u8], _subscripts: Option<&Exprs>) -> bool {
-        is_real(name) && !is_declared(self.declared, name)
+    fn is(&self, name: &[u8], subscripts: Option<&Exprs>) -> bool {
+        subscripts.is_none() && is_real(name) && !is_declared(self.declared, name)
     }
 }
 
@@ -45,7 +45,7 @@ impl Check for RealName<'_> {
     }
 }
 
-/// K3: the least line at which a name is REAL.
+/// K3: the least line at which a variable is REAL.
 pub fn real_name(declared: &Declared, members: &[&Item]) -> Option<Broken>
     ensures { result ≡ least (flat_map (real_names (map declarator_at declared.now.declarators.now)) (map tree_at members.now)) }
 {

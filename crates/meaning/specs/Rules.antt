@@ -198,9 +198,10 @@ abbrev pub is_real : List ℕ → Bool
 is_real [] = true
 is_real (c ∷ cs) = not (nat_le 73 c && nat_le c 78)
 
--- K3: a name that no type statement declares is REAL
+-- K3: a variable that no type statement declares is REAL; what is no array and has parentheses is a function, of which K12 and
+-- K13 tell
 abbrev pub is_undeclared_real : List DeclaratorTree → Use → Bool
-is_undeclared_real ds u = is_real u.name && not (is_declared ds u.name)
+is_undeclared_real ds u = is_none u.subscripts && (is_real u.name && not (is_declared ds u.name))
 
 abbrev pub real_names : List DeclaratorTree → ItemTree → List Broken
 real_names ds x = broken_if (list_any (is_undeclared_real ds) (uses_of x.shape)) x.line K3

@@ -6,9 +6,10 @@ use values::Dimension;
 
 pub const REFUSED: [Refused; 34] = [
     // A name that is REAL, declared nowhere or in another statement.
-    ("@1 1 X/1 I= @9 END", Rule::K3, 1),
-    ("@1 1 1 X= @9 END", Rule::K3, 1),
     ("@1 A, INTEGER @2 A B= @9 END", Rule::K3, 2),
+    // A function that is REAL is no REAL variable.
+    ("@1 1 X/1 I= @9 END", Rule::K13, 1),
+    ("@1 1 1 X= @9 END", Rule::K12, 1),
     // A bound with a name that is REAL.
     ("@1 X : I, INTEGER @9 END", Rule::K3, 1),
     // A name that is declared twice.
@@ -62,7 +63,7 @@ pub const REFUSED: [Refused; 34] = [
     ("@1 1 J/1 I= @9 END", Rule::K13, 1),
     ("@1 F, INTEGER @2 1 F/1 I= @9 END", Rule::K13, 2),
     // Of two rules at one line the least number.
-    ("@1 2147483648 F/1 I= @9 END", Rule::K3, 1),
+    ("@1 2147483648 F/1 I= @9 END", Rule::K6, 1),
     ("@1 2147483648 I/1 I= @9 END", Rule::K4, 1),
     ("@1 0 : N : I, INTEGER @9 END", Rule::K6, 1),
     ("@1 2 : 0 3 : M, INTEGER @2 M 1 I= @9 END", Rule::K8, 2),
