@@ -1,5 +1,5 @@
 -- The names of statements in the order of their first appearance.
-use Rattle.std.proofs.Common.{◌≡◌, ℕ, ◌+◌, ◌<◌, Bool, true, false, ◌||◌, List, [], ◌∷◌, ◌++◌, length, get_or, take, map, refl, sym, ap, ◌∙◌, subst}
+use Rattle.std.proofs.Common.{◌≡◌, ℕ, ◌+◌, ◌<◌, Bool, true, false, ◌||◌, List, [], ◌∷◌, ◌++◌, length, get_or, take, map, refl, sym, ap, ap₂, ◌∙◌, subst}
 use Rattle.std.specs.Borrow.{Bor}
 use Rattle.std.specs.Global.{Vec}
 use Rattle.std.specs.Prelude.{flat_map, if◌then◌else◌}
@@ -7,29 +7,52 @@ use Rattle.std.specs.Str.{bytes_eq}
 use Rattle.std.specs.List.{list_any, AllByRecursion}
 use Rattle.std.proofs.lemmas.Slice.Eq.{bytes_eq-Decides}
 use Rattle.std.proofs.lemmas.List.{map-append, append-nil}
-use Rattle.std.proofs.lemmas.List.Sums.{fold-append}
 use Rattle.std.proofs.lemmas.Grind.{flat_map-append}
 use Rattle.meaning.specs.declared.syntax.Item.{Item}
-use Rattle.meaning.specs.Syntax.{listed, ExprsTree, no_exprs, exprs, ItemTree}
-use Rattle.checker.specs.Listed.{tree_at}
+use Rattle.meaning.specs.Syntax.{ExprTree, number, truth, name, signed, negated, binary, paren, element, call, ExprsTree, no_exprs, exprs, ItemTree}
+use Rattle.meaning.specs.Rules.{Use, uses_in, uses_in_all}
+use Rattle.k_rules.specs.Listed.{tree_at}
+use Rattle.k_rules.proofs.NameSets.{texts_any, with_names_append}
+use Rattle.k_rules.proofs.Parts.{any_append}
+use Rattle.k_rules.proofs.Passes.{trees_more}
 use Rattle.checker.specs.Numbered.{names_in, names_in_all, names_of, HoldsAll, Numbers, texts, with_name, with_names, variables}
-use Rattle.checker.proofs.Parts.{any_append}
-use Rattle.checker.proofs.Passes.{trees_more}
 
--- the names in a list of expressions
-pub names_listed : (es : ExprsTree) → names_in_all es ≡ flat_map names_in (listed es)
-names_listed no_exprs = refl
-names_listed (exprs e es) = ap (λ names. names_in e ++ names) (names_listed es)
+-- ---- the names of uses
 
--- names behind those that are there, in two parts
-pub with_names_append : (names a b : List (List ℕ)) → with_names names (a ++ b) ≡ with_names (with_names names a) b
-with_names_append names a b = fold-append with_name names a b
+abbrev named_by : List Use → List (List ℕ)
+named_by us = map (λ u. u.name) us
+
+named_append : (us vs : List Use) → named_by (us ++ vs) ≡ named_by us ++ named_by vs
+named_append us vs = map-append (λ u. u.name) us vs
+
+abbrev mutual
+  names_are : (e : ExprTree) → named_by (uses_in e) ≡ names_in e
+  names_are (number digits) = refl
+  names_are (name letters) = refl
+  names_are (signed sign e) = names_are e
+  names_are (binary operator a b) =
+      named_append (uses_in a) (uses_in b) ∙ ap₂ ◌++◌ (names_are a) (names_are b)
+  names_are (paren e) = names_are e
+  names_are (call letters) = refl
+  names_are (truth value) = refl
+  names_are (negated e) = names_are e
+  names_are (element letters es) = ap (λ ns. letters ∷ ns) (all_are es)
+
+  all_are : (es : ExprsTree) → named_by (uses_in_all es) ≡ names_in_all es
+  all_are no_exprs = refl
+  all_are (exprs e es) = named_append (uses_in e) (uses_in_all es) ∙ ap₂ ◌++◌ (names_are e) (all_are es)
+
+pub names_used : (es : List ExprTree) → map (λ u. u.name) (flat_map uses_in es) ≡ flat_map names_in es
+names_used [] = refl
+names_used (e ∷ es) =
+    named_append (uses_in e) (flat_map uses_in es) ∙ ap₂ ◌++◌ (names_are e) (names_used es)
+
+-- ---- one statement more
 
 pub names_more : (before between after a b : List (List ℕ)) → between ≡ with_names before a → after ≡ with_names between b → after ≡ with_names before (a ++ b)
 names_more before between after a b first second =
     second ∙ ap (λ names. with_names names b) first ∙ sym (with_names_append before a b)
 
--- one statement more
 pub variables_more : (ms : List (Bor Item)) (i : ℕ) (m : Bor Item) (before after : List (List ℕ)) → i < length ms → m ≡ get_or ms i m → before ≡ with_names [] (variables (map tree_at (take i ms))) → after ≡ with_names before (names_of (tree_at m).shape) → after ≡ with_names [] (variables (map tree_at (take (i + 1) ms)))
 variables_more ms i m before after lt is so_far added =
     let front = map tree_at (take i ms) in
@@ -38,26 +61,6 @@ variables_more ms i m before after lt is so_far added =
     flat_map-append (λ x. names_of x.shape) front (tree_at m ∷ []) ∙ ap (λ ns. variables front ++ ns) (append-nil here) in
     names_more [] before after (variables front) here so_far added
     ∙ ap (with_names []) (sym joined ∙ ap variables (sym (trees_more ms i m lt is)))
-
--- ---- a set of names
-
--- whether a name is there, by the keys and by their texts
-pub texts_any : (n : List ℕ) (keys : List (Vec ℕ)) → list_any (λ k. bytes_eq n k.items) keys ≡ list_any (bytes_eq n) (texts keys)
-texts_any n [] = refl
-texts_any n (k ∷ ks) = ap (λ b. bytes_eq n k.items || b) (texts_any n ks)
-
--- it stays where the name is there
-pub name_there : (keys : List (Vec ℕ)) (n : List ℕ) (told : Bool) → told ≡ list_any (λ k. bytes_eq n k.items) keys → told ≡ true → texts keys ≡ with_name (texts keys) n
-name_there keys n told is there =
-    sym (ap (λ b. if b then texts keys else texts keys ++ n ∷ []) (sym (texts_any n keys) ∙ sym is ∙ there))
-
--- else the name goes last
-pub name_new : (keys new : List (Vec ℕ)) (own : Vec ℕ) (n : List ℕ) (told : Bool) → told ≡ list_any (λ k. bytes_eq n k.items) keys → told ≡ false → own.items ≡ n → new ≡ (if list_any (λ k. bytes_eq own.items k.items) keys then keys else keys ++ own ∷ []) → texts new ≡ with_name (texts keys) n
-name_new keys new own n told is new_name same added =
-    let none : list_any (λ k. bytes_eq n k.items) keys ≡ false = sym is ∙ new_name in
-    let pushed : new ≡ keys ++ own ∷ [] = added ∙ ap (λ x. if list_any (λ k. bytes_eq x k.items) keys then keys else keys ++ own ∷ []) same ∙ ap (λ b. if b then keys else keys ++ own ∷ []) none in
-    ap texts pushed ∙ map-append (λ k. k.items) keys (own ∷ []) ∙ ap (λ x. texts keys ++ x ∷ []) same
-    ∙ sym (ap (λ b. if b then texts keys else texts keys ++ n ∷ []) (sym (texts_any n keys) ∙ none))
 
 -- ---- the names are among the keys
 

@@ -1,20 +1,18 @@
 -- Where no rule is broken, each statement fits the arrays.
-use Rattle.std.proofs.Common.{◌≡◌, ℕ, ◌==◌, Bool, true, false, ◌||◌, ◌&&◌, not, List, [], ◌∷◌, ◌++◌, length, map, Option, Some, None, option_map, unwrap_or, refl, sym, ap, ◌∙◌}
-use Rattle.std.specs.Prelude.{flat_map, is_some}
+use Rattle.std.proofs.Common.{◌≡◌, ℕ, ◌==◌, Bool, true, false, ◌||◌, ◌&&◌, not, List, [], ◌∷◌, ◌++◌, length, Option, Some, None, unwrap_or, Ok, refl, ◌∙◌}
+use Rattle.std.specs.Prelude.{flat_map, if◌then◌else◌, is_some, nat_lt}
 use Rattle.std.specs.List.{list_any}
 use Rattle.std.proofs.lemmas.List.{length-map}
 use Rattle.std.proofs.lemmas.Bool.{eqb-true, true≢false}
 use Rattle.meaning.specs.declared.refusal.Broken.{Broken}
 use Rattle.meaning.specs.declared.refusal.Rule.{Rule}
 use Rattle.meaning.specs.Syntax.{no_exprs, exprs, DeclaratorTree, ShapeTree, assignment, doing, ItemTree}
-use Rattle.meaning.specs.Refusals.{least}
+use Rattle.meaning.specs.Refusals.{least, unless}
 use Rattle.meaning.specs.Statements.{broken_if}
 use Rattle.meaning.specs.Trees.{Nested, flatten}
 use Rattle.meaning.specs.Values.{dimensions_in}
-use Rattle.meaning.specs.Rules.{count, uses_of, elements_set, dimensions_given, dimension_of, arrays_by, arrays_of, declarators, is_function_use, is_other_number, is_misused, misused_arrays, no_elements, broken_names, broken_items, broken_rules, real_names, disputed_names, large_arrays, repeated_labels}
-use Rattle.checker.specs.Used.{array_by}
+use Rattle.meaning.specs.Rules.{array_if, checked, declares, count, uses_of, elements_set, dimensions_given, dimension_of, arrays_by, arrays_of, declarators, is_function_use, is_other_number, is_misused, misused_arrays, no_elements, broken_names, broken_items, broken_rules, real_names, disputed_names, large_arrays, repeated_labels}
 use Rattle.checker.specs.Checked.{Fits, AllFit}
-use Rattle.checker.proofs.Bounded.{given_by, arrays_given_by}
 
 -- ---- nothing is broken
 
@@ -36,13 +34,14 @@ not_told true line rule none = absurd cc
 
 -- ---- dimensions
 
-dimensions_are : (o : Option DeclaratorTree) → length (dimensions_in (option_map (λ d. map dimension_of d.bounds) o)) ≡ unwrap_or (option_map (λ (d : DeclaratorTree). length d.bounds) o) 0
-dimensions_are None = refl
-dimensions_are (Some d) = length-map d.bounds dimension_of
-
 given_is : (ds : List DeclaratorTree) (n : List ℕ) → length (dimensions_in (arrays_by ds n)) ≡ unwrap_or (dimensions_given ds n) 0
-given_is ds n =
-    ap (λ o. length (dimensions_in o)) (arrays_given_by ds n) ∙ dimensions_are (array_by ds n) ∙ ap (λ o. unwrap_or o 0) (sym (given_by ds n))
+unfolding arrays_by dimensions_given
+given_is [] n = refl
+given_is (d ∷ ds) n = by_test (declares n d && nat_lt 0 (length d.bounds)) (given_is ds n)
+  where
+    by_test : (b : Bool) → length (dimensions_in (arrays_by ds n)) ≡ unwrap_or (dimensions_given ds n) 0 → length (dimensions_in (array_if b d (arrays_by ds n))) ≡ unwrap_or (if b then Some (length d.bounds) else dimensions_given ds n) 0
+    by_test true h = length-map d.bounds dimension_of
+    by_test false h = h
 
 first_false : (a b : Bool) → (a || b) ≡ false → a ≡ false
 first_false true b h = absurd (true≢false h)
@@ -90,8 +89,13 @@ module _ (ds : List DeclaratorTree) where
       let d = none_behind (flat_map (misused_arrays ds) xs) _ c in
       fit xs (none_front (flat_map (misused_arrays ds) xs) _ c) (none_front (flat_map (no_elements ds) xs) _ d)
 
-pub all_fit : (t : Nested) → least (broken_rules t) ≡ None → AllFit (arrays_of (flatten t)) (flatten t)
-all_fit t none =
-    let items = none_front (broken_items (flatten t)) _ (no_least (broken_rules t) none) in
+none_told : (t : Nested) (o : Option Broken) → unless o t ≡ Ok t → o ≡ None
+none_told t None accepted = refl
+none_told t (Some b) accepted = absurd cc
+
+pub all_fit : (t : Nested) → checked t ≡ Ok t → AllFit (arrays_of (flatten t)) (flatten t)
+unfolding checked
+all_fit t accepted =
+    let items = none_front (broken_items (flatten t)) _ (no_least (broken_rules t) (none_told t (least (broken_rules t)) accepted)) in
     let rest = none_behind (repeated_labels [] (flatten t)) _ items in
     names_fit (declarators (flatten t)) (flatten t) (none_front (broken_names (declarators (flatten t)) (flatten t)) _ rest)

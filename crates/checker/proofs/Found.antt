@@ -4,10 +4,10 @@ use Rattle.std.specs.Borrow.{Bor}
 use Rattle.meaning.specs.declared.syntax.Item.{Item}
 use Rattle.meaning.specs.Syntax.{ItemTree}
 use Rattle.meaning.specs.Formats.{Parts}
-use Rattle.checker.specs.Listed.{tree_at}
+use Rattle.k_rules.specs.Listed.{tree_at}
 use Rattle.meaning.specs.Execution.{format_found, or_else}
 use Rattle.checker.specs.Numbered.{format_here}
-use Rattle.checker.proofs.Passes.{trees_more}
+use Rattle.k_rules.proofs.Passes.{trees_more}
 
 pub found_none : (s : ℕ) → format_found [] s ≡ None
 unfolding format_found

@@ -1,16 +1,5 @@
-pub mod Parts
-pub mod Passes
-pub mod Flattened
-pub mod Reset
 pub mod Appearance
-pub mod Gathering
-pub mod Indexing
-pub mod Labelled
 pub mod Found
-pub mod Capped
 pub mod Placing
 pub mod Stored
 pub mod Fitting
-pub mod Sizing
-pub mod Disputing
-pub mod Bounded

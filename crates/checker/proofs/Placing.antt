@@ -3,14 +3,14 @@ use Rattle.std.proofs.Common.{◌≡◌, ℕ, ◌+◌, ◌-◌, ◌^◌, ◌<◌
 use Rattle.std.proofs.Math.Nat.{min-eq_left}
 use Rattle.std.proofs.Math.ListN.{drop_of_length-le}
 use Rattle.std.proofs.lemmas.List.{map-append, append-nil, take_all}
-use Rattle.checker.specs.Sizes.{capped}
-use Rattle.checker.proofs.Capped.{capped_add}
+use Rattle.values.specs.Places.{capped}
+use Rattle.k_rules.proofs.Capped.{capped_add}
 use Rattle.std.specs.Global.{Vec}
 use Rattle.meaning.specs.Arrays.{Dimension, Named, size, cells_of}
 use Rattle.meaning.specs.Values.{Arrays, dimensions_in}
 use Rattle.checker.specs.Numbered.{texts}
 use Rattle.checker.specs.Placed.{Placed, named, placed}
-use Rattle.checker.proofs.Passes.{map_more, map_left}
+use Rattle.k_rules.proofs.Passes.{map_more, map_left}
 
 cells_push : (names : List Named) (x : Named) → cells_of (names ++ x ∷ []) ≡ cells_of names + size x.dimensions
 cells_push [] x = one_name (size x.dimensions)
@@ -95,3 +95,17 @@ uncapped_by k n is lt = let e : k ≡ n = same k n is lt in (subst (λ x. x < 2 
 
 pub below : {n : ℕ} → n < 2 ^ 64 - 1 → n < 2 ^ 64
 below lt = omega arith
+
+-- ---- the arrays of the same names
+
+module _ (these those : Arrays) (same : (n : List ℕ) → these n ≡ those n) where
+  pub named_same : (names : List (List ℕ)) → named these names ≡ named those names
+  named_same [] = refl
+  named_same (n ∷ ns) =
+      ap₂ (λ o xs. record { name = n; dimensions = dimensions_in o } ∷ xs) (same n) (named_same ns)
+
+  pub placed_same : (c : ℕ) (names : List (List ℕ)) → placed these c names ≡ placed those c names
+  placed_same c [] = refl
+  placed_same c (n ∷ ns) =
+      ap (λ o. record { first = c; dimensions = dimensions_in o } ∷ placed these (c + size (dimensions_in o)) ns) (same n)
+      ∙ ap (λ xs. record { first = c; dimensions = dimensions_in (those n) } ∷ xs) (placed_same (c + size (dimensions_in (those n))) ns)

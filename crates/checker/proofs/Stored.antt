@@ -11,7 +11,7 @@ use Rattle.meaning.specs.Rules.{arrays_by, array_if, declares, declarators, decl
 use Rattle.values.specs.Dimensions.{dimension}
 use Rattle.checker.specs.declared.program.Storage.{Storage}
 use Rattle.checker.specs.Numbered.{texts, Holds, HoldsAll, Numbers, names_declared}
-use Rattle.checker.proofs.Appearance.{texts_any}
+use Rattle.k_rules.proofs.NameSets.{texts_any}
 use Rattle.std.proofs.lemmas.Bool.{true≢false}
 use Rattle.std.proofs.lemmas.Slice.Eq.{bytes_eq-Decides}
 use Rattle.meaning.specs.Arrays.{size, place, cells_of, cell_of}

@@ -1,5 +1,5 @@
 -- What a checked program keeps beside its statements: the numbers of its variables.
-use Rattle.std.specs.Prelude.{◌≡◌, ◌≤◌, ◌^◌, ◌==◌, if◌then◌else◌, option_map, ℕ, Bool, false, Option, Some, None, List, [], ◌∷◌, ◌++◌, map, flat_map, fold, IsTrue}
+use Rattle.std.specs.Prelude.{◌==◌, if◌then◌else◌, option_map, ℕ, Option, None, List, [], ◌∷◌, ◌++◌, map, flat_map, IsTrue}
 use Rattle.std.specs.Global.{Vec}
 use Rattle.std.specs.Str.{bytes_eq}
 use Rattle.std.specs.List.{list_any, AllByRecursion}
@@ -8,21 +8,10 @@ use Rattle.std.specs.Ordering.{nat_cmp}
 use Rattle.std.specs.BTreeMap.{BTreeMap, get}
 use Rattle.meaning.specs.Formats.{Parts}
 use Rattle.meaning.specs.Execution.{descriptors_if}
-use Rattle.meaning.specs.Rules.{unit_exprs, item_exprs, limit_exprs, declarators_in, has_format, has_label}
+use Rattle.meaning.specs.Rules.{unit_exprs, item_exprs, limit_exprs, declarators_in, has_label}
 use Rattle.format_edit.specs.declared.format.Format.{Format}
 use Rattle.format_edit.specs.Formatted.{descriptors}
-
--- the texts of the keys of a set
-abbrev pub texts : List (Vec ℕ) → List (List ℕ)
-texts keys = map (λ k. k.items) keys
-
--- a name behind those that are there, unless it is one of them
-abbrev pub with_name : List (List ℕ) → List ℕ → List (List ℕ)
-with_name names n = if list_any (bytes_eq n) names then names else names ++ n ∷ []
-
--- names behind those that are there, in the order of their first appearance
-abbrev pub with_names : List (List ℕ) → List (List ℕ) → List (List ℕ)
-with_names names more = fold with_name names more
+pub use Rattle.k_rules.specs.NameSets.{texts, with_name, with_names}
 
 -- the names in an expression from the left
 abbrev mutual
@@ -76,16 +65,6 @@ HoldsAll keys names = AllByRecursion (Holds keys) names
 -- each variable and each array of the statements is among the keys
 abbrev pub Numbers : List (Vec ℕ) → List ItemTree → Type 0
 Numbers keys members = AllByRecursion (λ m. HoldsAll keys (names_of m.shape)) members
-
--- a test of a label, where there is one
-abbrev pub is_known : (ℕ → Bool) → Option ℕ → Bool
-is_known known None = false
-is_known known (Some s) = known s
-
--- a set of labels has exactly those of FORMAT statements, and none is 2^32 or more
-pub record KnowsFormats (labels : ℕ → Bool) (all : List ItemTree) : Type 0 where
-  pub exact : (s : ℕ) → labels s ≡ has_format all s
-  pub small : (s : ℕ) → 2 ^ 32 ≤ s → has_format all s ≡ false
 
 -- the parts of the format behind a label
 abbrev pub found_in : BTreeMap ℕ Format → ℕ → Option (Parts)

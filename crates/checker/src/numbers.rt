@@ -2,19 +2,17 @@
 
 ghost use Rattle.std.specs.Prelude.{◌≡◌, [], flat_map, map, OnOk, IfOk};
 ghost use Rattle.meaning.specs.Syntax.{declarator_tree, shape_tree};
-ghost use Rattle.checker.specs.Gathered.{declared_names};
-ghost use Rattle.checker.specs.Listed.{name_at, tree_at};
+ghost use Rattle.k_rules.specs.NameSets.{declared_names};
+ghost use Rattle.k_rules.specs.Listed.{name_at, tree_at};
 ghost use Rattle.checker.specs.Numbered.{exprs_used, names_in, names_of, names_set, texts, with_names, variables};
 
-use crate::declared::declarators_in;
-use crate::gathered::{add_expressions_found, add_name};
-use crate::uses::AnyUse;
 use indexmap::IndexSet;
+use k_rules::{add_name, add_names_used, declarators_in};
 use meaning::syntax::{Declarator, Item, Shape};
 use std::alloc::{AllocError, Global};
 
 /// Puts the names in the expressions of an executable statement behind those that are there.
-#[tactic(auto, using(crate::proofs::Gathering::found_any_listed))]
+#[tactic(auto, using(crate::proofs::Appearance::names_used))]
 fn add_expression_names(
     names: &mut IndexSet<Vec<u8>>,
     alloc: Global,
@@ -23,10 +21,10 @@ fn add_expression_names(
     ensures { OnOk result (texts names.new.keys ≡ with_names (texts names.old.keys) (flat_map names_in (exprs_used (shape_tree shape.now)))) }
 {
     match shape {
-        Shape::Assignment { .. } => add_expressions_found(names, alloc, &AnyUse, shape),
-        Shape::Write { .. } => add_expressions_found(names, alloc, &AnyUse, shape),
-        Shape::Print { .. } => add_expressions_found(names, alloc, &AnyUse, shape),
-        Shape::Do { .. } => add_expressions_found(names, alloc, &AnyUse, shape),
+        Shape::Assignment { .. } => add_names_used(names, alloc, shape),
+        Shape::Write { .. } => add_names_used(names, alloc, shape),
+        Shape::Print { .. } => add_names_used(names, alloc, shape),
+        Shape::Do { .. } => add_names_used(names, alloc, shape),
         _ => Ok(()),
     }
 }
@@ -66,7 +64,7 @@ fn add_declared_names(
 }
 
 /// Puts the names of a statement behind those that are there, those that it declares and then the one that it sets.
-#[tactic(auto, using(crate::proofs::Appearance::with_names_append))]
+#[tactic(auto, using(k_rules::proofs::NameSets::with_names_append))]
 fn add_names_of(
     names: &mut IndexSet<Vec<u8>>,
     alloc: Global,

@@ -5,9 +5,9 @@ ghost use Rattle.meaning.specs.Rules.{arrays_of};
 ghost use Rattle.meaning.specs.Trees.{flatten};
 ghost use Rattle.checker.specs.Checked.{tree_of, named_of_program, IsNumbered};
 
-use crate::formats::label_of;
 use format_edit::Format;
 use indexmap::IndexSet;
+use k_rules::label_of;
 use meaning::syntax::Tree;
 use std::collections::BTreeMap;
 use values::{Dimension, Numbering, Place};

@@ -1,78 +1,19 @@
-//! The rules on a whole program.
+//! From a program unit to a program that keeps the rules.
 
-ghost use Rattle.std.specs.Prelude.{◌≡◌, map, IfOk};
+ghost use Rattle.std.specs.Prelude.{IfOk};
 ghost use Rattle.meaning.specs.Reports.{Gives};
-ghost use Rattle.meaning.specs.Rules.{checked, broken_rules, broken_items, broken_names, declarators as declarators_among};
-ghost use Rattle.meaning.specs.Refusals.{least};
-ghost use Rattle.meaning.specs.Trees.{nested, flatten};
-ghost use Rattle.checker.specs.Listed.{tree_at};
-ghost use Rattle.checker.specs.Used.{declarator_at};
+ghost use Rattle.meaning.specs.Rules.{checked};
+ghost use Rattle.meaning.specs.Trees.{nested};
 ghost use Rattle.checker.specs.Checked.{tree_of, IsNumbered};
 
-use crate::arrays::{function_used, misused_array, no_element};
-use crate::constants::great_constant;
-use crate::declared::declarators_of;
-use crate::disputes::disputed_name;
-use crate::formats::{formats_by_label, misformed_statement};
-use crate::items::items_of;
-use crate::labels::repeated_label;
-use crate::lookup::Declared;
-use crate::loops::reset_variable;
-use crate::names::real_name;
+use crate::formats::formats_by_label;
 use crate::numbers::names_in_order;
 use crate::program::Program;
-use crate::sizes::large_array;
 use crate::storage::{storage_of, zeros};
-use meaning::refusal::{Broken, Refusal, lesser};
-use meaning::syntax::{Item, Tree};
-use std::alloc::{AllocError, Global};
-
-/// The least pair that the names of statements break.
-fn least_of_names(
-    alloc: Global,
-    declared: &Declared,
-    items: &[&Item],
-) -> Result<Option<Broken>, AllocError>
-    ensures { IfOk result (λ b. b ≡ least (broken_names (map declarator_at declared.now.declarators.now) (map tree_at items.now))) }
-{
-    let disputed = disputed_name(alloc, declared, items)?;
-    let functions = function_used(declared, items);
-    let elements = lesser(no_element(declared, items), functions);
-    let arrays = lesser(misused_array(declared, items), elements);
-    let sizes = lesser(large_array(items), arrays);
-    Ok(lesser(real_name(declared, items), lesser(disputed, sizes)))
-}
-
-/// The least pair that statements break by themselves.
-fn least_of_items(
-    alloc: Global,
-    declared: &Declared,
-    items: &[&Item],
-) -> Result<Option<Broken>, AllocError>
-    requires { map declarator_at declared.now.declarators.now ≡ declarators_among (map tree_at items.now) }
-    ensures { IfOk result (λ b. b ≡ least (broken_items (map tree_at items.now))) }
-{
-    let repeated = repeated_label(alloc, items)?;
-    let names = least_of_names(alloc, declared, items)?;
-    let misformed = misformed_statement(alloc, items)?;
-    let rest = lesser(great_constant(items), misformed);
-    Ok(lesser(repeated, lesser(names, rest)))
-}
-
-/// The least pair that a program unit of these statements breaks.
-fn least_broken(
-    alloc: Global,
-    tree: &Tree,
-    declared: &Declared,
-    items: &[&Item],
-) -> Result<Option<Broken>, AllocError>
-    requires items { map tree_at items.now ≡ flatten (nested tree.now) }
-    requires declared { map declarator_at declared.now.declarators.now ≡ declarators_among (map tree_at items.now) }
-    ensures { IfOk result (λ b. b ≡ least (broken_rules (nested tree.now))) }
-{
-    let broken = least_of_items(alloc, declared, items)?;
-    Ok(lesser(broken, reset_variable(tree)))
-}
+use k_rules::{items_of, judge};
+use meaning::refusal::Refusal;
+use meaning::syntax::Tree;
+use std::alloc::Global;
 
 /// Checks a program unit by the rules on labels, names, constants, arrays, DO variables, units and formats: the program,
 /// or the least broken rule of the least line (K1, K3, K4, K6 to K9, K11 to K13). `Memory` where a growth was refused.
@@ -80,19 +21,12 @@ pub fn check(alloc: Global, tree: Tree) -> Result<Program, Refusal>
     ensures exact { Gives tree_of result (checked (nested tree)) }
     ensures numbered { IfOk result IsNumbered }
 {
+    let facts = judge(alloc, &tree)?;
     let items = items_of(alloc, &tree)?;
-    let declarators = declarators_of(alloc, &items)?;
-    let declared = Declared::new(alloc, &declarators)?;
-    match least_broken(alloc, &tree, &declared, &items)? {
-        None => {}
-        Some(Broken { line, rule }) => return Err(Refusal::Rule { rule, line }),
-    }
     let names = names_in_order(alloc, &items)?;
-    let (storage, cells) = storage_of(alloc, &declared, names.as_slice())?;
+    let (storage, cells) = storage_of(alloc, &facts, names.as_slice())?;
     let starts = zeros(alloc, cells)?;
     let formats = formats_by_label(alloc, &items)?;
-    drop(declared);
-    drop(declarators);
     drop(items);
     Ok(Program {
         tree,

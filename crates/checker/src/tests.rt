@@ -1,11 +1,7 @@
-//! Programs that are built by hand, refused and accepted.
+//! Programs that keep the rules, and what they are checked to.
 
-mod accepted;
-mod arrays;
-mod bounds;
 mod building;
-mod loops;
+mod formats;
+mod names;
 mod numbering;
-mod pairs;
-mod refused;
-mod units;
+mod storage;

@@ -6,7 +6,7 @@ ghost use Rattle.meaning.specs.Syntax.{expr_tree, exprs_tree, list_items_tree, s
 ghost use Rattle.meaning.specs.Trees.{item_tree};
 ghost use Rattle.meaning.specs.Unrun.{has_loop as has_implied_do, is_arithmetic as is_integer_operator, is_one_unrun as is_unrun_list, is_unrun as is_unrun_tree, is_unrun_form as is_unrun_shape, is_unrun_statement as is_unrun_by_all, unrun};
 
-use checker::{Test, in_statement};
+use k_rules::{Test, in_statement};
 use meaning::refusal::{Broken, Rule, lesser};
 use meaning::syntax::{Expr, Exprs, Item, ListItem, ListItems, Operator, Shape};
 

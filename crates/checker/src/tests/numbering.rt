@@ -9,7 +9,7 @@ use crate::Program;
 use values::{Numbering, Place};
 
 /// A variable and arrays that are declared, of which `L` isn't used, and two variables that aren't.
-const TEXT: &str = "@1 N, 2 : 3 : A, 0 1 : 2 4 : L, INTEGER @2 N I= @3 J 1 I A= @4 END";
+const STATEMENTS: [&str; 4] = ["INTEGER N,A(2,3),L(0:1,2:4)", "I=N", "A(J,1)=I", "END"];
 
 /// The number of the cell that a place leads to by subscripts.
 fn cell_behind(place: Place<'_>, subscripts: &[i32]) -> Option<usize>
@@ -62,7 +62,7 @@ const CELLS: [(&[u8], &[i32], Option<usize>); 24] = [
 
 #[test]
 fn cells(rt: HostRuntime) {
-    let program = checked(&rt, rt.alloc(), &[TEXT]);
+    let program = checked(&rt, rt.alloc(), &STATEMENTS);
     assert!(rt; program.starts.as_slice() == [0; 15].as_slice());
     for (name, subscripts, cell) in CELLS {
         let found = cell_of(&program, name, subscripts);

@@ -1,5 +1,5 @@
 use Rattle.std.proofs.Common.{◌≡◌, ◌≤◌, ◌^◌, ℕ, None, map, take}
-use Rattle.checker.specs.Listed.{tree_at}
+use Rattle.k_rules.specs.Listed.{tree_at}
 use Rattle.meaning.specs.Execution.{format_found}
 use Rattle.checker.specs.Numbered.{found_in}
 use Rattle.checker.proofs.formats.formats_by_label.Given as goal

@@ -1,6 +1,6 @@
 use Rattle.std.proofs.Common.{ap, ◌∙◌}
 use Rattle.checker.specs.Numbered.{texts, with_name}
-use Rattle.checker.proofs.Disputing.{declared_more}
+use Rattle.k_rules.proofs.NameSets.{declared_more}
 use Rattle.checker.proofs.numbers.add_declared_names.Goals as goal
 
 pub loop-declarator-preserved : goal.loop-declarator-preserved

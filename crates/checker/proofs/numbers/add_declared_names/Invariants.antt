@@ -1,6 +1,6 @@
 use Rattle.std.proofs.Common.{◌≡◌, map, take}
 use Rattle.meaning.specs.Syntax.{declarator_tree}
-use Rattle.checker.specs.Gathered.{declared_names}
+use Rattle.k_rules.specs.NameSets.{declared_names}
 use Rattle.checker.specs.Numbered.{texts, with_names}
 use Rattle.checker.proofs.numbers.add_declared_names.Given as goal
 

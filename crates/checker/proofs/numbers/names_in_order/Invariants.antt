@@ -1,5 +1,5 @@
 use Rattle.std.proofs.Common.{◌≡◌, [], map, take}
-use Rattle.checker.specs.Listed.{tree_at}
+use Rattle.k_rules.specs.Listed.{tree_at}
 use Rattle.checker.specs.Numbered.{texts, with_names, variables}
 use Rattle.checker.proofs.numbers.names_in_order.Given as goal
 

@@ -1,8 +1,8 @@
 use Rattle.std.proofs.Common.{rules, ◌≡◌, get_or, pos}
 use Rattle.values.specs.declared.dimension.Dimension.{Dimension}
 use Rattle.values.specs.Dimensions.{dimension}
-use Rattle.checker.proofs.Capped.{size_more}
-use Rattle.checker.proofs.Passes.{map_more}
+use Rattle.k_rules.proofs.Capped.{size_more}
+use Rattle.k_rules.proofs.Passes.{map_more}
 use Rattle.checker.proofs.storage.cells_in.Goals as goal
 
 pub loop-one-preserved : goal.loop-one-preserved

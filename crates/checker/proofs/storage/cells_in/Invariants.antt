@@ -1,6 +1,6 @@
 use Rattle.std.proofs.Common.{◌≡◌, map, take}
 use Rattle.meaning.specs.Arrays.{size}
-use Rattle.checker.specs.Sizes.{capped}
+use Rattle.values.specs.Places.{capped}
 use Rattle.values.specs.Dimensions.{dimension}
 use Rattle.checker.proofs.storage.cells_in.Given as goal
 

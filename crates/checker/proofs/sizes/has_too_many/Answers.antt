@@ -1,8 +1,0 @@
-use Rattle.meaning.specs.Rules.{elements_of}
-use Rattle.meaning.specs.Syntax.{declarator_tree}
-use Rattle.checker.proofs.Capped.{above_sum}
-use Rattle.checker.proofs.sizes.has_too_many.Goals as goal
-
-pub returns : goal.returns
-returns c =
-    λ n is. above_sum n (elements_of (declarator_tree c.args.declarator.now)) c.args.before _ _ is c.elements_of.ensures c.saturating_add.ensures

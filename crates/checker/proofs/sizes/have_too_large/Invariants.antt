@@ -1,9 +1,0 @@
-use Rattle.std.proofs.Common.{◌≡◌, ◌+◌, ℕ, map, take, drop, sum_by}
-use Rattle.meaning.specs.Syntax.{declarator_tree}
-use Rattle.meaning.specs.Rules.{elements_of, have_too_large}
-use Rattle.checker.specs.Sizes.{capped}
-use Rattle.checker.proofs.sizes.have_too_large.Given as goal
-
-abbrev pub invariant-loop-declarator : goal.invariant-loop-declarator
-invariant-loop-declarator l =
-    (n : ℕ) → l.before ≡ capped n → (have_too_large (n + sum_by elements_of (map declarator_tree (take l.declarator-index l.declarators))) (map declarator_tree (drop l.declarator-index l.declarators)) ≡ have_too_large n (map declarator_tree l.declarators)) × (l.elements ≡ capped (n + sum_by elements_of (map declarator_tree (take l.declarator-index l.declarators))))

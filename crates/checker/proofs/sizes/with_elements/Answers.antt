@@ -1,6 +1,0 @@
-use Rattle.checker.proofs.Sizing.{elements_more}
-use Rattle.checker.proofs.sizes.with_elements.Goals as goal
-
-pub loop-declarator-preserved : goal.loop-declarator-preserved
-loop-declarator-preserved c =
-    λ n is. elements_more n c.args.declarators.now c.loop-declarator.declarator-index c.declarator-item.result c.loop-declarator.elements _ _ c.loop-declarator-test.true c.declarator-item.is (c.loop-declarator.invariant n is) c.elements_of.ensures c.saturating_add-elements.ensures

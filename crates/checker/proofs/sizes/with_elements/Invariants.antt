@@ -1,9 +1,0 @@
-use Rattle.std.proofs.Common.{◌≡◌, ◌+◌, ℕ, map, take, sum_by}
-use Rattle.meaning.specs.Syntax.{declarator_tree}
-use Rattle.meaning.specs.Rules.{elements_of}
-use Rattle.checker.specs.Sizes.{capped}
-use Rattle.checker.proofs.sizes.with_elements.Given as goal
-
-abbrev pub invariant-loop-declarator : goal.invariant-loop-declarator
-invariant-loop-declarator l =
-    (n : ℕ) → l.before ≡ capped n → l.elements ≡ capped (n + sum_by elements_of (map declarator_tree (take l.declarator-index l.declarators)))

@@ -1,5 +1,0 @@
--- Numbers that stop at the greatest of 64 bits.
-use Rattle.std.specs.Prelude.{ℕ, ◌-◌, ◌^◌, min}
-
-abbrev pub capped : ℕ → ℕ
-capped n = min n (2 ^ 64 - 1)

@@ -1,0 +1,11 @@
+pub mod Parts
+pub mod Passes
+pub mod Flattened
+pub mod Reset
+pub mod NameSets
+pub mod Gathering
+pub mod Indexing
+pub mod Labelled
+pub mod Capped
+pub mod Sizing
+pub mod Disputing
