@@ -5,6 +5,7 @@ pub mod Limits
 pub mod Examples
 pub mod FormatExamples
 pub mod NestingExamples
+pub mod RuleToldExamples
 pub mod Stores
 pub mod Maps
 pub mod Elements

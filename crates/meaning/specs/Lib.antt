@@ -10,6 +10,7 @@ pub mod BareText
 pub mod Kinds
 pub mod Reading
 pub mod Nesting
+pub mod RuleTold
 pub mod Rules
 pub mod Unrun
 pub mod Maps

@@ -16,3 +16,6 @@ pub mod Least
 pub mod Refused
 pub mod SoFar
 pub mod Placed
+pub mod Balance
+pub mod Behind
+pub mod RuleTold

@@ -7,7 +7,7 @@ mod nesting;
 mod order;
 mod unfinished;
 
-pub use laws::{nests_exactly, one_nesting, refuses_exactly};
+pub use laws::{nests_exactly, one_nesting, refuses_exactly, rule_told};
 pub use nesting::tree;
 
 #[cfg(test)]
