@@ -11,3 +11,5 @@ pub mod Maps
 pub mod Elements
 pub mod Groups
 pub mod Readers
+pub mod Doubled
+pub mod Repeats

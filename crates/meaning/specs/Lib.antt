@@ -18,6 +18,7 @@ pub mod Values
 pub mod Trips
 pub mod Records
 pub mod Formats
+pub mod FormatLaws
 pub mod Execution
 pub mod Turns
 pub mod Answers

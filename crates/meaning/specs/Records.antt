@@ -171,6 +171,11 @@ unfoldable pub outcome_of : Bool → List ℕ → Result (List ℕ) FaultKind
 outcome_of true bytes = if nat_lt byte_limit (length bytes - 1) then Err F8 else Err F7
 outcome_of false bytes = if nat_lt byte_limit (length bytes) then Err F8 else Ok bytes
 
+-- what a format makes of values where control goes back so many times at most
+abbrev pub edited_within : ℕ → Parts → List Value → Result (List ℕ) FaultKind
+edited_within n ps vs =
+    outcome_of (is_clash (course (sequence ps n) vs)) (written (laid 0 [] (course (sequence ps n) vs)))
+
+-- what a format makes of values: each time that control goes back a value is used up
 unfoldable pub edited : Parts → List Value → Result (List ℕ) FaultKind
-edited ps vs =
-    outcome_of (is_clash (course (sequence ps (length vs)) vs)) (written (laid 0 [] (course (sequence ps (length vs)) vs)))
+edited ps vs = edited_within (length vs) ps vs

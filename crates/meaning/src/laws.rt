@@ -1,8 +1,9 @@
-//! Laws of lines, of execution and of cells (ANSI X3.9-1978, chapters 3, 5 and 10 to 12), for those who build on their
-//! parts.
+//! Laws of lines, of constants, of execution, of cells and of formats (ANSI X3.9-1978, chapters 3 to 5 and 10 to 13), for
+//! those who build on their parts.
 
-ghost use Rattle.std.specs.Prelude.{List};
+ghost use Rattle.std.specs.Prelude.{ℕ, List};
 ghost use Rattle.meaning.specs.Arrays.{Dimension, Named, AreOneToOne, HaveOwnCells};
+ghost use Rattle.meaning.specs.FormatLaws.{IsReadBack, MoreRepeatsChangeNothing};
 ghost use Rattle.meaning.specs.Lines.{StatementLine};
 ghost use Rattle.meaning.specs.Statements.{IsGrouped};
 ghost use Rattle.meaning.specs.Turns.{IsItsPass, UsesWhatIsGiven, MoreTurnsChangeNothing, TripsSplit};
@@ -43,4 +44,15 @@ pub fn elements_have_places()
 /// Each variable and each array element has a cell of its own, below the number of cells.
 pub fn cells_are_own()
     ensures { (names : List Named) → HaveOwnCells names }
+{}
+
+/// A text whose apostrophes are doubled is read back, from a character constant and from a format.
+pub fn doubled_apostrophes_are_read_back()
+    ensures { (text : List ℕ) → IsReadBack text }
+{}
+
+/// Control goes back in a format once for each value at most: a format that may go back more often makes the same records
+/// of values, and has the same fault.
+pub fn more_repeats_change_nothing()
+    ensures { MoreRepeatsChangeNothing }
 {}

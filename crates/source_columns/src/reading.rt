@@ -1,6 +1,6 @@
 //! The statements of a source, or the rule that it breaks (ANSI X3.9-1978, 3.2 to 3.4).
 
-ghost use Rattle.std.specs.Prelude.{◌≡◌, ◌+◌, ◌≤◌, ◌<◌, ◌∷◌, ◌++◌, [], map, not, length, IfOk, MatchResult, vec_len, if◌then◌else◌};
+ghost use Rattle.std.specs.Prelude.{◌≡◌, ◌+◌, ◌≤◌, ◌<◌, ◌∷◌, ◌++◌, [], map, not, length, IsTrue, IfOk, MatchResult, vec_len, if◌then◌else◌};
 ghost use Rattle.std.specs.List.{flat_map};
 ghost use Rattle.meaning.specs.Lines.{lines_of, statement_field, statement_lines};
 ghost use Rattle.meaning.specs.Refusals.{unless, with_first};
@@ -177,10 +177,13 @@ fn is_long(source: &[u8]) -> bool
 ///
 /// # Errors
 ///
-/// `Refusal::Rule` with C7 at line 1 if the source is too long; else with the least broken rule of the least line that
+/// `Refusal::Rule` with C7 at line 1 if the source is too long, whatever memory there is; else with the least broken rule of the least line that
 /// breaks one of C1 to C6. `Refusal::Memory` if a growth was refused.
 pub fn statements(alloc: Global, source: &[u8]) -> Result<Vec<Statement>, Refusal>
     ensures exact { Gives (λ v. map entry_of v.items) result (statements_of source.now) }
+
+    // A source that is too long is told as such before anything is allocated.
+    ensures too_long { IsTrue (is_too_long source.now) → result ≡ Err (Refusal.Rule Rule.C7 1) }
 {
     if is_long(source) {
         return Err(broken(1, Rule::C7));
