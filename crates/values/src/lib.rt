@@ -248,7 +248,7 @@ fn integer_of(exact: Option<i32>) -> Result<Value, FaultKind>
 }
 
 /// The values of the expressions of a list, first to last, or the leftmost fault; an implied DO is passed over. The
-/// `AllocError` comes where a growth was refused.
+/// `AllocError` comes where a growth was refused. Nothing is written, whatever the answer.
 pub fn values<N: Numbering, S: Store>(
     alloc: Global,
     list: &ListItems,
@@ -259,6 +259,7 @@ pub fn values<N: Numbering, S: Store>(
     requires sized { (S.world store.old).cells ≡ N.count numbering.now }
     ensures reads { IfOk result (λ r. Reads (S.world store.old) (S.world store.new) (λ m. Listed r (values_of (N.arrays numbering.now) (values_in (list_items_tree list.now)) (map_by (N.numbers numbering.now) m)))) }
     ensures later { IsLater (S.world store.old) (S.world store.new) }
+    ensures unwritten { (S.world store.new).written ≡ (S.world store.old).written }
 {
     let mut found = Vec::new(alloc);
     let mut rest = list;

@@ -44,3 +44,12 @@ returns-clause-reads g c =
 
 pub returns-clause-later : goal.returns-clause-later
 returns-clause-later g c = c.loop-rest.invariant.grows
+
+pub returns-in_err-push-in-Ok-clause-unwritten : goal.returns-in_err-push-in-Ok-clause-unwritten
+returns-in_err-push-in-Ok-clause-unwritten g c = c.value.ensures.reads.unwritten ∙ c.loop-rest.invariant.unwritten
+
+pub returns-in-Err-clause-unwritten : goal.returns-in-Err-clause-unwritten
+returns-in-Err-clause-unwritten g c = c.value.ensures.reads.unwritten ∙ c.loop-rest.invariant.unwritten
+
+pub returns-clause-unwritten : goal.returns-clause-unwritten
+returns-clause-unwritten g c = c.loop-rest.invariant.unwritten
