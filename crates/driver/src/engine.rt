@@ -2,8 +2,8 @@
 
 use crate::asked::Options;
 use crate::command_line::options;
-use crate::run::run;
-use crate::sink::Out;
+use executor::run::run;
+use executor::Out;
 use meaning::ending::Ending;
 use std::alloc::Global;
 use std::io::{ErrorKind, Read, Write};

@@ -1,8 +1,8 @@
 //! The program over readers and writers in memory. Expected bytes come from the rules of docs/LANGUAGE.md.
 
 use crate::engine::engine;
-use crate::run::run;
-use crate::sink::{Out, Sink};
+use executor::run::run;
+use executor::{Out, Sink};
 use meaning::ending::{Ending, Fault, FaultKind};
 use meaning::refusal::Rule;
 use std::alloc::{AllocError, Global};
