@@ -39,16 +39,28 @@ fn members_in(alloc: Global, found: &[Statement]) -> Result<Vec<Item>, Refusal>
     let mut broken = None;
     for statement in found {
         match member_in(alloc, statement) {
-            Ok(member) => members.push(member)?,
+            Ok(member) => {
+                if let Err(unpushed) = members.push(member) {
+                    drop(unpushed);
+                    drop(members);
+                    return Err(Refusal::Memory);
+                }
+            }
             Err(Refusal::Rule { rule, line }) => {
                 broken = lesser(broken, Some(Broken { line, rule }));
             }
-            Err(Refusal::Memory) => return Err(Refusal::Memory),
+            Err(Refusal::Memory) => {
+                drop(members);
+                return Err(Refusal::Memory);
+            }
         }
     }
     match broken {
         None => Ok(members),
-        Some(Broken { line, rule }) => Err(Refusal::Rule { rule, line }),
+        Some(Broken { line, rule }) => {
+            drop(members);
+            Err(Refusal::Rule { rule, line })
+        }
     }
 }
 
@@ -64,7 +76,10 @@ pub fn program_in(alloc: Global, source: &[u8]) -> Result<Program, Refusal>
     let unrun = unrun_statement(&members);
     let unit = tree(alloc, members)?;
     match unrun {
-        Some(Broken { line, rule }) => Err(Refusal::Rule { rule, line }),
         None => check(alloc, unit),
+        Some(Broken { line, rule }) => {
+            drop(unit);
+            Err(Refusal::Rule { rule, line })
+        }
     }
 }
