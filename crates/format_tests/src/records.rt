@@ -1,7 +1,7 @@
 //! Records that formats make of lists of values.
 
-use super::outcome;
-use crate::{EditFault, Format, edit};
+use crate::editing::outcome;
+use format_edit::{EditFault, Format, edit};
 use meaning::ending::Value;
 use meaning::ending::Value::{Bool, Int};
 use std::alloc::{AllocError, Global};
@@ -13,7 +13,7 @@ type Row = (&'static str, &'static str, &'static str);
 
 // The records are those of gfortran 12.2.0: each row stood in a program of the lines `WRITE(*,'(format)') list` and
 // `END`, run by `gfortran -std=legacy -ffixed-line-length-none -w -o t t.f && ./t`.
-const ROWS: [Row; 87] = [
+const ROWS: &[Row] = &[
     ("1X,I5", "42", "    42\n"),
     ("2I4", "3 -10", "   3 -10\n"),
     ("X,I3", "7", "   7\n"),
@@ -113,7 +113,7 @@ const ROWS: [Row; 87] = [
 
 // What gfortran writes otherwise or not at all. An empty text writes nothing, so it fixes no blanks before it; where m is
 // above w, a digit that is needed has no place.
-const OWN: [Row; 6] = [
+const OWN: &[Row] = &[
     ("5X,''", "", "\n"),
     ("5X,'',/,3X,'',X", "", "\n\n"),
     ("I3.4", "0 1234 5", "***\n***\n***\n"),
@@ -145,17 +145,17 @@ fn shows(rt: &impl Abort, alloc: Global, row: Row) -> Result<(), Fail> {
 
 #[test]
 fn records(rt: HostRuntime) -> Result<(), Fail> {
-    for row in ROWS {
+    for &row in ROWS {
         shows(&rt, rt.alloc(), row)?;
     }
-    for row in OWN {
+    for &row in OWN {
         shows(&rt, rt.alloc(), row)?;
     }
     Ok(())
 }
 
 /// The least and the greatest integer in so many positions, and their records.
-const WIDTHS: [(&[u8], &[u8]); 12] = [
+const WIDTHS: &[(&[u8], &[u8])] = &[
     (b"I1", b"*\n*\n"),
     (b"I2", b"**\n**\n"),
     (b"I3", b"***\n***\n"),
@@ -173,7 +173,7 @@ const WIDTHS: [(&[u8], &[u8]); 12] = [
 #[test]
 fn widths(rt: HostRuntime) -> Result<(), Fail> {
     let ends = [Int(i32::MIN), Int(i32::MAX)];
-    for (text, records) in WIDTHS {
+    for &(text, records) in WIDTHS {
         let bytes = outcome(rt.alloc(), text, &ends)??;
         assert_eq!(rt; bytes.as_slice(), records, "{text:?}");
     }
@@ -181,7 +181,7 @@ fn widths(rt: HostRuntime) -> Result<(), Fail> {
 }
 
 /// Formats and lists of which a value meets a descriptor of the other type, or none.
-const CLASHES: [(&str, &str); 14] = [
+const CLASHES: &[(&str, &str)] = &[
     ("I3", "7 T"),
     ("2I3", "7 T"),
     ("L3", "7"),
@@ -200,7 +200,7 @@ const CLASHES: [(&str, &str); 14] = [
 
 #[test]
 fn clashes(rt: HostRuntime) -> Result<(), Fail> {
-    for (text, list) in CLASHES {
+    for &(text, list) in CLASHES {
         let values = values_of(rt.alloc(), list)?;
         let fault = outcome(rt.alloc(), text.as_bytes(), &values)?;
         assert!(rt; matches!(fault, Err(EditFault::F7)), "{text:?}");

@@ -1,6 +1,6 @@
 //! Formats with their parentheses, and in character constants.
 
-use crate::{Format, FormatFault, edit};
+use format_edit::{Format, FormatFault, edit};
 use meaning::ending::Value;
 use std::alloc::Global;
 use std::process::Abort;
@@ -8,7 +8,7 @@ use std::process::Abort;
 /// A text, and the records that it makes of the value 7, or nothing where it is no format.
 type Row = (&'static str, Option<&'static str>);
 
-const WHOLE: [Row; 15] = [
+const WHOLE: &[Row] = &[
     ("(I3)", Some("  7\n")),
     ("  ( i 3 )  ", Some("  7\n")),
     ("(i3,'a b')", Some("  7a b\n")),
@@ -27,7 +27,7 @@ const WHOLE: [Row; 15] = [
 ];
 
 /// What stands between the apostrophes of a constant, where two apostrophes are one.
-const CONSTANTS: [Row; 9] = [
+const CONSTANTS: &[Row] = &[
     ("(I3)", Some("  7\n")),
     (" ( i 3 , ''a B'' ) ", Some("  7a B\n")),
     ("(''It''''s'',I2)", Some("It's 7\n")),
@@ -57,7 +57,7 @@ fn makes(rt: &impl Abort, alloc: Global, read: Result<Format, FormatFault>, row:
 
 #[test]
 fn with_parentheses(rt: HostRuntime) {
-    for row in WHOLE {
+    for &row in WHOLE {
         let read = Format::read(rt.alloc(), row.0.as_bytes());
         makes(&rt, rt.alloc(), read, row);
     }
@@ -65,7 +65,7 @@ fn with_parentheses(rt: HostRuntime) {
 
 #[test]
 fn in_character_constants(rt: HostRuntime) {
-    for row in CONSTANTS {
+    for &row in CONSTANTS {
         let read = Format::read_constant(rt.alloc(), row.0.as_bytes());
         makes(&rt, rt.alloc(), read, row);
     }

@@ -1,11 +1,11 @@
 //! Texts that are formats, and texts that aren't.
 
-use crate::{Format, FormatFault};
+use format_edit::{Format, FormatFault};
 use std::alloc::{AllocError, Global};
 use std::process::Abort;
 use std::test::Fail;
 
-const ACCEPTED: [&[u8]; 53] = [
+const ACCEPTED: &[&[u8]] = &[
     b"",
     b"I1",
     b"X",
@@ -61,7 +61,7 @@ const ACCEPTED: [&[u8]; 53] = [
     b"6(9999(I1),5X)",
 ];
 
-const BROKEN: [&[u8]; 73] = [
+const BROKEN: &[&[u8]] = &[
     b"I0",
     b"I00",
     b"0I5",
@@ -146,14 +146,14 @@ fn reads(rt: &impl Abort, alloc: Global, text: &[u8], is_format: bool) {
 
 #[test]
 fn accepted(rt: HostRuntime) {
-    for text in ACCEPTED {
+    for &text in ACCEPTED {
         reads(&rt, rt.alloc(), text, true);
     }
 }
 
 #[test]
 fn broken(rt: HostRuntime) {
-    for text in BROKEN {
+    for &text in BROKEN {
         reads(&rt, rt.alloc(), text, false);
     }
 }
@@ -171,10 +171,12 @@ fn nested(alloc: Global, depth: usize) -> Result<Vec<u8>, AllocError> {
     Ok(text)
 }
 
-// Groups nest 16 deep inside the outer parentheses, which aren't in the text.
+/// Groups nest 16 deep inside the outer parentheses, which aren't in the text.
+const DEPTHS: &[(usize, bool)] = &[(1, true), (16, true), (17, false), (1000, false)];
+
 #[test]
 fn nesting(rt: HostRuntime) -> Result<(), Fail> {
-    for (depth, is_format) in [(1, true), (16, true), (17, false), (1000, false)] {
+    for &(depth, is_format) in DEPTHS {
         let text = nested(rt.alloc(), depth)?;
         reads(&rt, rt.alloc(), &text, is_format);
     }
@@ -182,7 +184,7 @@ fn nesting(rt: HostRuntime) -> Result<(), Fail> {
 }
 
 /// Formats of 65,536 items or a few less, and formats of more.
-const LENGTHS: [(&[u8], bool); 14] = [
+const LENGTHS: &[(&[u8], bool)] = &[
     (b"9999I1,9999I1,9999I1,9999I1,9999I1,9999I1,5542I1", true),
     (b"9999I1,9999I1,9999I1,9999I1,9999I1,9999I1,5543I1", false),
     (b"9999I1,9999I1,9999I1,9999I1,9999I1,9999I1,5541I1,7X", true),
@@ -210,7 +212,7 @@ const LENGTHS: [(&[u8], bool); 14] = [
 
 #[test]
 fn lengths(rt: HostRuntime) {
-    for (text, is_format) in LENGTHS {
+    for &(text, is_format) in LENGTHS {
         reads(&rt, rt.alloc(), text, is_format);
     }
 }
