@@ -75,15 +75,17 @@ fn accepts(rt: HostRuntime) -> Result<(), Fail> {
     Ok(())
 }
 
+/// Lines, labels and texts of the statements of a source.
+const BOTH: &[(u32, Option<u32>, &[u8])] = &[(1, Some(1), b"I=1"), (4, None, b"END")];
+
 #[test]
 fn accepts_two(rt: HostRuntime) -> Result<(), Fail> {
     let read = statements(rt.alloc(), b"  1   I=1\n*\n\n      END\n")
         .ok()
         .ok_or("it is refused")?;
     assert_eq!(rt; read.len(), 2);
-    let cases: [(u32, Option<u32>, &[u8]); 2] = [(1, Some(1), b"I=1"), (4, None, b"END")];
-    for (s, (line, label, text)) in read.iter().zip(cases) {
-        assert!(rt; is_statement(s, line, label, text));
+    for (s, &(line, label, text)) in read.iter().zip(BOTH) {
+        assert!(rt; is_statement(s, line, label, text), "at {text:?}");
     }
     let none = statements(rt.alloc(), b"")
         .ok()
@@ -166,14 +168,19 @@ fn joins_continuation_lines(rt: HostRuntime) -> Result<(), Fail> {
     Ok(())
 }
 
+/// Lines, labels and lengths of the statements of a source.
+const JOINED: &[(u32, Option<u32>, usize)] = &[(1, None, 132), (4, Some(1), 198), (7, None, 66)];
+
 #[test]
 fn joins_each_statement(rt: HostRuntime) -> Result<(), Fail> {
     let source = b"     0I=\n\n     11\n    1 J=\n     2\n     32\n      END\n";
     let read = statements(rt.alloc(), source).ok().ok_or("it is refused")?;
     assert_eq!(rt; read.len(), 3);
-    let cases: [(u32, Option<u32>, usize); 3] = [(1, None, 132), (4, Some(1), 198), (7, None, 66)];
-    for (s, (line, label, length)) in read.iter().zip(cases) {
-        assert!(rt; s.line == line && s.label == label && s.text.len() == length);
+    for (s, &(line, label, length)) in read.iter().zip(JOINED) {
+        assert!(rt;
+            s.line == line && s.label == label && s.text.len() == length,
+            "at {line}"
+        );
     }
     Ok(())
 }

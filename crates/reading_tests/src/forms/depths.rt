@@ -3,7 +3,6 @@
 use super::{bare_of, reading};
 use parser::form;
 use std::alloc::{AllocError, Global};
-use std::process::Abort;
 use std::test::*;
 
 /// A text with this many parentheses that are opened behind it.
@@ -15,18 +14,24 @@ fn opened(alloc: Global, front: &[u8], count: usize) -> Result<Vec<u8>, AllocErr
     Ok(text)
 }
 
+/// Texts, how many parentheses are opened behind each, and what is told.
+const OPENED: &[(&str, usize, &str)] = &[
+    ("CALLF", 64, "G2 7"),
+    ("CALLF", 65, "G3 7"),
+    ("I=", 64, "G1 7"),
+    ("I=", 65, "G3 7"),
+    ("I='", 65, "G1 7"),
+];
+
 #[test]
 fn parentheses(rt: HostRuntime) -> Result<(), Fail> {
-    let table: [(&str, usize, &str); 5] = [
-        ("CALLF", 64, "G2 7"),
-        ("CALLF", 65, "G3 7"),
-        ("I=", 64, "G1 7"),
-        ("I=", 65, "G3 7"),
-        ("I='", 65, "G1 7"),
-    ];
-    for (front, count, wanted) in table {
+    for &(front, count, wanted) in OPENED {
         let text = opened(rt.alloc(), front.as_bytes(), count)?;
-        assert_eq!(rt; reading(rt.alloc(), &text)?.as_str(), wanted, "{count}");
+        assert_eq!(rt;
+            reading(rt.alloc(), &text)?.as_str(),
+            wanted,
+            "{front} {count}"
+        );
     }
     Ok(())
 }
@@ -45,10 +50,13 @@ fn nested(alloc: Global, front: &[u8], count: usize) -> Result<Vec<u8>, AllocErr
     Ok(text)
 }
 
-/// As many parentheses are read as may be open at once, each with a sign and operators before it too, or a name.
+/// What stands before each of the parentheses: a sign and operators too, or a name.
+const FRONTS: &[&str] = &["", "-J+K*", "A", "-J+A(2)*B"];
+
+/// As many parentheses are read as may be open at once.
 #[test]
 fn nested_parentheses(rt: HostRuntime) -> Result<(), Fail> {
-    for front in ["", "-J+K*", "A", "-J+A(2)*B"] {
+    for &front in FRONTS {
         let most = nested(rt.alloc(), front.as_bytes(), 64)?;
         let read = bare_of(rt.alloc(), &most)?.ok_or("the text is too long")?;
         assert!(rt; form(rt.alloc(), &read).is_ok(), "{front}");
@@ -66,69 +74,38 @@ fn repeated(out: &mut Vec<u8>, text: &[u8], count: usize) -> Result<(), AllocErr
     Ok(())
 }
 
+/// A front, a text and how often it stands behind it, an end and how many parentheses are closed behind that.
+///
 /// The deepest expressions that 1320 characters can hold are read within the stack: 439 `**`, 659 operators of one level,
-/// 64 parentheses, and both together.
+/// 64 parentheses, and both together. So are the longest lists.
+const LONGEST: &[(&str, &str, usize, &str, usize)] = &[
+    ("I=A", "**A", 439, "", 0),
+    ("I=-A", "-A", 658, "", 0),
+    ("I=A", ".OR.A", 263, "", 0),
+    ("I=", "(", 64, "A)", 63),
+    ("I=", "A**A**A**A**A**A**(", 64, "A)", 63),
+    ("I=", ".NOT.-A*B**(", 64, "A)", 63),
+    ("I=", "A(A,", 64, "A)", 63),
+    ("I=1", "-1", 650, "", 0),
+    ("I=A(1", ",1", 650, ")", 0),
+    ("A(1", ",1", 650, ")=1", 0),
+    ("WRITE(6,10)I", ",I", 650, "", 0),
+    ("PRINT10,I", ",I", 650, "", 0),
+    ("DATAI", ",I", 650, "/1/", 0),
+    ("INTEGERI", ",I", 650, "", 0),
+    ("INTEGERI(1", ",1", 650, ")", 0),
+    ("DATAI/1", ",1", 650, "/", 0),
+];
+
 #[test]
-fn deepest_expressions(rt: HostRuntime) -> Result<(), Fail> {
-    let table = [
-        ("I=A", "**A", 439, "", 0),
-        ("I=-A", "-A", 658, "", 0),
-        ("I=A", ".OR.A", 263, "", 0),
-        ("I=", "(", 64, "A)", 1),
-        ("I=", "A**A**A**A**A**A**(", 64, "A)", 1),
-        ("I=", ".NOT.-A*B**(", 64, "A)", 1),
-        ("I=", "A(A,", 64, "A)", 1),
-    ];
-    for (front, more, count, end, closed) in table {
+fn longest_texts(rt: HostRuntime) -> Result<(), Fail> {
+    for &(front, more, count, end, closed) in LONGEST {
         let mut text = Vec::from_slice(rt.alloc(), front.as_bytes())?;
         repeated(&mut text, more.as_bytes(), count)?;
         text.extend_from_slice(end.as_bytes())?;
-        if closed == 1 {
-            repeated(&mut text, b")", 63)?;
-        }
+        repeated(&mut text, b")", closed)?;
         let read = bare_of(rt.alloc(), &text)?.ok_or("the text is too long")?;
-        assert!(rt; form(rt.alloc(), &read).is_ok(), "{more}");
+        assert!(rt; form(rt.alloc(), &read).is_ok(), "{front}{more}");
     }
     Ok(())
-}
-
-/// A front, 650 times the same text, and an end are read within the stack.
-fn reads_long(
-    rt: &impl Abort,
-    alloc: Global,
-    front: &str,
-    more: &str,
-    end: &str,
-) -> Result<(), Fail> {
-    let mut text = Vec::from_slice(alloc, front.as_bytes())?;
-    repeated(&mut text, more.as_bytes(), 650)?;
-    text.extend_from_slice(end.as_bytes())?;
-    let read = bare_of(alloc, &text)?.ok_or("the text is too long")?;
-    assert!(rt; form(alloc, &read).is_ok(), "{front}");
-    Ok(())
-}
-
-#[test]
-fn long_expressions(rt: HostRuntime) -> Result<(), Fail> {
-    reads_long(&rt, rt.alloc(), "I=1", "-1", "")
-}
-
-#[test]
-fn long_subscripts(rt: HostRuntime) -> Result<(), Fail> {
-    reads_long(&rt, rt.alloc(), "I=A(1", ",1", ")")?;
-    reads_long(&rt, rt.alloc(), "A(1", ",1", ")=1")
-}
-
-#[test]
-fn long_lists(rt: HostRuntime) -> Result<(), Fail> {
-    reads_long(&rt, rt.alloc(), "WRITE(6,10)I", ",I", "")?;
-    reads_long(&rt, rt.alloc(), "PRINT10,I", ",I", "")?;
-    reads_long(&rt, rt.alloc(), "DATAI", ",I", "/1/")
-}
-
-#[test]
-fn long_declarations(rt: HostRuntime) -> Result<(), Fail> {
-    reads_long(&rt, rt.alloc(), "INTEGERI", ",I", "")?;
-    reads_long(&rt, rt.alloc(), "INTEGERI(1", ",1", ")")?;
-    reads_long(&rt, rt.alloc(), "DATAI/1", ",1", "/")
 }
