@@ -69,8 +69,8 @@ fn broken_rule(order: Order, so_far: &Open, item: &Item) -> Option<Rule>
 }
 
 /// A rule that is broken at a statement.
-fn broken_at(item: Item, rule: Rule) -> Broken
-    ensures { result ≡ record { line = item.line; rule = rule } }
+fn broken_at(item: &Item, rule: Rule) -> Broken
+    ensures { result ≡ record { line = item.now.line; rule = rule } }
 {
     Broken {
         line: item.line,
@@ -84,7 +84,10 @@ fn told(broken: Option<Broken>, so_far: Open) -> Result<Tree, Refusal>
     ensures sure { result ≢ Err Refusal.Memory }
 {
     match broken {
-        Some(Broken { line, rule }) => Err(Refusal::Rule { rule, line }),
+        Some(Broken { line, rule }) => {
+            drop(so_far);
+            Err(Refusal::Rule { rule, line })
+        }
         None => Ok(Tree {
             body: into_innermost(so_far),
         }),
@@ -109,7 +112,8 @@ pub fn tree(alloc: Global, items: Vec<Item>) -> Result<Tree, Refusal>
     let mut so_far = Open::Body(Vec::new(alloc));
     for item in items {
         if let Some(rule) = broken_rule(order, &so_far, &item) {
-            let here = broken_at(item, rule);
+            let here = broken_at(&item, rule);
+            drop(item);
             return told(lesser(missing, Some(here)), so_far);
         }
         order = order.with(&item);

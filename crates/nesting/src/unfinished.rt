@@ -1,9 +1,9 @@
 //! A program unit as far as it was read, and what may stand behind it.
 
 ghost use Rattle.std.specs.Prelude.{◌≡◌, nat_le, length, IfOk};
-ghost use Rattle.meaning.specs.Nesting.{levels, innermost, is_stray as stray, is_named as named_by, is_hidden as hidden_by, is_end_in_range as ends_in_range, is_crossing, is_too_deep, breaks_nesting, is_ended as ended_by, add as added, next_arm as next_arm_of, close_block as close_block_of, past as past_of, ended, joined, effect_of};
+ghost use Rattle.meaning.specs.Nesting.{levels, innermost, is_stray as stray, is_named as named_by, is_hidden as hidden_by, is_end_in_range as ends_in_range, is_crossing, is_too_deep, breaks_nesting, is_ended as ended_by, add as added, next_arm as next_arm_of, close_block as close_block_of, with_arm as with_arm_of, range, branch, past as past_of, ended, joined, effect_of};
 ghost use Rattle.meaning.specs.Rules.{is_label_at};
-ghost use Rattle.meaning.specs.Trees.{item_tree, member_before, members_tree, none, plain, loop};
+ghost use Rattle.meaning.specs.Trees.{item_tree, member_before, members_tree, arms_tree, none, plain, loop, block, no_arms};
 ghost use Rattle.nesting.specs.Open.{unfinished, effect};
 
 use crate::effect::{
@@ -191,8 +191,27 @@ pub fn into_innermost(so_far: Open) -> Vec<Member>
     match so_far {
         Open::Ended(members) => members,
         Open::Body(members) => members,
-        Open::Range { members, .. } => members,
-        Open::Branch { members, .. } => members,
+        Open::Range {
+            head,
+            label: _,
+            members,
+            around,
+        } => {
+            drop(head);
+            drop(around);
+            members
+        }
+        Open::Branch {
+            arms,
+            head,
+            members,
+            around,
+        } => {
+            drop(arms);
+            drop(head);
+            drop(around);
+            members
+        }
     }
 }
 
@@ -201,8 +220,13 @@ fn with_last(members: Vec<Member>, member: Member) -> Result<Vec<Member>, AllocE
     ensures { IfOk result (λ z. members_tree z.items ≡ joined (members_tree members.items) (member_before member none)) }
 {
     let mut longer = members;
-    longer.push(member)?;
-    Ok(longer)
+    match longer.push(member) {
+        Ok(()) => Ok(longer),
+        Err(refused) => {
+            drop(longer);
+            Err(refused.into())
+        }
+    }
 }
 
 /// A DO statement with its range, as one member.
@@ -210,6 +234,32 @@ fn whole_loop(head: Item, range: Vec<Member>) -> Member
     ensures { member_before result none ≡ loop (item_tree head) (members_tree range.items) none }
 {
     Member::Loop(Loop { head, range })
+}
+
+/// An open block IF with one member more in the arm that is read.
+fn branch_with(
+    arms: Vec<Arm>,
+    head: Item,
+    members: Vec<Member>,
+    around: Box<Open>,
+    member: Member,
+) -> Result<Open, AllocError>
+    ensures { IfOk result (λ z. unfinished z ≡ branch (arms_tree arms.items) (item_tree head) (joined (members_tree members.items) (member_before member none)) (unfinished around.value)) }
+{
+    match with_last(members, member) {
+        Ok(members) => Ok(Open::Branch {
+            arms,
+            head,
+            members,
+            around,
+        }),
+        Err(refused) => {
+            drop(arms);
+            drop(head);
+            drop(around);
+            Err(refused)
+        }
+    }
 }
 
 /// One member more in the innermost list; its last statement's label ends the innermost ranges that name it.
@@ -224,30 +274,45 @@ fn with_member(so_far: Open, label: Option<u64>, member: Member) -> Result<Open,
             label: other,
             members,
             around,
-        } => {
-            let members = with_last(members, member)?;
-            if is_label(label, other) {
-                with_member(Box::into_inner(around), label, whole_loop(head, members))
-            } else {
-                Ok(Open::Range {
-                    head,
-                    label: other,
-                    members,
-                    around,
-                })
+        } => match with_last(members, member) {
+            Ok(members) => {
+                if is_label(label, other) {
+                    with_member(Box::into_inner(around), label, whole_loop(head, members))
+                } else {
+                    Ok(Open::Range {
+                        head,
+                        label: other,
+                        members,
+                        around,
+                    })
+                }
             }
-        }
+            Err(refused) => {
+                drop(head);
+                drop(around);
+                Err(refused)
+            }
+        },
         Open::Branch {
             arms,
             head,
             members,
             around,
-        } => Ok(Open::Branch {
-            arms,
-            head,
-            members: with_last(members, member)?,
-            around,
-        }),
+        } => branch_with(arms, head, members, around, member),
+    }
+}
+
+/// The arms of a block IF with the one that was read.
+fn with_arm(arms: Vec<Arm>, head: Item, body: Vec<Member>) -> Result<Vec<Arm>, AllocError>
+    ensures { IfOk result (λ z. arms_tree z.items ≡ with_arm_of (arms_tree arms.items) (item_tree head) (members_tree body.items)) }
+{
+    let mut longer = arms;
+    match longer.push(Arm { head, body }) {
+        Ok(()) => Ok(longer),
+        Err(refused) => {
+            drop(longer);
+            Err(refused.into())
+        }
     }
 }
 
@@ -257,24 +322,35 @@ fn next_arm(alloc: Global, so_far: Open, item: Item) -> Result<Open, AllocError>
 {
     match so_far {
         Open::Branch {
-            mut arms,
+            arms,
             head,
             members,
             around,
-        } => {
-            arms.push(Arm {
-                head,
-                body: members,
-            })?;
-            Ok(Open::Branch {
+        } => match with_arm(arms, head, members) {
+            Ok(arms) => Ok(Open::Branch {
                 arms,
                 head: item,
                 members: Vec::new(alloc),
                 around,
-            })
+            }),
+            Err(refused) => {
+                drop(around);
+                drop(item);
+                Err(refused)
+            }
+        },
+        other => {
+            drop(item);
+            Ok(other)
         }
-        other => Ok(other),
     }
+}
+
+/// A block IF with its END IF statement, as one member.
+fn whole_block(arms: Vec<Arm>, end: Item) -> Member
+    ensures { member_before result none ≡ block (arms_tree arms.items) (item_tree end) none }
+{
+    Member::Block(Block { arms, end })
 }
 
 /// The innermost block IF as a member of the list that holds it, behind END IF.
@@ -283,20 +359,25 @@ fn close_block(so_far: Open, item: Item) -> Result<Open, AllocError>
 {
     match so_far {
         Open::Branch {
-            mut arms,
+            arms,
             head,
             members,
             around,
-        } => {
-            let ends = label_of(&item);
-            arms.push(Arm {
-                head,
-                body: members,
-            })?;
-            let whole = Member::Block(Block { arms, end: item });
-            with_member(Box::into_inner(around), ends, whole)
+        } => match with_arm(arms, head, members) {
+            Ok(arms) => {
+                let ends = label_of(&item);
+                with_member(Box::into_inner(around), ends, whole_block(arms, item))
+            }
+            Err(refused) => {
+                drop(around);
+                drop(item);
+                Err(refused)
+            }
+        },
+        other => {
+            drop(item);
+            Ok(other)
         }
-        other => Ok(other),
     }
 }
 
@@ -308,24 +389,50 @@ fn close_unit(so_far: Open, item: Item) -> Result<Open, AllocError>
     Ok(Open::Ended(with_last(members, Member::Plain(item))?))
 }
 
+/// The range of a DO statement, which names the label, is open.
+fn open_range(alloc: Global, so_far: Open, head: Item, label: u64) -> Result<Open, AllocError>
+    ensures { IfOk result (λ z. unfinished z ≡ range (item_tree head) label none (unfinished so_far)) }
+{
+    match Box::new(alloc, so_far) {
+        Ok(around) => Ok(Open::Range {
+            head,
+            label,
+            members: Vec::new(alloc),
+            around,
+        }),
+        Err(refused) => {
+            drop(head);
+            Err(refused.into())
+        }
+    }
+}
+
+/// The block IF of an IF THEN statement is open.
+fn open_block(alloc: Global, so_far: Open, head: Item) -> Result<Open, AllocError>
+    ensures { IfOk result (λ z. unfinished z ≡ branch no_arms (item_tree head) none (unfinished so_far)) }
+{
+    match Box::new(alloc, so_far) {
+        Ok(around) => Ok(Open::Branch {
+            arms: Vec::new(alloc),
+            head,
+            members: Vec::new(alloc),
+            around,
+        }),
+        Err(refused) => {
+            drop(head);
+            Err(refused.into())
+        }
+    }
+}
+
 /// The program unit as far as it was read, with one statement more.
 #[tactic(auto, unfolding(meaning::specs::Nesting::past))]
 pub fn past(alloc: Global, so_far: Open, item: Item) -> Result<Open, AllocError>
     ensures { IfOk result (λ z. unfinished z ≡ past_of (unfinished so_far) (item_tree item)) }
 {
     match effect_of_item(&item) {
-        Effect::OpensRange(label) => Ok(Open::Range {
-            head: item,
-            label,
-            members: Vec::new(alloc),
-            around: Box::new(alloc, so_far)?,
-        }),
-        Effect::OpensBlock => Ok(Open::Branch {
-            arms: Vec::new(alloc),
-            head: item,
-            members: Vec::new(alloc),
-            around: Box::new(alloc, so_far)?,
-        }),
+        Effect::OpensRange(label) => open_range(alloc, so_far, item, label),
+        Effect::OpensBlock => open_block(alloc, so_far, item),
         Effect::OpensArm => next_arm(alloc, so_far, item),
         Effect::ClosesBlock => close_block(so_far, item),
         Effect::ClosesUnit => close_unit(so_far, item),
