@@ -1,12 +1,10 @@
-//! Tests of reading: the lines and columns of a source, bare texts, forms, and how statements nest.
+//! Tests of reading: the lines and columns of a source, bare texts, and how statements nest.
 #![tactic(auto)]
 
 #[cfg(test)]
 mod bare_texts;
 #[cfg(test)]
 mod columns;
-#[cfg(test)]
-mod forms;
 #[cfg(test)]
 mod nested;
 #[cfg(test)]

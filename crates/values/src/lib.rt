@@ -274,6 +274,3 @@ pub fn values<N: Numbering, S: Store>(
     }
     Ok(Ok(found))
 }
-
-#[cfg(test)]
-mod tests;
