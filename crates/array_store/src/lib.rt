@@ -6,6 +6,3 @@ mod whole;
 
 pub use store::Store;
 pub use whole::Whole;
-
-#[cfg(test)]
-mod tests;

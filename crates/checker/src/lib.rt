@@ -10,6 +10,3 @@ mod storage;
 
 pub use program::{Program, Storage};
 pub use rules::check;
-
-#[cfg(test)]
-mod tests;

@@ -13,6 +13,3 @@ pub use editing::edit;
 pub use fault::{EditFault, FormatFault};
 pub use format::{Descriptor, Format, Part};
 pub use laws::one_format;
-
-#[cfg(test)]
-mod tests;

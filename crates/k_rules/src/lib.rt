@@ -30,6 +30,3 @@ pub use formats::{format_of, label_of};
 pub use gathered::{add_name, add_names_used};
 pub use items::items_of;
 pub use rules::judge;
-
-#[cfg(test)]
-mod tests;

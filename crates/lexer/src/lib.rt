@@ -8,6 +8,3 @@ mod statement_kind;
 pub use bare_text::{bare, bare_bytes};
 pub use scan::{begins, has_equals_sign, is_balanced, is_too_deep};
 pub use statement_kind::{kind, kind_of_text};
-
-#[cfg(test)]
-mod tests;

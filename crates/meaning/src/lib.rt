@@ -8,5 +8,3 @@ pub mod number;
 pub mod refusal;
 pub mod statement;
 pub mod syntax;
-#[cfg(test)]
-mod tests;

@@ -9,6 +9,3 @@ mod unfinished;
 
 pub use laws::{nests_exactly, one_nesting, refuses_exactly, rule_told};
 pub use nesting::tree;
-
-#[cfg(test)]
-mod tests;

@@ -16,6 +16,3 @@ mod token;
 
 pub use laws::{one_kind, one_reading, one_spelling};
 pub use statement::form;
-
-#[cfg(test)]
-mod tests;

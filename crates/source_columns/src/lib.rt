@@ -8,6 +8,3 @@ mod reading;
 mod statement_lines;
 
 pub use reading::statements;
-
-#[cfg(test)]
-mod tests;

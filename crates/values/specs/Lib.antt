@@ -1,4 +1,3 @@
 pub mod Listed
 pub mod Places
 pub mod Dimensions
-pub mod Sample

@@ -275,6 +275,3 @@ pub fn values<N: Numbering, S: Store>(
     }
     Ok(Ok(found))
 }
-
-#[cfg(test)]
-mod tests;
