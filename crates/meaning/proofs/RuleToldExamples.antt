@@ -1,10 +1,10 @@
 -- Worked examples of what is open behind some statements, and of the rules that a further one breaks.
-use Rattle.std.proofs.Common.{◌≡◌, ℕ, ◌<◌, false, List, [], ◌∷◌, ◌++◌, Some, None, refl, arith, inl, inr}
+use Rattle.std.proofs.Common.{◌≡◌, ℕ, true, false, List, [], ◌∷◌, ◌++◌, Some, None, refl, arith, inl, inr}
 use Rattle.std.specs.Prelude.{codes}
-use Rattle.meaning.specs.Syntax.{ItemTree, ShapeTree, ExprTree, number, doing, continuing, ending, block_if, else_if, otherwise, end_if}
-use Rattle.meaning.specs.Trees.{none, plain, loop, block, no_arms, arm}
-use Rattle.meaning.specs.Nesting.{closes_unit, closes_block, opens_arm}
-use Rattle.meaning.specs.RuleTold.{IsInnermost, InnermostIs, IsArm, IsEarlierArm, IsDo, HasRange, HasBlockedRange, blocks_begun, blocks_ended, IsOutOfPlace, Crosses, ends_too_early, may_not_end, names_too_late, ends_in_range}
+use Rattle.meaning.specs.Syntax.{ItemTree, ShapeTree, number, doing, continuing, ending, block_if, otherwise, end_if}
+use Rattle.meaning.specs.Trees.{none, plain, block, no_arms, arm, flat}
+use Rattle.meaning.specs.Nesting.{closes_unit, opens_arm}
+use Rattle.meaning.specs.RuleTold.{IsInnermost, InnermostIs, IsEarlierArm, HasBlockedRange, blocks_begun, blocks_ended, IsOutOfPlace, Crosses, ends_too_early, may_not_end, names_too_late, ends_in_range}
 
 abbrev at : ShapeTree → ItemTree
 at s = record { line = 1; label = None; shape = s }
@@ -35,11 +35,11 @@ end_in_block = record {
 
 -- nothing is open behind no statement, so ELSE is out of place
 nothing_open : (P : ItemTree → Type 0) → InnermostIs P [] → ⊥
-nothing_open P i = by_front i.innermost.front i.innermost.parts
+nothing_open P i = by_front i.head (flat i.innermost.inside) i.innermost.front i.innermost.parts
   where
-    by_front : {head : ItemTree} {rest : List ItemTree} (front : List ItemTree) → [] ≡ front ++ (head ∷ rest) → ⊥
-    by_front [] e = cc
-    by_front (x ∷ front) e = cc
+    by_front : (head : ItemTree) (rest front : List ItemTree) → [] ≡ front ++ (head ∷ rest) → ⊥
+    by_front head rest [] e = cc
+    by_front head rest (x ∷ front) e = cc
 
 else_alone : IsOutOfPlace opens_arm []
 else_alone = nothing_open IsEarlierArm

@@ -4,8 +4,8 @@ use Rattle.std.specs.Prelude.{◌⊎◌, IsTrue}
 use Rattle.std.proofs.lemmas.List.Sums.{sum_by-cons, sum_by-append}
 use Rattle.meaning.specs.Syntax.{ItemTree}
 use Rattle.meaning.specs.Trees.{Members, none, plain, loop, block, Arms, no_arms, arm, flat, flat_arms}
-use Rattle.meaning.specs.Nesting.{Effect, opens_range, opens_block, opens_arm, closes_block, closes_unit, stands, effect_of, is_else, IsRange, IsWell, AreFurther, AreArms}
-use Rattle.meaning.specs.RuleTold.{LackLabel, IsOpenBehind, IsInnermost, begins_arm, begins_block, ends_block, blocks_begun, blocks_ended}
+use Rattle.meaning.specs.Nesting.{Effect, opens_range, opens_block, opens_arm, closes_block, closes_unit, stands, effect_of, is_else, IsRange, IsWell, AreFurther}
+use Rattle.meaning.specs.RuleTold.{LackLabel, IsOpenBehind, IsInnermost, begins_block, ends_block, blocks_begun, blocks_ended}
 use Rattle.nesting.proofs.Names.{all_left, all_right}
 
 -- ---- where a statement of two lists stands

@@ -1,12 +1,12 @@
 -- What is open behind some statements, said of these statements.
-use Rattle.std.proofs.Common.{◌≡◌, ℕ, suc, ◌+◌, ◌<◌, ◌≤◌, Bool, true, false, List, [], ◌∷◌, ◌++◌, length, Option, Some, None, refl, sym, ap, subst, ◌∙◌, arith, inl, inr, append_assoc}
+use Rattle.std.proofs.Common.{◌≡◌, ℕ, suc, ◌≤◌, Bool, true, false, List, [], ◌∷◌, ◌++◌, length, Option, Some, None, refl, sym, ap, subst, ◌∙◌, arith, inl, inr, append_assoc}
 use Rattle.std.specs.Prelude.{◌⊎◌, ◌&&◌, ◌||◌, not, IsTrue, IsFalse}
 use Rattle.std.specs.List.{AllByRecursion}
 use Rattle.meaning.specs.Rules.{is_label_at, has_label}
 use Rattle.meaning.specs.Syntax.{ItemTree}
-use Rattle.meaning.specs.Trees.{Members, none, Arms, no_arms, arm, flat, flat_arms}
-use Rattle.meaning.specs.Nesting.{Unfinished, ended, body, range, branch, Level, in_range, in_block, Effect, opens_range, opens_block, opens_arm, closes_block, closes_unit, stands, effect_of, levels, is_ended, is_else, is_named, is_hidden, is_stray, is_end_in_range, is_crossing, named, may_end, joined_arms, IsWell, AreArms, AreFurther}
-use Rattle.meaning.specs.RuleTold.{begins_arm, LackLabel, IsOpenBehind, IsInnermost, InnermostIs, IsArm, IsEarlierArm, IsDo, HasRange, HasOtherRange, blocks_begun, blocks_ended, HasMoreOpen, HasBlockedRange, AtLabel, IsOutOfPlace, Crosses, ends_too_early, may_not_end, names_too_late, ends_in_range}
+use Rattle.meaning.specs.Trees.{Members, Arms, no_arms, arm, flat, flat_arms}
+use Rattle.meaning.specs.Nesting.{Unfinished, ended, body, range, branch, Level, in_range, Effect, opens_range, opens_block, opens_arm, closes_block, closes_unit, stands, effect_of, levels, is_ended, is_else, is_named, is_hidden, is_stray, is_end_in_range, is_crossing, named, may_end, joined_arms, IsWell, AreArms, AreFurther}
+use Rattle.meaning.specs.RuleTold.{begins_arm, LackLabel, IsOpenBehind, IsInnermost, InnermostIs, IsArm, IsEarlierArm, IsDo, HasRange, blocks_begun, blocks_ended, HasMoreOpen, HasBlockedRange, AtLabel, IsOutOfPlace, Crosses, ends_too_early, may_not_end, names_too_late, ends_in_range}
 use Rattle.nesting.proofs.Joined.{flat_with_arm}
 use Rattle.nesting.proofs.Names.{IsFresh, or_left, or_right, and_not, none_named, none_hidden, same_label, label_is, hidden_behind_same, hidden_behind_other, named_behind_other, fresh_unhidden, all_append, all_left, all_follow, fresh_around, fresh_other}
 use Rattle.nesting.proofs.Sound.{IsOpenRange, IsOpenBlock, IsSound, text}

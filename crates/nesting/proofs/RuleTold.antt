@@ -1,14 +1,14 @@
 -- The rule that is told at the first statement up to which no program unit begins, by the statements before it.
 use Rattle.std.proofs.Common.{◌≡◌, ℕ, zero, suc, ◌<◌, ◌≤◌, Bool, true, false, List, [], ◌∷◌, ◌++◌, length, Option, Some, None, Err, refl, sym, ap, subst, ◌∙◌, arith, inl, inr}
-use Rattle.std.specs.Prelude.{◌⊎◌, ◌&&◌, ◌||◌, not, nat_le, if◌then◌else◌, IsFalse}
+use Rattle.std.specs.Prelude.{◌&&◌, ◌||◌, not, nat_le, if◌then◌else◌}
 use Rattle.std.proofs.lemmas.List.Folds.{list_any-append}
 use Rattle.meaning.specs.declared.refusal.Broken.{Broken}
 use Rattle.meaning.specs.declared.refusal.Rule.{Rule}
 use Rattle.meaning.specs.declared.refusal.Rule.TheVariants.{N1, N2, N3, N4, N5}
 use Rattle.meaning.specs.Ranks.{rank_of}
 use Rattle.meaning.specs.Syntax.{ItemTree}
-use Rattle.meaning.specs.Trees.{Members, none, plain, flat}
-use Rattle.meaning.specs.Nesting.{Unfinished, ended, body, range, branch, Effect, start, levels, effect_of, is_end, is_ended, is_misplaced, is_stray, is_crossing, is_too_deep, is_opening, behind, breaks, past, told_first, first_broken, nest, IsViable, GoesTooFar, IsBroken}
+use Rattle.meaning.specs.Trees.{none, plain, flat}
+use Rattle.meaning.specs.Nesting.{Unfinished, ended, body, range, branch, start, levels, effect_of, is_end, is_ended, is_misplaced, is_stray, is_crossing, is_too_deep, is_opening, behind, breaks, past, told_first, first_broken, nest, IsViable, GoesTooFar, IsBroken}
 use Rattle.meaning.specs.RuleTold.{IsOutOfPlace, Crosses, IsBrokenBy, IsLeastBroken, IsFirstBroken, IsPair, IsTold}
 use Rattle.nesting.proofs.Joined.{flat_joined}
 use Rattle.nesting.proofs.Sound.{IsSound, text}
