@@ -1,7 +1,7 @@
 //! Formats as values.
 
 /// An edit descriptor (ANSI X3.9-1978, 13.5). Each number but `least` is 1 to 9999 where a text was read.
-#[derive(Debug, Drop)]
+#[derive(Drop)]
 pub enum Descriptor {
     /// `Iw.m`: an integer in so many positions, with at least m digits, 0 to 9999. `Iw` is `Iw.1` (13.5.9.1).
     Integer { width: u16, least: u16 },

@@ -44,7 +44,9 @@ pub fn is_label_or_blank(field: &[u8]) -> bool
 /// The statement label in columns 1 to 5.
 pub fn label_in(field: &[u8]) -> Option<u32>
     requires { length field.now ≤ 5 }
-    ensures { result ≡ (if list_any is_digit field.now then Some (number_of (filter is_digit field.now)) else None) }
+    ensures { result ≡ (if list_any is_digit field.now
+        then Some (number_of (filter is_digit field.now))
+        else None) }
 {
     if has_digit(field) {
         Some(number_in(field))

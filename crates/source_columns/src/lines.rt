@@ -23,8 +23,12 @@ fn without_carriage_return(piece: &[u8]) -> &[u8]
 /// The bytes up to the first line feed, and those behind it.
 #[tactic(auto, unfolding(meaning::specs::Lines::pieces))]
 fn first_piece(source: &[u8]) -> Option<(&[u8], &[u8])>
-    ensures pieces { MatchOption result (pieces source.now ≡ []) (λ x. pieces source.now ≡ x.0.now ∷ pieces x.1.now) }
-    ensures shorter { MatchOption result (length source.now ≡ 0) (λ x. length x.1.now < length source.now) }
+    ensures pieces { MatchOption result
+        (pieces source.now ≡ [])
+        (λ x. pieces source.now ≡ x.0.now ∷ pieces x.1.now) }
+    ensures shorter { MatchOption result
+        (length source.now ≡ 0)
+        (λ x. length x.1.now < length source.now) }
 {
     if source.is_empty() {
         return None;
@@ -38,8 +42,12 @@ fn first_piece(source: &[u8]) -> Option<(&[u8], &[u8])>
 /// The first line of a source without its end, and what stands behind it.
 #[tactic(auto, unfolding(meaning::specs::Lines::lines_of))]
 pub fn first_line(source: &[u8]) -> Option<(&[u8], &[u8])>
-    ensures lines { MatchOption result (lines_of source.now ≡ []) (λ x. lines_of source.now ≡ x.0.now ∷ lines_of x.1.now) }
-    ensures shorter { MatchOption result (length source.now ≡ 0) (λ x. length x.1.now < length source.now) }
+    ensures lines { MatchOption result
+        (lines_of source.now ≡ [])
+        (λ x. lines_of source.now ≡ x.0.now ∷ lines_of x.1.now) }
+    ensures shorter { MatchOption result
+        (length source.now ≡ 0)
+        (λ x. length x.1.now < length source.now) }
 {
     let (piece, rest) = first_piece(source)?;
     Some((without_carriage_return(piece), rest))

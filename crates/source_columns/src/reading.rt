@@ -1,13 +1,11 @@
 //! The statements of a source, or the rule that it breaks (ANSI X3.9-1978, 3.2 to 3.4).
 
-ghost use Rattle.std.specs.Prelude.{◌≡◌, ◌+◌, ◌≤◌, ◌<◌, ◌∷◌, ◌++◌, [], map, not, length, IsTrue, IfOk, MatchResult, vec_len, if◌then◌else◌};
-ghost use Rattle.std.specs.List.{flat_map};
-ghost use Rattle.meaning.specs.Lines.{lines_of, statement_field, statement_lines};
-ghost use Rattle.meaning.specs.Refusals.{unless, with_first};
+ghost use Rattle.std.specs.Prelude.{◌≡◌, ◌+◌, ◌≤◌, map, not, length, IsTrue, IfOk, MatchResult, vec_len, if◌then◌else◌};
+ghost use Rattle.meaning.specs.Lines.{lines_of};
 ghost use Rattle.meaning.specs.Reports.{Gives, Tells};
-ghost use Rattle.meaning.specs.Statements.{is_blank_field, is_unpaired, text_of, continuations, entry_of, is_too_long, statements_in, statements_of};
-ghost use Rattle.source_columns.specs.Views.{line_of};
-ghost use Rattle.source_columns.specs.Continuing.{rule_behind, first_broken, behind};
+ghost use Rattle.meaning.specs.Statements.{is_blank_field, is_unpaired, text_of, entry_of, is_too_long, statements_in, statements_of};
+ghost use Rattle.source_columns.specs.Views.{lines_from, lines_at, group_of, Begins};
+ghost use Rattle.source_columns.specs.Continuing.{rule_behind, behind, joined};
 
 use crate::cards::{
     COLUMNS, are_printable, is_blank, is_initial_line, is_paired, label_columns, text_columns,
@@ -56,7 +54,7 @@ fn broken(line: u32, rule: Rule) -> Refusal
 /// Whether the apostrophes of a statement come in pairs, over all its lines.
 fn is_text_paired(first: &StatementLine) -> bool
     requires { first.now.number + 1 + length (lines_of first.now.behind.now) ≤ 65536 }
-    ensures { result ≡ not (is_unpaired (text_of (record { initial = line_of first.now; continued = continuations (statement_lines (first.now.number + 1) (lines_of first.now.behind.now)) }))) }
+    ensures { result ≡ not (is_unpaired (text_of (group_of first.now))) }
 {
     let mut paired = is_paired(text_columns(&first.columns));
     let mut number = first.number + 1;
@@ -101,8 +99,8 @@ fn rule_broken(count: usize, columns: &[u8; COLUMNS]) -> Option<Rule>
 fn joined_text<'a>(text: Vec<u8>, first: u32, source: &'a [u8]) -> Result<Continued<'a>, Refusal>
     requires counted { first + length (lines_of source.now) ≤ 65536 }
     requires one_line { vec_len text ≡ 66 }
-    ensures joined { Gives (λ c. c.text.items) result (unless (first_broken 0 (continuations (statement_lines first (lines_of source.now)))) (text.items ++ flat_map (λ l. statement_field l.columns) (continuations (statement_lines first (lines_of source.now))))) }
-    ensures behind { IfOk result (λ c. statement_lines c.number (lines_of c.behind.now) ≡ behind (statement_lines first (lines_of source.now))) }
+    ensures joined { Gives (λ c. c.text.items) result (joined text.items (lines_from first source.now)) }
+    ensures behind { IfOk result (λ c. lines_from c.number c.behind.now ≡ behind (lines_from first source.now)) }
     ensures counted { IfOk result (λ c. c.number + length (lines_of c.behind.now) ≤ 65536) }
     ensures short { IfOk result (λ c. vec_len c.text ≤ 1320) }
     ensures shorter { IfOk result (λ c. length c.behind.now ≤ length source.now) }
@@ -130,7 +128,9 @@ fn joined_text<'a>(text: Vec<u8>, first: u32, source: &'a [u8]) -> Result<Contin
 /// The statement that a line begins, and what stands behind it, or the least rule that is broken from this line on.
 fn statement_at<'a>(alloc: Global, line: &StatementLine<'a>) -> Result<Split<'a>, Refusal>
     requires { line.now.number + 1 + length (lines_of line.now.behind.now) ≤ 65536 }
-    ensures exact { MatchResult result (λ s. statements_in (line_of line.now ∷ statement_lines (line.now.number + 1) (lines_of line.now.behind.now)) ≡ with_first (Ok (entry_of s.statement)) (statements_in (statement_lines s.number (lines_of s.behind.now)))) (λ e. Tells (statements_in (line_of line.now ∷ statement_lines (line.now.number + 1) (lines_of line.now.behind.now))) e) }
+    ensures exact { MatchResult result
+        (λ s. Begins (lines_at line.now) s.statement (lines_from s.number s.behind.now))
+        (λ e. Tells (statements_in (lines_at line.now)) e) }
     ensures counted { IfOk result (λ s. s.number + length (lines_of s.behind.now) ≤ 65536) }
     ensures shorter { IfOk result (λ s. length s.behind.now ≤ length line.now.behind.now) }
 {

@@ -1,9 +1,9 @@
 //! The lines of a source that are no comments (ANSI X3.9-1978, 3.2).
 
-ghost use Rattle.std.specs.Prelude.{◌≡◌, ◌+◌, ◌≤◌, ◌<◌, ◌∷◌, [], length, false, MatchOption};
-ghost use Rattle.meaning.specs.Lines.{lines_of, is_initial, statement_lines};
+ghost use Rattle.std.specs.Prelude.{◌≡◌, ◌+◌, ◌≤◌, ◌<◌, [], length, false, MatchOption};
+ghost use Rattle.meaning.specs.Lines.{lines_of, is_initial};
 ghost use Rattle.meaning.specs.Statements.{continuations};
-ghost use Rattle.source_columns.specs.Views.{line_of};
+ghost use Rattle.source_columns.specs.Views.{lines_from, lines_at};
 
 use crate::cards::{COLUMNS, card_of, is_comment_line, is_initial_line};
 use crate::lines::first_line;
@@ -22,8 +22,12 @@ pub struct StatementLine<'a> {
 #[tactic(auto, unfolding(meaning::specs::Lines::statement_lines))]
 pub fn first_statement_line(number: u32, source: &[u8]) -> Option<StatementLine>
     requires { number + length (lines_of source.now) ≤ 65536 }
-    ensures first { MatchOption result (statement_lines number (lines_of source.now) ≡ []) (λ l. statement_lines number (lines_of source.now) ≡ line_of l ∷ statement_lines (l.number + 1) (lines_of l.behind.now)) }
-    ensures counted { MatchOption result (Unit {0}) (λ l. l.number + 1 + length (lines_of l.behind.now) ≤ 65536) }
+    ensures first { MatchOption result
+        (lines_from number source.now ≡ [])
+        (λ l. lines_from number source.now ≡ lines_at l) }
+    ensures counted { MatchOption result
+        (Unit {0})
+        (λ l. l.number + 1 + length (lines_of l.behind.now) ≤ 65536) }
     ensures shorter { MatchOption result (Unit {0}) (λ l. length l.behind.now < length source.now) }
 {
     let mut number = number;
@@ -47,9 +51,13 @@ pub fn first_statement_line(number: u32, source: &[u8]) -> Option<StatementLine>
 /// this number.
 pub fn first_continuation_line(number: u32, source: &[u8]) -> Option<StatementLine>
     requires { number + length (lines_of source.now) ≤ 65536 }
-    ensures first { MatchOption result (continuations (statement_lines number (lines_of source.now)) ≡ []) (λ l. statement_lines number (lines_of source.now) ≡ line_of l ∷ statement_lines (l.number + 1) (lines_of l.behind.now)) }
+    ensures first { MatchOption result
+        (continuations (lines_from number source.now) ≡ [])
+        (λ l. lines_from number source.now ≡ lines_at l) }
     ensures continues { MatchOption result (Unit {0}) (λ l. is_initial l.columns ≡ false) }
-    ensures counted { MatchOption result (Unit {0}) (λ l. l.number + 1 + length (lines_of l.behind.now) ≤ 65536) }
+    ensures counted { MatchOption result
+        (Unit {0})
+        (λ l. l.number + 1 + length (lines_of l.behind.now) ≤ 65536) }
     ensures shorter { MatchOption result (Unit {0}) (λ l. length l.behind.now < length source.now) }
 {
     let line = first_statement_line(number, source)?;
