@@ -1,14 +1,1 @@
-pub mod Taken
-pub mod Placed
-pub mod Composed
-pub mod Wholes
-pub mod Assigned
-pub mod Limiting
-pub mod Executed
-pub mod Quotients
-pub mod Looped
-pub mod Quietly
-pub mod Silent
-pub mod Listed
-pub mod Searched
-pub mod Promised
+pub mod Front

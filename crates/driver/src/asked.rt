@@ -9,6 +9,9 @@ pub enum OptionsFault {
     TooManyFiles,
     #[error("there are no options; usage: f77run [FILE]")]
     NoSuchOption,
+    /// Told where the words are read: `options` takes texts.
+    #[error("an argument is not UTF-8; usage: f77run [FILE]")]
+    NotUtf8,
 }
 
 /// What a command line asks for.

@@ -1,11 +1,10 @@
 //! The program over readers and writers in memory. Expected bytes come from the rules of docs/LANGUAGE.md.
 
-use crate::engine::engine;
-use crate::run::run;
-use crate::sink::{Out, Sink};
+use executor::run::run;
+use executor::{Out, Sink};
 use meaning::ending::{Ending, Fault, FaultKind};
 use meaning::refusal::Rule;
-use std::alloc::{AllocError, Global};
+use std::alloc::Global;
 use std::io;
 use std::io::{ErrorKind, Write};
 use std::test::*;
@@ -13,6 +12,7 @@ use std::test::*;
 mod arrays;
 mod grammar;
 mod loops;
+mod program;
 
 /// A writer in memory that takes at most `step` bytes a call and `room` bytes in all; past that it answers 0, or an
 /// error.
@@ -297,57 +297,4 @@ fn a_record_broken_off(rt: HostRuntime) {
     let ending = run(rt.alloc(), source.as_slice(), MANY, &mut sink);
     assert_eq!(rt; ending, Ending::WriteRefused);
     assert_eq!(rt; sink.into_inner().bytes.as_slice(), b"ABC".as_slice());
-}
-
-// The status of the program, what it writes and its line on standard error.
-fn whole(
-    rt: &HostRuntime,
-    words: &[&str],
-    source: &[u8],
-    room: usize,
-) -> Result<(u8, Vec<u8>), AllocError> {
-    let mut input = source;
-    let mut err = Vec::new(rt.alloc());
-    let out = make_meter(rt.alloc(), usize::MAX, room, true);
-    let status = engine(rt, words, &mut input, out, &mut err);
-    Ok((status, err))
-}
-
-#[test]
-fn statuses(rt: HostRuntime) -> Result<(), Fail> {
-    let name = ["f77run"];
-    let rows = [
-        (ANSWER, 100, 0, ""),
-        ("", 100, 2, "REFUSED N2 LINE 1\n"),
-        (
-            "      I=2147483647\n      I=I+1\n      END\n",
-            100,
-            1,
-            "FAULT F2 LINE 2\n",
-        ),
-        (ANSWER, 3, 5, "WRITE REFUSED\n"),
-        // a flush that fails takes the place of the ending
-        (ANSWER, 7, 5, "WRITE REFUSED\n"),
-    ];
-    for (source, room, status, line) in rows {
-        let (found, told) = whole(&rt, name.as_slice(), source.as_bytes(), room)?;
-        assert_eq!(rt; found, status, "{source}");
-        assert_eq!(rt; told.as_slice(), line.as_bytes(), "{source}");
-    }
-    let (status, told) = whole(&rt, ["f77run", "a.f", "b.f"].as_slice(), b"", 100)?;
-    assert_eq!(rt; status, 3);
-    assert_eq!(rt;
-        told.as_slice(),
-        b"more than one file is named; usage: f77run [FILE]\n".as_slice()
-    );
-    let (status, told) = whole(&rt, ["f77run", "--turns"].as_slice(), b"", 100)?;
-    assert_eq!(rt; status, 3);
-    assert_eq!(rt;
-        told.as_slice(),
-        b"there are no options; usage: f77run [FILE]\n".as_slice()
-    );
-    let (status, told) = whole(&rt, ["f77run", "no such file.f"].as_slice(), b"", 100)?;
-    assert_eq!(rt; status, 5);
-    assert_eq!(rt; told.as_slice(), b"FILE REFUSED\n".as_slice());
-    Ok(())
 }

@@ -1,0 +1,269 @@
+//! The whole program over words, readers and writers in memory: its exit status and its line on standard error. The
+//! expected lines are worked from docs/LANGUAGE.md.
+
+use crate::engine::engine;
+use std::env::{Env, FillError};
+use std::io;
+use std::io::{ErrorKind, Read, Write};
+use std::process::Abort;
+use std::rt::Files;
+use std::test::*;
+
+/// The words of a command line.
+#[derive(Drop)]
+struct Words<'a> {
+    words: &'a [&'a [u8]],
+}
+
+impl Env for Words<'_> {
+    fn arg(&self, i: usize, buf: &mut [u8]) -> Result<usize, FillError> {
+        match self.words.get(i) {
+            None => Err(FillError::NotPresent),
+            Some(word) => {
+                if word.len() > buf.len() {
+                    return Err(FillError::TooLong);
+                }
+                buf[..word.len()].copy_from_slice(word);
+                Ok(word.len())
+            }
+        }
+    }
+
+    fn var(&self, _name: &str, _buf: &mut [u8]) -> Result<usize, FillError> {
+        Err(FillError::NotPresent)
+    }
+
+    fn var_at(&self, _i: usize, _buf: &mut [u8]) -> Result<usize, FillError> {
+        Err(FillError::NotPresent)
+    }
+}
+
+/// A reader that fails.
+#[derive(Drop)]
+struct Broken {
+    kind: ErrorKind,
+}
+
+impl Read for Broken {
+    fn read(&mut self, _buf: &mut [u8]) -> io::Result<usize> {
+        Err(io::Error::from(self.kind))
+    }
+}
+
+/// A writer that takes `room` bytes in all and then fails, at a flush too.
+#[derive(Drop)]
+struct Narrow {
+    room: usize,
+}
+
+impl Write for Narrow {
+    fn write(&mut self, buf: &[u8]) -> io::Result<usize> {
+        if self.room == 0 {
+            return Err(io::Error::from(ErrorKind::BrokenPipe));
+        }
+        let count = buf.len().min(self.room);
+        self.room -= count;
+        Ok(count)
+    }
+
+    fn flush(&mut self) -> io::Result<()> {
+        if self.room == 0 {
+            return Err(io::Error::from(ErrorKind::BrokenPipe));
+        }
+        Ok(())
+    }
+}
+
+/// What a run of the program left: its exit status, and what stands on standard output and standard error.
+#[derive(Drop)]
+struct Left {
+    status: u8,
+    out: Vec<u8>,
+    err: Vec<u8>,
+}
+
+// The turns that the program is given here.
+const TURNS: u64 = 1_000;
+
+// Runs the program of some words over a reader.
+fn left<R: Files + AllocGlobal, I: Read>(rt: &R, words: &[&[u8]], input: &mut I) -> Left {
+    let mut out = Vec::new(rt.alloc());
+    let mut err = Vec::new(rt.alloc());
+    let status = engine(&Words { words }, rt, TURNS, input, &mut out, &mut err);
+    Left { status, out, err }
+}
+
+// Runs the program over standard input, and expects a status and a line.
+fn expect_line<R: Files + AllocGlobal + Abort, I: Read>(
+    rt: &R,
+    input: &mut I,
+    status: u8,
+    line: &str,
+) {
+    let left = left(rt, &[b"f77run"], input);
+    assert_eq!(rt; left.err.as_slice(), line.as_bytes(), "{line}");
+    assert_eq!(rt; left.status, status, "{line}");
+    assert!(rt; left.out.is_empty(), "{line}");
+}
+
+const ANSWER: &str = "      WRITE (6,10) 42\n   10 FORMAT (1X,I5)\n      END\n";
+
+// A source that breaks one rule, and the line of the program.
+const REFUSALS: &[(&str, &str)] = &[
+    ("      I=\t1\n      END\n", "REFUSED C1 LINE 1\n"),
+    ("  00  I=1\n      END\n", "REFUSED C2 LINE 1\n"),
+    ("      I=1\n10   1+2\n      END\n", "REFUSED C3 LINE 2\n"),
+    ("     1+2\n      END\n", "REFUSED C4 LINE 1\n"),
+    // the 20th continuation line
+    (
+        "      I=1\n     1+1\n     1+1\n     1+1\n     1+1\n     1+1\n     1+1\n     1+1\n     1+1\n     1+1\n     1+1\n     1+1\n     1+1\n     1+1\n     1+1\n     1+1\n     1+1\n     1+1\n     1+1\n     1+1\n     1+1\n      END\n",
+        "REFUSED C5 LINE 21\n",
+    ),
+    ("      I='A\n      END\n", "REFUSED C6 LINE 1\n"),
+    ("      I=2*-3\n      END\n", "REFUSED G1 LINE 1\n"),
+    ("      READ (5,*) N\n      END\n", "REFUSED G2 LINE 1\n"),
+    // 65 parentheses open at once
+    (
+        "      (((((((((((((((((((((((((((((((((((((((((((((((((((((((((((((((((\n",
+        "REFUSED G3 LINE 1\n",
+    ),
+    ("      I=1\n      INTEGER A(2)\n      END\n", "REFUSED N1 LINE 2\n"),
+    ("      I=1\n", "REFUSED N2 LINE 1\n"),
+    ("      I=1\n      ELSE\n      END\n", "REFUSED N3 LINE 2\n"),
+    ("      DO 10 I=1,2\n      END\n", "REFUSED N4 LINE 2\n"),
+    ("      I=1\n      GO TO 10\n   10 CONTINUE\n      END\n", "REFUSED K0 LINE 2\n"),
+    ("   10 I=1\n   10 J=1\n      END\n", "REFUSED K1 LINE 2\n"),
+    ("      X=1\n      END\n", "REFUSED K3 LINE 1\n"),
+    ("      INTEGER A,A\n      END\n", "REFUSED K4 LINE 1\n"),
+    ("      I=2147483648\n      END\n", "REFUSED K6 LINE 1\n"),
+    ("      INTEGER A(3:2)\n      END\n", "REFUSED K7 LINE 1\n"),
+    ("      INTEGER A(2)\n      I=A\n      END\n", "REFUSED K8 LINE 2\n"),
+    ("      DO 10 I=1,2\n   10 I=3\n      END\n", "REFUSED K9 LINE 2\n"),
+    ("      WRITE (5,10)\n   10 FORMAT ()\n      END\n", "REFUSED K11 LINE 1\n"),
+    ("      N(1)=0\n      END\n", "REFUSED K12 LINE 1\n"),
+    ("      J=1\n      I=N(1)\n      END\n", "REFUSED K13 LINE 2\n"),
+];
+
+// A source that faults before it writes anything, and the line of the program.
+const FAULTS: &[(&str, &str)] = &[
+    ("      J=5\n      I=1/(J-J)\n      END\n", "FAULT F1 LINE 2\n"),
+    ("      I=2147483647\n      I=I+1\n      END\n", "FAULT F2 LINE 2\n"),
+    ("      INTEGER A(2)\n      A(3)=1\n      END\n", "FAULT F3 LINE 2\n"),
+    // turn 1001: the DO statement takes one, and each assignment
+    (
+        "      DO 10 I=1,1000\n   10 J=I\n      END\n",
+        "FAULT F4 LINE 2\n",
+    ),
+    ("      DO 10 I=1,3,0\n   10 CONTINUE\n      END\n", "FAULT F5 LINE 1\n"),
+    ("      I=0**0\n      END\n", "FAULT F6 LINE 1\n"),
+    ("      WRITE (6,10) 1\n   10 FORMAT (3X)\n      END\n", "FAULT F7 LINE 1\n"),
+    // three records of 499,952 bytes
+    (
+        "      WRITE (6,10) 1,1,1\n   10 FORMAT (50(9999X),I1)\n      END\n",
+        "FAULT F8 LINE 1\n",
+    ),
+];
+
+#[test]
+fn refusals(rt: HostRuntime) {
+    for &(source, line) in REFUSALS {
+        let mut input = source.as_bytes();
+        expect_line(&rt, &mut input, 2, line);
+    }
+}
+
+#[test]
+fn deepest_ranges(rt: HostRuntime) -> Result<(), Fail> {
+    let mut source = Vec::new(rt.alloc());
+    for _ in 0..33 {
+        source.extend_from_slice(b"      DO 10 I=1,2\n")?;
+    }
+    source.extend_from_slice(b"   10 CONTINUE\n      END\n")?;
+    let mut input = source.as_slice();
+    expect_line(&rt, &mut input, 2, "REFUSED N5 LINE 33\n");
+    Ok(())
+}
+
+#[test]
+fn faults(rt: HostRuntime) {
+    for &(source, line) in FAULTS {
+        let mut input = source.as_bytes();
+        expect_line(&rt, &mut input, 1, line);
+    }
+}
+
+#[test]
+fn runs_to_its_end(rt: HostRuntime) {
+    let mut input = ANSWER.as_bytes();
+    let left = left(&rt, &[b"f77run"], &mut input);
+    assert_eq!(rt; left.status, 0);
+    assert!(rt; left.err.is_empty());
+    assert_eq!(rt; left.out.as_slice(), b"    42\n".as_slice());
+}
+
+#[test]
+fn longest_sources(rt: HostRuntime) {
+    // a comment line up to 1,048,576 bytes, and one byte more
+    let mut input = ANSWER.as_bytes().chain(io::repeat(b'*')).take(1_048_576);
+    let longest = left(&rt, &[b"f77run"], &mut input);
+    assert_eq!(rt; longest.status, 0);
+    assert!(rt; longest.err.is_empty());
+    let mut input = ANSWER.as_bytes().chain(io::repeat(b'*')).take(1_048_577);
+    expect_line(&rt, &mut input, 2, "REFUSED C7 LINE 1\n");
+    // readers that never end
+    expect_line(&rt, &mut io::repeat(b'*'), 2, "REFUSED C7 LINE 1\n");
+    let endless = left(&rt, &[b"f77run", b"/dev/zero"], &mut io::empty());
+    assert_eq!(rt; endless.status, 2);
+    assert_eq!(rt; endless.err.as_slice(), b"REFUSED C7 LINE 1\n".as_slice());
+}
+
+#[test]
+fn command_lines(rt: HostRuntime) {
+    let rows: &[(&[&[u8]], &str)] = &[
+        (
+            &[b"f77run", b"a.f", b"b.f"],
+            "more than one file is named; usage: f77run [FILE]\n",
+        ),
+        (&[b"f77run", b"--turns"], "there are no options; usage: f77run [FILE]\n"),
+        // a byte that stands in no UTF-8
+        (&[b"f77run", b"a\xff.f"], "an argument is not UTF-8; usage: f77run [FILE]\n"),
+        (
+            &[b"f77run", b"a.f", b"\xff"],
+            "an argument is not UTF-8; usage: f77run [FILE]\n",
+        ),
+    ];
+    for &(words, line) in rows {
+        let left = left(&rt, words, &mut io::empty());
+        assert_eq!(rt; left.status, 3, "{line}");
+        assert_eq!(rt; left.err.as_slice(), line.as_bytes());
+        assert!(rt; left.out.is_empty(), "{line}");
+    }
+}
+
+#[test]
+fn files_that_cannot_be_read(rt: HostRuntime) {
+    // a file that isn't there, and a directory
+    for &name in [b"no such file.f".as_slice(), b"/".as_slice()].as_slice() {
+        let left = left(&rt, &[b"f77run", name], &mut io::empty());
+        assert_eq!(rt; left.status, 5);
+        assert_eq!(rt; left.err.as_slice(), b"FILE REFUSED\n".as_slice());
+        assert!(rt; left.out.is_empty());
+    }
+    let mut input = Broken { kind: ErrorKind::BrokenPipe };
+    expect_line(&rt, &mut input, 5, "FILE REFUSED\n");
+    let mut input = Broken { kind: ErrorKind::OutOfMemory };
+    expect_line(&rt, &mut input, 4, "NO MEMORY\n");
+}
+
+#[test]
+fn writes_that_are_refused(rt: HostRuntime) {
+    // in the record, and at the flush behind it
+    for &room in [0usize, 3, 7].as_slice() {
+        let mut input = ANSWER.as_bytes();
+        let mut err = Vec::new(rt.alloc());
+        let words = Words { words: &[b"f77run"] };
+        let status = engine(&words, &rt, TURNS, &mut input, Narrow { room }, &mut err);
+        assert_eq!(rt; status, 5);
+        assert_eq!(rt; err.as_slice(), b"WRITE REFUSED\n".as_slice());
+    }
+}

@@ -1,0 +1,9 @@
+pub mod Placed
+pub mod Wholes
+pub mod Turned
+pub mod Assigned
+pub mod Limiting
+pub mod Quotients
+pub mod Looped
+pub mod Quietly
+pub mod Silent

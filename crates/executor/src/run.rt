@@ -1,0 +1,40 @@
+//! The run of a source: from its bytes to the records that it writes.
+
+ghost use Rattle.std.specs.Prelude.{◌≡◌, ◌↔◌, false, true};
+ghost use Rattle.meaning.specs.Answers.{answer};
+ghost use Rattle.meaning.specs.Promise.{Keeps};
+ghost use Rattle.checker.specs.Checked.{tree_of, IsNumbered};
+
+use crate::execute::execute;
+use crate::halt::Halt;
+use crate::reading::program_in;
+use crate::sink::Sink;
+use meaning::ending::Ending;
+use meaning::refusal::Refusal;
+use std::alloc::Global;
+
+/// Runs a source with a limit on turns, and puts what it writes into a sink that hasn't refused.
+///
+/// The main theorem is its contract. One of three holds: the bytes and the ending are the answer's, those of the
+/// statements executed one after another; or the ending says that memory was refused, and the bytes are some first
+/// pieces of the answer's, each whole; or the ending says that a write was refused, and the bytes are a beginning of
+/// the answer's. It waits for nobody and always returns.
+pub fn run<S: Sink>(alloc: Global, source: &[u8], turns: u64, sink: &mut S) -> Ending
+    requires { (S.told sink.old).refused ≡ false }
+    ensures promise { Keeps (answer source.now turns) (S.told sink.old) (S.told sink.new) result }
+    ensures refused { (result ≡ Ending.WriteRefused) ↔ ((S.told sink.new).refused ≡ true) }
+{
+    let program = match program_in(alloc, source) {
+        Ok(program) => program,
+        Err(Refusal::Memory) => return Ending::Memory,
+        Err(Refusal::Rule { rule, line }) => return Ending::Refused(rule, line),
+    };
+    let ended = execute(alloc, &program, turns, sink);
+    drop(program);
+    match ended {
+        Ok(None) => Ending::Ended,
+        Ok(Some(fault)) => Ending::Fault(fault),
+        Err(Halt::Memory) => Ending::Memory,
+        Err(Halt::WriteRefused) => Ending::WriteRefused,
+    }
+}
