@@ -3,19 +3,8 @@
 use lexer::{bare, begins, has_equals_sign, is_balanced, is_too_deep, kind};
 use meaning::statement::{Bare, Statement};
 use meaning::syntax::Kind;
-use std::alloc::{AllocError, Global};
-use std::test::*;
-
-/// A text of 1320 bytes at most, at line 7.
-fn bare_of(alloc: Global, text: &[u8]) -> Result<Option<Bare>, AllocError> {
-    if text.len() > 1320 {
-        return Ok(None);
-    }
-    Ok(Some(Bare {
-        line: 7,
-        text: Vec::from_slice(alloc, text)?,
-    }))
-}
+use std::alloc::Global;
+use std::process::Abort;
 
 /// Columns 7 to 72 of a statement, and its bare text.
 const BARE: &[(&str, &str)] = &[
@@ -25,29 +14,26 @@ const BARE: &[(&str, &str)] = &[
     ("", ""),
 ];
 
-#[test]
-fn bare_texts(rt: HostRuntime) -> Result<(), Fail> {
-    for &(columns, wanted) in BARE {
-        let statement = statement_of(rt.alloc(), columns.as_bytes())?.ok_or(
-            "the text is too long",
-        )?;
-        let read = bare(rt.alloc(), &statement)?;
-        assert_eq!(rt; read.line, 3, "{columns}");
-        assert_eq!(rt; read.text.as_slice(), wanted.as_bytes(), "{columns}");
-    }
-    Ok(())
-}
-
 /// A statement at line 3.
-fn statement_of(alloc: Global, columns: &[u8]) -> Result<Option<Statement>, AllocError> {
-    if columns.len() > 1320 {
-        return Ok(None);
-    }
-    Ok(Some(Statement {
+fn statement_of(rt: &impl Abort, alloc: Global, columns: &[u8]) -> Statement {
+    assert!(rt; columns.len() <= 1320, "the text is too long");
+    Statement {
         line: 3,
         label: None,
-        text: Vec::from_slice(alloc, columns)?,
-    }))
+        text: Vec::from_slice(alloc, columns).expect(rt, "memory"),
+    }
+}
+
+#[test]
+fn bare_texts(rt: HostRuntime) {
+    for &(columns, wanted) in BARE {
+        let statement = statement_of(&rt, rt.alloc(), columns.as_bytes());
+        let read = bare(rt.alloc(), &statement).expect(&rt, "memory");
+        assert!(rt;
+            read.line == 3 && read.text.as_slice() == wanted.as_bytes(),
+            "{columns}"
+        );
+    }
 }
 
 /// Bare texts, and which statement each can be.
@@ -100,13 +86,19 @@ const KINDS: &[(&str, Kind)] = &[
     ("A(1,2)=1", Kind::Assignment),
 ];
 
+/// A bare text at line 7.
+fn bare_of(rt: &impl Abort, alloc: Global, text: &[u8]) -> Bare {
+    assert!(rt; text.len() <= 1320, "the text is too long");
+    let text = Vec::from_slice(alloc, text).expect(rt, "memory");
+    Bare { line: 7, text }
+}
+
 #[test]
-fn kinds(rt: HostRuntime) -> Result<(), Fail> {
+fn kinds(rt: HostRuntime) {
     for &(text, wanted) in KINDS {
-        let read = bare_of(rt.alloc(), text.as_bytes())?.ok_or("the text is too long")?;
-        assert_eq!(rt; kind(&read), wanted, "{text}");
+        let read = bare_of(&rt, rt.alloc(), text.as_bytes());
+        assert!(rt; kind(&read) == wanted, "{text}");
     }
-    Ok(())
 }
 
 /// What is seen outside apostrophes: an equals sign outside parentheses, and whether parentheses pair up.
@@ -123,13 +115,15 @@ const SCANS: &[(&str, bool, bool)] = &[
 ];
 
 #[test]
-fn scans(rt: HostRuntime) -> Result<(), Fail> {
+fn scans(rt: HostRuntime) {
     for &(text, equals, balanced) in SCANS {
-        assert_eq!(rt; has_equals_sign(text.as_bytes()), equals, "{text}");
-        assert_eq!(rt; is_balanced(text.as_bytes()), balanced, "{text}");
+        let bytes = text.as_bytes();
+        assert!(rt;
+            has_equals_sign(bytes) == equals && is_balanced(bytes) == balanced,
+            "{text}"
+        );
     }
     assert!(rt; begins(b"ENDIF", b"END") && begins(b"END", b"END") && !begins(b"EN", b"END"));
-    Ok(())
 }
 
 /// 64 parentheses may be open at once; what stands between apostrophes opens none.
@@ -142,14 +136,13 @@ const DEPTHS: &[(&str, usize, &str, bool)] = &[
 ];
 
 #[test]
-fn depths(rt: HostRuntime) -> Result<(), Fail> {
+fn depths(rt: HostRuntime) {
     for &(front, count, end, deep) in DEPTHS {
-        let mut text = Vec::from_slice(rt.alloc(), front.as_bytes())?;
+        let mut text = Vec::from_slice(rt.alloc(), front.as_bytes()).expect(&rt, "memory");
         for _ in 0..count {
-            text.push(b'(')?;
+            text.push(b'(').expect(&rt, "memory");
         }
-        text.extend_from_slice(end.as_bytes())?;
-        assert_eq!(rt; is_too_deep(&text), deep, "{front}{count}{end}");
+        text.extend_from_slice(end.as_bytes()).expect(&rt, "memory");
+        assert!(rt; is_too_deep(&text) == deep, "{front}{count}{end}");
     }
-    Ok(())
 }

@@ -3,201 +3,172 @@
 use meaning::refusal::{Refusal, Rule};
 use meaning::statement::Statement;
 use source_columns::statements;
-use std::alloc::{AllocError, Global};
-use std::test::*;
+use std::alloc::Global;
+use std::process::Abort;
 
-/// Whether a statement has this line, this label and this text with blanks up to column 72.
-fn is_statement(s: &Statement, line: u32, label: Option<u32>, text: &[u8]) -> bool {
-    s.line == line
-        && s.label == label
-        && s.text.len() == 66
-        && s.text.as_slice().starts_with(text)
-        && s.text.iter().skip(text.len()).all(|c| *c == b' ')
-}
+/// A statement: its line, its label, and the texts in columns 7 to 72 of its lines, without blanks behind.
+type Found = (u32, Option<u32>, &'static [&'static [u8]]);
 
-/// Sources with one statement: its line, its label and its text.
-const ACCEPTED: &[(&[u8], u32, Option<u32>, &[u8])] = &[
-    (b"      I = 1\n", 1, None, b"I = 1"),
+/// Sources and their statements.
+const GIVEN: &[(&[u8], &[Found])] = &[
+    (b"      I = 1\n", &[(1, None, &[b"I = 1"])]),
     // Blanks and leading zeros of a label don't count.
-    (b" 10   WRITE(6, 20) I\n", 1, Some(10), b"WRITE(6, 20) I"),
-    (b"0 1 0 END\n", 1, Some(10), b"END"),
-    (b" 0 1 0END\n", 1, Some(1), b"END"),
-    (b"00010 END\n", 1, Some(10), b"END"),
-    (b"99999 END\n", 1, Some(99999), b"END"),
+    (
+        b" 10   WRITE(6, 20) I\n",
+        &[(1, Some(10), &[b"WRITE(6, 20) I"])],
+    ),
+    (b"0 1 0 END\n", &[(1, Some(10), &[b"END"])]),
+    (b" 0 1 0END\n", &[(1, Some(1), &[b"END"])]),
+    (b"00010 END\n", &[(1, Some(10), &[b"END"])]),
+    (b"99999 END\n", &[(1, Some(99999), &[b"END"])]),
     // A zero in column 6, with something behind it and with nothing.
-    (b"     0END\n", 1, None, b"END"),
-    (b"     0\n", 1, None, b""),
+    (b"     0END\n", &[(1, None, &[b"END"])]),
+    (b"     0\n", &[(1, None, &[b""])]),
     // Ends of lines.
-    (b"      END\r\n", 1, None, b"END"),
-    (b"      END", 1, None, b"END"),
-    (b"      END\r", 1, None, b"END"),
-    (b"      END\n\r", 1, None, b"END"),
-    (b"\n\n  5   I=2\r\n", 3, Some(5), b"I=2"),
+    (b"      END\r\n", &[(1, None, &[b"END"])]),
+    (b"      END", &[(1, None, &[b"END"])]),
+    (b"      END\r", &[(1, None, &[b"END"])]),
+    (b"      END\n\r", &[(1, None, &[b"END"])]),
+    (b"\n\n  5   I=2\r\n", &[(3, Some(5), &[b"I=2"])]),
     // Comment lines are counted, and their bytes aren't looked at.
-    (b"C \xff'\nc\n*\t\n\n  \r\n      END\n", 6, None, b"END"),
-    (b"CEND\n1     END\nC", 2, Some(1), b"END"),
-    (b"*1\n      END\n\n\n", 2, None, b"END"),
+    (
+        b"C \xff'\nc\n*\t\n\n  \r\n      END\n",
+        &[(6, None, &[b"END"])],
+    ),
+    (b"CEND\n1     END\nC", &[(2, Some(1), &[b"END"])]),
+    (b"*1\n      END\n\n\n", &[(2, None, &[b"END"])]),
     (
         b"                                                                        X\n      END\n",
-        2,
-        None,
-        b"END",
+        &[(2, None, &[b"END"])],
     ),
     // Apostrophes in pairs, and the last character that can be printed.
     (
         b"   20 FORMAT('DON''T ~')\n",
-        1,
-        Some(20),
-        b"FORMAT('DON''T ~')",
+        &[(1, Some(20), &[b"FORMAT('DON''T ~')"])],
     ),
     // What stands past column 72 is ignored.
     (
         b"      ABCDEFGHIJKLMNOPQRSTUVWXYZABCDEFGHIJKLMNOPQRSTUVWXYZABCDEFGHIJKLMN\xff'\n",
-        1,
-        None,
-        b"ABCDEFGHIJKLMNOPQRSTUVWXYZABCDEFGHIJKLMNOPQRSTUVWXYZABCDEFGHIJKLMN",
+        &[(
+            1,
+            None,
+            &[b"ABCDEFGHIJKLMNOPQRSTUVWXYZABCDEFGHIJKLMNOPQRSTUVWXYZABCDEFGHIJKLMN"],
+        )],
     ),
-    (b"      'A'TEXT\n", 1, None, b"'A'TEXT"),
-];
-
-#[test]
-fn accepts(rt: HostRuntime) -> Result<(), Fail> {
-    for &(source, line, label, text) in ACCEPTED {
-        let read = statements(rt.alloc(), source)
-            .ok()
-            .ok_or("a source is refused")?;
-        assert_eq!(rt; read.len(), 1, "at {text:?}");
-        assert!(rt;
-            read.iter().all(|s| is_statement(s, line, label, text)),
-            "at {text:?}"
-        );
-    }
-    Ok(())
-}
-
-/// Lines, labels and texts of the statements of a source.
-const BOTH: &[(u32, Option<u32>, &[u8])] = &[(1, Some(1), b"I=1"), (4, None, b"END")];
-
-#[test]
-fn accepts_two(rt: HostRuntime) -> Result<(), Fail> {
-    let read = statements(rt.alloc(), b"  1   I=1\n*\n\n      END\n")
-        .ok()
-        .ok_or("it is refused")?;
-    assert_eq!(rt; read.len(), 2);
-    for (s, &(line, label, text)) in read.iter().zip(BOTH) {
-        assert!(rt; is_statement(s, line, label, text), "at {text:?}");
-    }
-    let none = statements(rt.alloc(), b"")
-        .ok()
-        .ok_or("nothing is refused")?;
-    assert!(rt; none.is_empty());
-    Ok(())
-}
-
-/// Sources with one statement of an initial line and a continuation line: its line, its label and the text of each.
-const CONTINUED: &[(&[u8], u32, Option<u32>, &[u8], &[u8])] = &[
-    (b"      I = 1\n     1+ 2\n", 1, None, b"I = 1", b"+ 2"),
+    (b"      'A'TEXT\n", &[(1, None, &[b"'A'TEXT"])]),
+    // An initial line and a continuation line.
+    (
+        b"      I = 1\n     1+ 2\n",
+        &[(1, None, &[b"I = 1", b"+ 2"])],
+    ),
     // Any other character than a blank and 0 in column 6.
-    (b"      I=1\n     C+2\n", 1, None, b"I=1", b"+2"),
-    (b"      I=1\n     *+2\n", 1, None, b"I=1", b"+2"),
-    (b"      I=1\n     '+2\n", 1, None, b"I=1", b"+2"),
-    (b"     0I=1\n     9+2\n", 1, None, b"I=1", b"+2"),
+    (b"      I=1\n     C+2\n", &[(1, None, &[b"I=1", b"+2"])]),
+    (b"      I=1\n     *+2\n", &[(1, None, &[b"I=1", b"+2"])]),
+    (b"      I=1\n     '+2\n", &[(1, None, &[b"I=1", b"+2"])]),
+    (b"     0I=1\n     9+2\n", &[(1, None, &[b"I=1", b"+2"])]),
     // In the middle of a name and of a character constant.
     (
         b"  7   WRI\n     1TE(6,10)\n",
-        1,
-        Some(7),
-        b"WRI",
-        b"TE(6,10)",
+        &[(1, Some(7), &[b"WRI", b"TE(6,10)"])],
     ),
-    (b"      STOP 'A\n     1B'\n", 1, None, b"STOP 'A", b"B'"),
+    (
+        b"      STOP 'A\n     1B'\n",
+        &[(1, None, &[b"STOP 'A", b"B'"])],
+    ),
     (
         b"      STOP 'DON'\n     1'T'\n",
-        1,
-        None,
-        b"STOP 'DON'",
-        b"'T'",
+        &[(1, None, &[b"STOP 'DON'", b"'T'"])],
     ),
     // Comments between and behind.
     (
         b"*\n      i\nC'\xff\n\n  \n     1=1\n\n",
-        2,
-        None,
-        b"i",
-        b"=1",
+        &[(2, None, &[b"i", b"=1"])],
     ),
     // Ends of lines.
-    (b"      I=1\r\n     1+2\r\n", 1, None, b"I=1", b"+2"),
-    (b"      I=1\n     1+2", 1, None, b"I=1", b"+2"),
+    (b"      I=1\r\n     1+2\r\n", &[(1, None, &[b"I=1", b"+2"])]),
+    (b"      I=1\n     1+2", &[(1, None, &[b"I=1", b"+2"])]),
     // An empty continuation line, and what stands past column 72.
     (
         b"      D O 10 I = 1                                                      ABC\n     1\n",
-        1,
-        None,
-        b"D O 10 I = 1",
-        b"",
+        &[(1, None, &[b"D O 10 I = 1", b""])],
     ),
+    // More statements, and none.
+    (
+        b"  1   I=1\n*\n\n      END\n",
+        &[(1, Some(1), &[b"I=1"]), (4, None, &[b"END"])],
+    ),
+    (
+        b"     0I=\n\n     11\n    1 J=\n     2\n     32\n      END\n",
+        &[
+            (1, None, &[b"I=", b"1"]),
+            (4, Some(1), &[b"J=", b"", b"2"]),
+            (7, None, &[b"END"]),
+        ],
+    ),
+    (b"", &[]),
 ];
 
-/// Whether a line of a statement has this text with blanks up to column 72.
-fn is_piece(piece: &[u8], text: &[u8]) -> bool {
-    piece.len() == 66
-        && piece.starts_with(text)
-        && piece.iter().skip(text.len()).all(|c| *c == b' ')
-}
-
-#[test]
-fn joins_continuation_lines(rt: HostRuntime) -> Result<(), Fail> {
-    for &(source, line, label, first, second) in CONTINUED {
-        let read = statements(rt.alloc(), source)
-            .ok()
-            .ok_or("a source is refused")?;
-        assert_eq!(rt; read.len(), 1, "at {first:?}");
-        for s in read.iter() {
-            assert!(rt; s.line == line && s.label == label, "at {first:?}");
-            assert_eq!(rt; s.text.len(), 132, "at {first:?}");
-            assert!(rt;
-                s.text
-                    .chunks(66)
-                    .zip([first, second])
-                    .all(|(piece, text)| is_piece(piece, text)),
-                "at {first:?}"
-            );
+/// Texts, each with blanks behind up to 66 characters.
+fn padded(rt: &impl Abort, alloc: Global, pieces: &[&[u8]]) -> Vec<u8> {
+    let mut text = Vec::new(alloc);
+    for &piece in pieces {
+        text.extend_from_slice(piece).expect(rt, "memory");
+        for _ in piece.len()..66 {
+            text.push(b' ').expect(rt, "memory");
         }
     }
-    Ok(())
+    text
 }
 
-/// Lines, labels and lengths of the statements of a source.
-const JOINED: &[(u32, Option<u32>, usize)] = &[(1, None, 132), (4, Some(1), 198), (7, None, 66)];
+/// Compares a statement.
+fn is_found(rt: &impl Abort, alloc: Global, statement: &Statement, want: Found) {
+    let (line, label, pieces) = want;
+    let text = padded(rt, alloc, pieces);
+    assert!(rt;
+        statement.line == line
+            && statement.label == label
+            && statement.text.as_slice() == text.as_slice(),
+        "{pieces:?}"
+    );
+}
+
+/// Compares the statements of a source.
+fn gives(rt: &impl Abort, alloc: Global, source: &[u8], wanted: &[Found]) {
+    let found = statements(alloc, source).expect(rt, "a source is refused");
+    assert!(rt; found.len() == wanted.len(), "{source:?}");
+    for (statement, &want) in found.iter().zip(wanted) {
+        is_found(rt, alloc, statement, want);
+    }
+}
 
 #[test]
-fn joins_each_statement(rt: HostRuntime) -> Result<(), Fail> {
-    let source = b"     0I=\n\n     11\n    1 J=\n     2\n     32\n      END\n";
-    let read = statements(rt.alloc(), source).ok().ok_or("it is refused")?;
-    assert_eq!(rt; read.len(), 3);
-    for (s, &(line, label, length)) in read.iter().zip(JOINED) {
-        assert!(rt;
-            s.line == line && s.label == label && s.text.len() == length,
-            "at {line}"
-        );
+fn given(rt: HostRuntime) {
+    for &(source, wanted) in GIVEN {
+        gives(&rt, rt.alloc(), source, wanted);
     }
-    Ok(())
+}
+
+/// Compares the rule and the line that are told of a source, if any.
+fn is_told(rt: &impl Abort, alloc: Global, source: &[u8], want: Option<(Rule, u32)>) {
+    let told = match statements(alloc, source) {
+        Ok(found) => {
+            drop(found);
+            None
+        }
+        Err(refusal) => Some(refusal),
+    };
+    let refusal = want.map(|(rule, line)| Refusal::Rule { rule, line });
+    assert!(rt; told == refusal, "{want:?}");
 }
 
 /// A source with an initial line and so many continuation lines, of which the last one is given.
-fn source_of(
-    alloc: Global,
-    initial: &[u8],
-    count: u32,
-    last: &[u8],
-) -> Result<Vec<u8>, AllocError> {
-    let mut source = Vec::from_slice(alloc, initial)?;
+fn source_of(rt: &impl Abort, alloc: Global, initial: &[u8], count: u32, last: &[u8]) -> Vec<u8> {
+    let mut source = Vec::from_slice(alloc, initial).expect(rt, "memory");
     for _ in 1..count {
-        source.extend_from_slice(b"     1+1\n")?;
+        source.extend_from_slice(b"     1+1\n").expect(rt, "memory");
     }
-    source.extend_from_slice(last)?;
-    Ok(source)
+    source.extend_from_slice(last).expect(rt, "memory");
+    source
 }
 
 /// Numbers of continuation lines, the initial and the last line, and the pair that is told.
@@ -221,17 +192,19 @@ const COUNTED: &[(u32, &[u8], &[u8], Option<(Rule, u32)>)] = &[
 ];
 
 #[test]
-fn counts_continuation_lines(rt: HostRuntime) -> Result<(), Fail> {
-    for &(count, initial, last, told) in COUNTED {
-        let source = source_of(rt.alloc(), initial, count, last)?;
-        let read = statements(rt.alloc(), &source);
-        let refusal = told.map(|(rule, line)| Refusal::Rule { rule, line });
-        assert_eq!(rt; read.err(), refusal, "at {count}");
+fn counted(rt: HostRuntime) {
+    for &(count, initial, last, want) in COUNTED {
+        let source = source_of(&rt, rt.alloc(), initial, count, last);
+        is_told(&rt, rt.alloc(), &source, want);
     }
-    let source = source_of(rt.alloc(), b"      I=1\n", 19, b"     1+1\n")?;
-    let read = statements(rt.alloc(), &source).ok().ok_or("it is refused")?;
-    assert!(rt; read.iter().all(|s| s.text.len() == 1320));
-    Ok(())
+}
+
+/// The longest statement.
+#[test]
+fn longest(rt: HostRuntime) {
+    let source = source_of(&rt, rt.alloc(), b"      I=1\n", 19, b"     1+1\n");
+    let found = statements(rt.alloc(), &source).expect(&rt, "a source is refused");
+    assert!(rt; found.iter().all(|s| s.text.len() == 1320));
 }
 
 /// Sources that break a rule, and the pair that is told.
@@ -276,32 +249,26 @@ const REFUSED: &[(&[u8], Rule, u32)] = &[
 ];
 
 #[test]
-fn refuses(rt: HostRuntime) {
+fn refused(rt: HostRuntime) {
     for &(source, rule, line) in REFUSED {
-        assert_eq!(rt;
-            statements(rt.alloc(), source).err(),
-            Some(Refusal::Rule { rule, line }),
-            "at {rule}"
-        );
+        is_told(&rt, rt.alloc(), source, Some((rule, line)));
     }
 }
 
+/// A byte, how often it stands in a source, what stands behind, and the pair that is told. C7 comes before all else.
+const LIMITS: &[(u8, usize, &[u8], Option<(Rule, u32)>)] = &[
+    (b'\n', 65_535, b"", None),
+    (b'\n', 65_535, b" ", Some((Rule::C7, 1))),
+    (b'C', 1_048_576, b"", None),
+    (b'C', 1_048_576, b"C", Some((Rule::C7, 1))),
+    (b'A', 1_048_576, b"A", Some((Rule::C7, 1))),
+];
+
 #[test]
-fn limits(rt: HostRuntime) -> Result<(), Fail> {
-    let c7 = Some(Refusal::Rule {
-        rule: Rule::C7,
-        line: 1,
-    });
-    let mut lines = vec![in rt.alloc(); b'\n'; 65_535]?;
-    assert_eq!(rt; statements(rt.alloc(), &lines).err(), None);
-    lines.push(b' ')?;
-    assert_eq!(rt; statements(rt.alloc(), &lines).err(), c7);
-    let mut bytes = vec![in rt.alloc(); b'C'; 1_048_576]?;
-    assert_eq!(rt; statements(rt.alloc(), &bytes).err(), None);
-    bytes.push(b'C')?;
-    assert_eq!(rt; statements(rt.alloc(), &bytes).err(), c7);
-    // Before all else.
-    let broken = vec![in rt.alloc(); b'A'; 1_048_577]?;
-    assert_eq!(rt; statements(rt.alloc(), &broken).err(), c7);
-    Ok(())
+fn limits(rt: HostRuntime) {
+    for &(byte, count, last, want) in LIMITS {
+        let mut source = vec![in rt.alloc(); byte; count].expect(&rt, "memory");
+        source.extend_from_slice(last).expect(&rt, "memory");
+        is_told(&rt, rt.alloc(), &source, want);
+    }
 }

@@ -1,6 +1,6 @@
 //! The whole grammar, from source bytes: what is run, what is read and not run yet, and what isn't read.
 
-use super::{MANY, outcome};
+use crate::outcomes::{MANY, outcome};
 use meaning::ending::{Ending, Fault, FaultKind};
 use meaning::refusal::Rule;
 use std::alloc::{AllocError, Global};
@@ -26,7 +26,7 @@ fn ends(rt: &impl Abort, alloc: Global, lines: &[&str], want: Ending) {
 }
 
 /// Statements that are run, and their records.
-const RUN: [(&[&str], &str); 19] = [
+const RUN: &[(&[&str], &str)] = &[
     // quotients towards zero, and powers from the right
     (
         &[
@@ -135,7 +135,7 @@ const RUN: [(&[&str], &str); 19] = [
 
 #[test]
 fn statements_that_are_run(rt: HostRuntime) {
-    for (lines, records) in RUN {
+    for &(lines, records) in RUN {
         let source = source_of(rt.alloc(), lines).expect(&rt, "memory");
         let (ending, bytes) = outcome(rt.alloc(), &source, MANY);
         assert_eq!(rt; ending, Ending::Ended, "{lines:?}");
@@ -144,7 +144,7 @@ fn statements_that_are_run(rt: HostRuntime) {
 }
 
 /// Statements that fault, and the fault.
-const FAULTY: [(&[&str], FaultKind, u32); 9] = [
+const FAULTY: &[(&[&str], FaultKind, u32)] = &[
     (&["      I=1", "      J=I/K"], FaultKind::F1, 2),
     (&["      I=2**31"], FaultKind::F2, 1),
     (
@@ -172,13 +172,13 @@ const FAULTY: [(&[&str], FaultKind, u32); 9] = [
 
 #[test]
 fn operators_and_formats_that_fault(rt: HostRuntime) {
-    for (lines, kind, line) in FAULTY {
+    for &(lines, kind, line) in FAULTY {
         ends(&rt, rt.alloc(), lines, Ending::Fault(Fault { kind, line }));
     }
 }
 
 /// Statements that are read and not run yet: those before an executable statement, and those behind one.
-const SPECIFICATIONS: [&str; 7] = [
+const SPECIFICATIONS: &[&str] = &[
     "      PROGRAM TEST",
     "      IMPLICIT INTEGER (A-C,X), LOGICAL (L)",
     "      LOGICAL L,M(3)",
@@ -188,7 +188,7 @@ const SPECIFICATIONS: [&str; 7] = [
     "      INTEGER A(-.TRUE.)",
 ];
 
-const EXECUTABLE: [&str; 21] = [
+const EXECUTABLE: &[&str] = &[
     "      F()=1",
     "      GO TO 10",
     "      GO TO (10,20) I",
@@ -214,28 +214,18 @@ const EXECUTABLE: [&str; 21] = [
 
 #[test]
 fn statements_that_are_not_run_yet(rt: HostRuntime) {
-    for statement in SPECIFICATIONS {
+    for &statement in SPECIFICATIONS {
         let lines = [statement, "      I=1"];
-        ends(
-            &rt,
-            rt.alloc(),
-            lines.as_slice(),
-            Ending::Refused(Rule::K0, 1),
-        );
+        ends(&rt, rt.alloc(), &lines, Ending::Refused(Rule::K0, 1));
     }
-    for statement in EXECUTABLE {
+    for &statement in EXECUTABLE {
         let lines = ["      I=1", statement, "   10 CONTINUE"];
-        ends(
-            &rt,
-            rt.alloc(),
-            lines.as_slice(),
-            Ending::Refused(Rule::K0, 2),
-        );
+        ends(&rt, rt.alloc(), &lines, Ending::Refused(Rule::K0, 2));
     }
 }
 
 /// Statements that are refused, two at once among them.
-const REFUSED: [(&[&str], Rule, u32); 29] = [
+const REFUSED: &[(&[&str], Rule, u32)] = &[
     (&["      DO 10 I=1.5", "   10 CONTINUE"], Rule::G1, 1),
     (&["      A=2**-3"], Rule::G1, 1),
     (&["      A=B*-C"], Rule::G1, 1),
@@ -283,7 +273,7 @@ const REFUSED: [(&[&str], Rule, u32); 29] = [
 
 #[test]
 fn statements_that_are_refused(rt: HostRuntime) {
-    for (lines, rule, line) in REFUSED {
+    for &(lines, rule, line) in REFUSED {
         ends(&rt, rt.alloc(), lines, Ending::Refused(rule, line));
     }
 }
@@ -311,7 +301,7 @@ fn cut_everywhere(rt: &impl Abort, alloc: Global, statement: &str) {
 }
 
 /// Statements of the forms that are run.
-const SIMPLE: [&str; 6] = [
+const SIMPLE: &[&str] = &[
     "      NUMBER=12345+TOTAL(67)**89",
     "      WRITE (UNIT=6,FMT=12345) NUMBER,(67+89)/12",
     "12345 FORMAT (12I34.5,67X,2(L8/):)",
@@ -320,17 +310,24 @@ const SIMPLE: [&str; 6] = [
     "      CONTINUE",
 ];
 
-#[test]
-fn cut_statements(rt: HostRuntime) {
-    for statement in SIMPLE.iter().chain(&SPECIFICATIONS).chain(&EXECUTABLE) {
+/// Cuts each of a table that has no apostrophes.
+fn cut_all(rt: &impl Abort, alloc: Global, table: &[&str]) {
+    for &statement in table {
         if !statement.contains('\'') {
-            cut_everywhere(&rt, rt.alloc(), statement);
+            cut_everywhere(rt, alloc, statement);
         }
     }
 }
 
+#[test]
+fn cut_statements(rt: HostRuntime) {
+    cut_all(&rt, rt.alloc(), SIMPLE);
+    cut_all(&rt, rt.alloc(), SPECIFICATIONS);
+    cut_all(&rt, rt.alloc(), EXECUTABLE);
+}
+
 /// Sources of which each byte is changed.
-const WHOLE: [&str; 3] = [
+const WHOLE: &[&str] = &[
     "      INTEGER A(9)\n      DO 10 I=2,9\n   10 A(I)=A(I-1)+1\n      WRITE (6,20) A(9)\n   20 FORMAT (I3)\n      END\n",
     "      K=2**3/4\n      WRITE (FMT=20,UNIT=6) K,-K\n   20 FORMAT (I4.2,2(:,'-',I3)/)\n      END\n",
     "      IF (I.EQ.1) GO TO 10\n     1\n   10 PRINT '(''A'')', (I,I=1,2)\n      STOP\n      END\n",
@@ -351,12 +348,15 @@ fn changed_everywhere(rt: &impl Abort, alloc: Global, text: &str, byte: u8) {
     }
 }
 
+/// What stands in place of a byte.
+const BYTES: &[u8] = &[
+    0, b'\n', b'\'', b'(', b')', b',', b'.', b'0', b'=', b'A', 200,
+];
+
 #[test]
 fn changed_sources(rt: HostRuntime) {
-    for text in WHOLE {
-        for byte in [
-            0, b'\n', b'\'', b'(', b')', b',', b'.', b'0', b'=', b'A', 200,
-        ] {
+    for &text in WHOLE {
+        for &byte in BYTES {
             changed_everywhere(&rt, rt.alloc(), text, byte);
         }
     }

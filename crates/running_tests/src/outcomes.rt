@@ -1,0 +1,102 @@
+//! Sources over writers in memory, and what comes of them. Expected bytes come from the rules of docs/LANGUAGE.md.
+
+use executor::Out;
+use executor::run::run;
+use meaning::ending::{Ending, Fault, FaultKind};
+use meaning::refusal::Rule;
+use std::alloc::Global;
+use std::io;
+use std::io::{ErrorKind, Write};
+use std::process::Abort;
+use std::test::*;
+
+/// A writer in memory that takes at most `step` bytes a call and `room` bytes in all; past that it answers 0, or an
+/// error.
+#[derive(Drop)]
+pub struct Meter {
+    pub bytes: Vec<u8>,
+    pub step: usize,
+    pub room: usize,
+    errs: bool,
+}
+
+impl Write for Meter {
+    fn write(&mut self, buf: &[u8]) -> io::Result<usize> {
+        let count = buf.len().min(self.step).min(self.room);
+        if count == 0 && self.errs && !buf.is_empty() {
+            return Err(io::Error::from(ErrorKind::BrokenPipe));
+        }
+        self.bytes.extend_from_slice(&buf[..count])?;
+        self.room -= count;
+        Ok(count)
+    }
+
+    fn flush(&mut self) -> io::Result<()> {
+        if self.room == 0 && self.errs {
+            Err(io::Error::from(ErrorKind::BrokenPipe))
+        } else {
+            Ok(())
+        }
+    }
+}
+
+pub fn make_meter(alloc: Global, step: usize, room: usize, errs: bool) -> Meter {
+    Meter {
+        bytes: Vec::new(alloc),
+        step,
+        room,
+        errs,
+    }
+}
+
+pub const ANSWER: &str = "      WRITE (6,10) 42\n   10 FORMAT (1X,I5)\n      END\n";
+
+pub const FORTY_TWO: &str = "    42\n";
+
+pub const TWO_NUMBERS: &str =
+    "      I=3\n      J=2-I*4\n      WRITE (6,10) I,J\n   10 FORMAT (2I4)\n      END\n";
+
+/// More turns than a test takes.
+pub const MANY: u64 = 1_000_000_000;
+
+/// The ending of a source, and the bytes that it writes into a writer with room.
+pub fn outcome(alloc: Global, source: &[u8], turns: u64) -> (Ending, Vec<u8>) {
+    let mut sink = Out::new(make_meter(alloc, usize::MAX, usize::MAX, false));
+    let ending = run(alloc, source, turns, &mut sink);
+    let Meter { bytes, .. } = sink.into_inner();
+    (ending, bytes)
+}
+
+/// Compares the ending of a source and the records that it writes.
+pub fn comes_to(rt: &impl Abort, alloc: Global, source: &str, want: Ending, records: &str) {
+    let (ending, bytes) = outcome(alloc, source.as_bytes(), MANY);
+    assert_eq!(rt; ending, want, "{source}");
+    assert_eq!(rt; bytes.as_slice(), records.as_bytes(), "{source}");
+}
+
+/// Sources that end, and their records.
+pub fn all_end(rt: &impl Abort, alloc: Global, table: &[(&str, &str)]) {
+    for &(source, records) in table {
+        comes_to(rt, alloc, source, Ending::Ended, records);
+    }
+}
+
+/// Sources that fault, the fault, its line, and the records before it.
+pub fn all_fault(rt: &impl Abort, alloc: Global, table: &[(&str, FaultKind, u32, &str)]) {
+    for &(source, kind, line, records) in table {
+        comes_to(
+            rt,
+            alloc,
+            source,
+            Ending::Fault(Fault { kind, line }),
+            records,
+        );
+    }
+}
+
+/// Sources that are refused, the rule that is told, and its line.
+pub fn all_refused(rt: &impl Abort, alloc: Global, table: &[(&str, Rule, u32)]) {
+    for &(source, rule, line) in table {
+        comes_to(rt, alloc, source, Ending::Refused(rule, line), "");
+    }
+}
