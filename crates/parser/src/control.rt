@@ -3,8 +3,9 @@
 ghost use Rattle.std.specs.Prelude.{◌≡◌, ◌+◌, ◌∷◌, length, map};
 ghost use Rattle.meaning.specs.Characters.{is_label};
 ghost use Rattle.meaning.specs.Spelling.{is_stop_number as stop_number};
-ghost use Rattle.meaning.specs.Syntax.{expr_tree, stop_tree, shape_tree};
-ghost use Rattle.meaning.specs.Reading.{separated_at, label_at, going_of, computed_going_of, condition_at, arithmetic_if_of, block_if_of, else_if_of, quoted_at, stop_of, stopping_of};
+ghost use Rattle.meaning.specs.Syntax.{ExprTree, arithmetic_if, expr_tree, stop_tree, shape_tree};
+ghost use Rattle.meaning.specs.Reading.{Text, separated_at, label_at, going_of, computed_going_of, condition_at, arithmetic_if_of, block_if_of, else_if_of, quoted_at, stop_of, stopping_of};
+ghost use Rattle.parser.specs.Behind.{branches_behind, last_label_behind};
 ghost use Rattle.parser.specs.Reports.{Agrees};
 
 use crate::expression::read_whole_expression;
@@ -69,29 +70,76 @@ pub fn read_condition<'t>(
 {
     let rest = expect(word, text)?;
     let (condition, rest) = read_whole_expression(alloc, rest)?;
-    Ok((condition, expect(b")", rest)?))
+    match behind(b")", rest) {
+        None => {
+            drop(condition);
+            Err(ReadError::NoReading)
+        }
+        Some(rest) => Ok((condition, rest)),
+    }
+}
+
+/// The labels of an arithmetic IF statement.
+#[derive(Drop)]
+struct Branches {
+    negative: Vec<u8>,
+    zero: Vec<u8>,
+    positive: Vec<u8>,
+}
+
+/// The last label of an arithmetic IF statement, up to the end.
+#[tactic(auto, unfolding(crate::specs::Behind::last_label_behind))]
+fn read_last_label(alloc: Global, text: &[u8]) -> Result<Vec<u8>, ReadError>
+    ensures { (e : ExprTree) (n z : Text) → Agrees (λ x. arithmetic_if e n z x.items) result (last_label_behind e n z text.now) }
+{
+    let (label, rest) = read_label(alloc, text)?;
+    if !rest.is_empty() {
+        return Err(ReadError::NoReading);
+    }
+    Ok(label)
+}
+
+/// The labels of an arithmetic IF statement, up to the end.
+#[tactic(auto, unfolding(crate::specs::Behind::branches_behind))]
+fn read_branches(alloc: Global, text: &[u8]) -> Result<Branches, ReadError>
+    ensures { (e : ExprTree) → Agrees (λ x. arithmetic_if e x.negative.items x.zero.items x.positive.items) result (branches_behind e text.now) }
+{
+    let (negative, rest) = read_label(alloc, text)?;
+    let rest = expect(b",", rest)?;
+    let (zero, rest) = read_label(alloc, rest)?;
+    let rest = expect(b",", rest)?;
+    let positive = read_last_label(alloc, rest)?;
+    Ok(Branches {
+        negative,
+        zero,
+        positive,
+    })
 }
 
 /// An arithmetic IF statement (ANSI X3.9-1978, 11.4).
-#[tactic(auto, unfolding(meaning::specs::Reading::arithmetic_if_of))]
+#[tactic(auto, unfolding(meaning::specs::Reading::arithmetic_if_of, crate::specs::Behind::branches_behind, crate::specs::Behind::last_label_behind))]
 pub fn read_arithmetic_if(alloc: Global, text: &[u8]) -> Result<Shape, ReadError>
     ensures { Agrees (λ x. shape_tree x) result (arithmetic_if_of text.now) }
 {
     let (value, rest) = read_condition(alloc, b"IF(", text)?;
-    let (negative, rest) = read_label(alloc, rest)?;
-    let rest = expect(b",", rest)?;
-    let (zero, rest) = read_label(alloc, rest)?;
-    let rest = expect(b",", rest)?;
-    let (positive, rest) = read_label(alloc, rest)?;
-    at_end(
-        Shape::ArithmeticIf {
+    match read_branches(alloc, rest) {
+        Err(error) => {
+            drop(value);
+            Err(error)
+        }
+        Ok(
+            Branches {
+                negative,
+                zero,
+                positive,
+            },
+        ) => Ok(Shape::ArithmeticIf {
             value,
             negative,
             zero,
             positive,
-        },
-        rest,
-    )
+        }),
+    }
 }
 
 /// An IF THEN statement (ANSI X3.9-1978, 11.6).
@@ -100,8 +148,13 @@ pub fn read_if_then(alloc: Global, text: &[u8]) -> Result<Shape, ReadError>
     ensures { Agrees (λ x. shape_tree x) result (block_if_of text.now) }
 {
     let (condition, rest) = read_condition(alloc, b"IF(", text)?;
-    let rest = expect(b"THEN", rest)?;
-    at_end(Shape::IfThen(condition), rest)
+    match behind(b"THEN", rest) {
+        None => {
+            drop(condition);
+            Err(ReadError::NoReading)
+        }
+        Some(rest) => at_end(Shape::IfThen(condition), rest),
+    }
 }
 
 /// An ELSE IF statement (ANSI X3.9-1978, 11.7).
@@ -110,8 +163,13 @@ pub fn read_else_if(alloc: Global, text: &[u8]) -> Result<Shape, ReadError>
     ensures { Agrees (λ x. shape_tree x) result (else_if_of text.now) }
 {
     let (condition, rest) = read_condition(alloc, b"ELSEIF(", text)?;
-    let rest = expect(b"THEN", rest)?;
-    at_end(Shape::ElseIf(condition), rest)
+    match behind(b"THEN", rest) {
+        None => {
+            drop(condition);
+            Err(ReadError::NoReading)
+        }
+        Some(rest) => at_end(Shape::ElseIf(condition), rest),
+    }
 }
 
 /// The text of a character constant behind its first apostrophe, up to its last one, and what stands behind (ANSI

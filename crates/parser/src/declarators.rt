@@ -27,16 +27,19 @@ fn read_bounds(alloc: Global, text: &[u8]) -> Result<(Bounds, &[u8]), ReadError>
             },
             rest,
         )),
-        Some(rest) => {
-            let (upper, rest) = read_whole_expression(alloc, rest)?;
-            Ok((
+        Some(rest) => match read_whole_expression(alloc, rest) {
+            Err(error) => {
+                drop(first);
+                Err(error)
+            }
+            Ok((upper, rest)) => Ok((
                 Bounds {
                     lower: Some(first),
                     upper,
                 },
                 rest,
-            ))
-        }
+            )),
+        },
     }
 }
 

@@ -7,7 +7,7 @@ ghost use Rattle.meaning.specs.Reading.{paren_at, exprs_at, subscripts_at, named
 ghost use Rattle.parser.specs.Reports.{Agrees};
 
 use crate::read_error::ReadError;
-use crate::token::{behind, expect, read_name, read_operator, read_sign, read_truth, split_digits};
+use crate::token::{behind, read_name, read_operator, read_sign, read_truth, split_digits};
 use meaning::syntax::{Expr, Exprs, Operator};
 use std::alloc::{AllocError, Global};
 
@@ -106,16 +106,32 @@ fn continues(least: u8, left: &Expr, operator: Operator) -> bool
 fn join(alloc: Global, operator: Operator, left: Expr, right: Expr) -> Result<Expr, AllocError>
     ensures { IfOk result (λ e. expr_tree e ≡ binary operator (expr_tree left) (expr_tree right)) }
 {
-    let left = Box::new(alloc, left)?;
-    let right = Box::new(alloc, right)?;
-    Ok(Expr::Binary(operator, left, right))
+    match Box::new(alloc, left) {
+        Err(refused) => {
+            drop(right);
+            Err(refused.into())
+        }
+        Ok(left) => match Box::new(alloc, right) {
+            Err(refused) => {
+                drop(left);
+                Err(refused.into())
+            }
+            Ok(right) => Ok(Expr::Binary(operator, left, right)),
+        },
+    }
 }
 
 /// An expression before others.
 pub fn list_with(alloc: Global, first: Expr, others: Exprs) -> Result<Exprs, AllocError>
     ensures { IfOk result (λ es. exprs_tree es ≡ exprs (expr_tree first) (exprs_tree others)) }
 {
-    Ok(Exprs::More(first, Box::new(alloc, others)?))
+    match Box::new(alloc, others) {
+        Err(refused) => {
+            drop(first);
+            Err(refused.into())
+        }
+        Ok(others) => Ok(Exprs::More(first, others)),
+    }
 }
 
 /// A name, or with subscripts an element.
@@ -138,8 +154,13 @@ fn read_parenthesis(alloc: Global, depth: usize, text: &[u8]) -> Result<(Expr, &
     ensures { Agrees (λ x. (expr_tree x.0, x.1.now)) result (paren_at (expression_at depth) text.now) }
 {
     let (inner, rest) = read_expression(alloc, depth, WEAKEST, text)?;
-    let rest = expect(b")", rest)?;
-    Ok((Expr::Paren(Box::new(alloc, inner)?), rest))
+    match behind(b")", rest) {
+        None => {
+            drop(inner);
+            Err(ReadError::NoReading)
+        }
+        Some(rest) => Ok((Expr::Paren(Box::new(alloc, inner)?), rest)),
+    }
 }
 
 /// Expressions of the weakest level with commas between, one at least and so many at most.
@@ -159,10 +180,13 @@ fn read_inner_expressions(
     let (first, rest) = read_expression(alloc, depth, WEAKEST, text)?;
     match behind(b",", rest) {
         None => Ok((list_with(alloc, first, Exprs::Empty)?, rest)),
-        Some(rest) => {
-            let (others, rest) = read_inner_expressions(alloc, depth, most - 1, rest)?;
-            Ok((list_with(alloc, first, others)?, rest))
-        }
+        Some(rest) => match read_inner_expressions(alloc, depth, most - 1, rest) {
+            Err(error) => {
+                drop(first);
+                Err(error)
+            }
+            Ok((others, rest)) => Ok((list_with(alloc, first, others)?, rest)),
+        },
     }
 }
 
@@ -180,7 +204,13 @@ fn read_inner_subscripts(
         None => Ok((Exprs::Empty, text)),
         Some(rest) => {
             let (list, rest) = read_inner_expressions(alloc, depth, rest.len() + 1, rest)?;
-            Ok((list, expect(b")", rest)?))
+            match behind(b")", rest) {
+                None => {
+                    drop(list);
+                    Err(ReadError::NoReading)
+                }
+                Some(rest) => Ok((list, rest)),
+            }
         }
     }
 }
@@ -294,14 +324,16 @@ fn read_operations(
                 if !continues(least, &left, operator) {
                     return Ok((left, rest));
                 }
-                let (right, after) = read_expression(
-                    alloc,
-                    depth,
-                    least_on_right(operator),
-                    behind,
-                )?;
-                left = join(alloc, operator, left, right)?;
-                rest = after;
+                match read_expression(alloc, depth, least_on_right(operator), behind) {
+                    Err(error) => {
+                        drop(left);
+                        return Err(error);
+                    }
+                    Ok((right, after)) => {
+                        left = join(alloc, operator, left, right)?;
+                        rest = after;
+                    }
+                }
             }
         }
     }

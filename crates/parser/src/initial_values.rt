@@ -1,9 +1,10 @@
 //! DATA statements.
 
-ghost use Rattle.std.specs.Prelude.{◌≡◌, ◌+◌, length, map};
-ghost use Rattle.meaning.specs.Syntax.{expr_tree, list_item_tree, list_items_tree, data_constant_tree, repeat_tree, data_value_tree, data_set_tree, shape_tree};
+ghost use Rattle.std.specs.Prelude.{◌≡◌, ◌+◌, Bool, length, map};
+ghost use Rattle.meaning.specs.Syntax.{ListItemsTree, expr_tree, list_item_tree, list_items_tree, data_constant_tree, repeat_tree, data_value_tree, data_set_tree, shape_tree};
 ghost use Rattle.meaning.specs.Spelling.{is_data_value as data_value, is_data_item as data_item, are_data_items as data_items, begins_without_comma as uncommaed};
 ghost use Rattle.meaning.specs.Reading.{number_behind_sign, unsigned_at, data_constant_at, begins_repeat as repeat_first, repeat_of, repeated_value_at, data_value_at, separated_at, data_list_at, data_set_at, data_sets_of, initializing_of};
+ghost use Rattle.parser.specs.Behind.{set_with, data_list_behind};
 ghost use Rattle.parser.specs.Reports.{Agrees};
 
 use crate::list::read_items;
@@ -194,29 +195,49 @@ fn read_data_list(alloc: Global, text: &[u8]) -> Result<(ListItems, &[u8]), Read
 {
     let (list, rest) = read_items(alloc, text.len() + 1, PRIMARY, text)?;
     if !are_data_items(true, &list) {
+        drop(list);
         return Err(ReadError::NoReading);
     }
     Ok((list, rest))
 }
 
+/// Constants between slashes, behind their list.
+#[tactic(auto, unfolding(crate::specs::Behind::data_list_behind))]
+fn read_set_values(alloc: Global, text: &[u8]) -> Result<(Vec<DataValue>, &[u8]), ReadError>
+    ensures { (comma : Bool) (xs : ListItemsTree) → Agrees (λ x. (set_with comma xs (map data_value_tree x.0.items), x.1.now)) result (data_list_behind comma xs text.now) }
+{
+    let rest = expect(b"/", text)?;
+    let (values, rest) = read_data_values(alloc, rest)?;
+    match behind(b"/", rest) {
+        None => {
+            drop(values);
+            Err(ReadError::NoReading)
+        }
+        Some(rest) => Ok((values, rest)),
+    }
+}
+
 /// A list and its constants between slashes, with a comma before them or none.
-#[tactic(auto, unfolding(meaning::specs::Reading::data_set_at))]
+#[tactic(auto, unfolding(meaning::specs::Reading::data_set_at, crate::specs::Behind::data_list_behind))]
 fn read_data_set(alloc: Global, text: &[u8]) -> Result<(DataSet, &[u8]), ReadError>
     ensures { Agrees (λ x. (data_set_tree x.0, x.1.now)) result (data_set_at text.now) }
 {
     let (comma, rest) = split_comma(text);
     let (list, rest) = read_data_list(alloc, rest)?;
-    let rest = expect(b"/", rest)?;
-    let (values, rest) = read_data_values(alloc, rest)?;
-    let rest = expect(b"/", rest)?;
-    Ok((
-        DataSet {
-            comma,
-            list,
-            values,
-        },
-        rest,
-    ))
+    match read_set_values(alloc, rest) {
+        Err(error) => {
+            drop(list);
+            Err(error)
+        }
+        Ok((values, rest)) => Ok((
+            DataSet {
+                comma,
+                list,
+                values,
+            },
+            rest,
+        )),
+    }
 }
 
 /// The rest of a text: lists with their constants.

@@ -1,8 +1,9 @@
 //! The lists of WRITE, PRINT and DATA statements.
 
 ghost use Rattle.std.specs.Prelude.{◌≡◌, IfOk};
-ghost use Rattle.meaning.specs.Syntax.{more_items, list_item_tree, list_items_tree};
+ghost use Rattle.meaning.specs.Syntax.{ListItemsTree, loop_item, more_items, limits_tree, list_item_tree, list_items_tree};
 ghost use Rattle.meaning.specs.Reading.{begins_control as control_first, ends_list as list_end, value_item_at, loop_item_at, item_at, items_at, list_of, list_behind_comma};
+ghost use Rattle.parser.specs.Behind.{loop_behind};
 ghost use Rattle.parser.specs.Reports.{Agrees};
 
 use crate::expression::read_expression_from;
@@ -10,7 +11,7 @@ use crate::read_error::ReadError;
 use crate::statement::read_limits;
 use crate::token::{behind, expect, is_symbolic_name, read_name, split_alphanumerics};
 use lexer::{begins, has_equals_sign};
-use meaning::syntax::{ListItem, ListItems};
+use meaning::syntax::{Limits, ListItem, ListItems};
 use std::alloc::{AllocError, Global};
 
 /// Whether a text begins with a name and an equals sign, as what controls an implied DO.
@@ -37,7 +38,13 @@ fn ends_list(text: &[u8]) -> bool
 fn items_with(alloc: Global, first: ListItem, others: ListItems) -> Result<ListItems, AllocError>
     ensures { IfOk result (λ xs. list_items_tree xs ≡ more_items (list_item_tree first) (list_items_tree others)) }
 {
-    Ok(ListItems::More(first, Box::new(alloc, others)?))
+    match Box::new(alloc, others) {
+        Err(refused) => {
+            drop(first);
+            Err(refused.into())
+        }
+        Ok(others) => Ok(ListItems::More(first, others)),
+    }
 }
 
 /// An expression of a level.
@@ -49,9 +56,49 @@ fn read_value_item(alloc: Global, least: u8, text: &[u8]) -> Result<(ListItem, &
     Ok((ListItem::Value(value), rest))
 }
 
+/// What controls an implied DO, behind its items: a comma, a name, an equals sign, limits and the closing parenthesis.
+#[tactic(auto, unfolding(crate::specs::Behind::loop_behind))]
+fn read_loop_control(alloc: Global, text: &[u8]) -> Result<(Vec<u8>, Limits, &[u8]), ReadError>
+    ensures { (xs : ListItemsTree) → Agrees (λ x. (loop_item xs x.0.items (limits_tree x.1), x.2.now)) result (loop_behind xs text.now) }
+{
+    let rest = expect(b",", text)?;
+    let (variable, rest) = read_name(alloc, rest)?;
+    let rest = expect(b"=", rest)?;
+    let (limits, rest) = read_limits(alloc, rest)?;
+    match behind(b")", rest) {
+        None => {
+            drop(limits);
+            Err(ReadError::NoReading)
+        }
+        Some(rest) => Ok((variable, limits, rest)),
+    }
+}
+
+/// An implied DO of items and what controls it.
+fn loop_with(
+    alloc: Global,
+    items: ListItems,
+    variable: Vec<u8>,
+    limits: Limits,
+) -> Result<ListItem, AllocError>
+    ensures { IfOk result (λ x. list_item_tree x ≡ loop_item (list_items_tree items) variable.items (limits_tree limits)) }
+{
+    match Box::new(alloc, items) {
+        Err(refused) => {
+            drop(limits);
+            Err(refused.into())
+        }
+        Ok(items) => Ok(ListItem::Loop {
+            items,
+            variable,
+            limits,
+        }),
+    }
+}
+
 /// An implied DO behind its opening parenthesis (ANSI X3.9-1978, 9.3 and 12.8.2.3).
 #[cycle(items)]
-#[tactic(auto, unfolding(meaning::specs::Reading::loop_item_at))]
+#[tactic(auto, unfolding(meaning::specs::Reading::loop_item_at, crate::specs::Behind::loop_behind))]
 fn read_loop_item(
     alloc: Global,
     most: usize,
@@ -61,20 +108,13 @@ fn read_loop_item(
     ensures { Agrees (λ x. (list_item_tree x.0, x.1.now)) result (loop_item_at (items_at least most) text.now) }
 {
     let (items, rest) = read_items(alloc, most, least, text)?;
-    let rest = expect(b",", rest)?;
-    let (variable, rest) = read_name(alloc, rest)?;
-    let rest = expect(b"=", rest)?;
-    let (limits, rest) = read_limits(alloc, rest)?;
-    let rest = expect(b")", rest)?;
-    let items = Box::new(alloc, items)?;
-    Ok((
-        ListItem::Loop {
-            items,
-            variable,
-            limits,
-        },
-        rest,
-    ))
+    match read_loop_control(alloc, rest) {
+        Err(error) => {
+            drop(items);
+            Err(error)
+        }
+        Ok((variable, limits, rest)) => { Ok((loop_with(alloc, items, variable, limits)?, rest)) }
+    }
 }
 
 /// An expression, or an implied DO: its parenthesis has an equals sign before the one that closes it.
@@ -114,9 +154,19 @@ pub fn read_items(
     if ends_list(rest) {
         return Ok((items_with(alloc, first, ListItems::Empty)?, rest));
     }
-    let rest = expect(b",", rest)?;
-    let (others, rest) = read_items(alloc, most - 1, least, rest)?;
-    Ok((items_with(alloc, first, others)?, rest))
+    match behind(b",", rest) {
+        None => {
+            drop(first);
+            Err(ReadError::NoReading)
+        }
+        Some(rest) => match read_items(alloc, most - 1, least, rest) {
+            Err(error) => {
+                drop(first);
+                Err(error)
+            }
+            Ok((others, rest)) => Ok((items_with(alloc, first, others)?, rest)),
+        },
+    }
 }
 
 /// The rest of a text: items, or nothing.
@@ -129,6 +179,7 @@ pub fn read_list(alloc: Global, text: &[u8]) -> Result<ListItems, ReadError>
     }
     let (list, rest) = read_items(alloc, text.len() + 1, 0, text)?;
     if !rest.is_empty() {
+        drop(list);
         return Err(ReadError::NoReading);
     }
     Ok(list)
@@ -147,6 +198,7 @@ pub fn read_list_behind_comma(alloc: Global, text: &[u8]) -> Result<ListItems, R
             }
             let (list, rest) = read_items(alloc, rest.len() + 1, 0, rest)?;
             if !rest.is_empty() {
+                drop(list);
                 return Err(ReadError::NoReading);
             }
             Ok(list)

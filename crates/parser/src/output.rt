@@ -1,7 +1,8 @@
 //! WRITE and PRINT statements.
 
-ghost use Rattle.meaning.specs.Syntax.{unit_tree, format_tree, control_tree, shape_tree};
+ghost use Rattle.meaning.specs.Syntax.{UnitTree, ControlTree, writing, unit_tree, format_tree, control_tree, list_items_tree, shape_tree};
 ghost use Rattle.meaning.specs.Reading.{unit_at, source_at, format_first_at, unit_first_at, behind_unit_at, control_at, writing_of, printing_of};
+ghost use Rattle.parser.specs.Behind.{control_with, unit_behind, control_behind};
 ghost use Rattle.parser.specs.Reports.{Agrees};
 
 use crate::control::read_quoted;
@@ -9,7 +10,7 @@ use crate::expression::read_whole_expression;
 use crate::list::{read_list, read_list_behind_comma};
 use crate::read_error::ReadError;
 use crate::token::{behind, expect, read_label};
-use meaning::syntax::{Control, ControlOrder, FormatSource, Shape, Unit};
+use meaning::syntax::{Control, ControlOrder, FormatSource, ListItems, Shape, Unit};
 use std::alloc::Global;
 
 /// The unit of a WRITE statement (ANSI X3.9-1978, 12.9.1): an asterisk or an expression.
@@ -61,52 +62,75 @@ fn read_format_first(alloc: Global, text: &[u8]) -> Result<(Control, &[u8]), Rea
     ))
 }
 
+/// A format behind `,FMT=`.
+#[tactic(auto, unfolding(crate::specs::Behind::unit_behind))]
+fn read_format_keyword(alloc: Global, text: &[u8]) -> Result<(FormatSource, &[u8]), ReadError>
+    ensures { (u : UnitTree) → Agrees (λ x. (control_with ControlOrder.UnitFirst u (format_tree x.0), x.1.now)) result (unit_behind u text.now) }
+{
+    let rest = expect(b",FMT=", text)?;
+    read_source(alloc, rest)
+}
+
 /// A unit and a format behind `UNIT=`.
-#[tactic(auto, unfolding(meaning::specs::Reading::unit_first_at))]
+#[tactic(auto, unfolding(meaning::specs::Reading::unit_first_at, crate::specs::Behind::unit_behind))]
 fn read_unit_first(alloc: Global, text: &[u8]) -> Result<(Control, &[u8]), ReadError>
     ensures { Agrees (λ x. (control_tree x.0, x.1.now)) result (unit_first_at text.now) }
 {
     let (unit, rest) = read_unit(alloc, text)?;
-    let rest = expect(b",FMT=", rest)?;
-    let (format, rest) = read_source(alloc, rest)?;
-    Ok((
-        Control {
-            order: ControlOrder::UnitFirst,
-            unit,
-            format,
-        },
-        rest,
-    ))
+    match read_format_keyword(alloc, rest) {
+        Err(error) => {
+            drop(unit);
+            Err(error)
+        }
+        Ok((format, rest)) => {
+            let order = ControlOrder::UnitFirst;
+            Ok((
+                Control {
+                    order,
+                    unit,
+                    format,
+                },
+                rest,
+            ))
+        }
+    }
 }
 
-/// A format behind a unit that has no keyword.
+/// A format behind a comma and its keyword, or behind a comma alone, and which of them it was.
 #[tactic(auto, unfolding(meaning::specs::Reading::behind_unit_at, meaning::specs::Reading::either))]
-fn read_behind_unit(alloc: Global, unit: Unit, text: &[u8]) -> Result<(Control, &[u8]), ReadError>
-    ensures { Agrees (λ x. (control_tree x.0, x.1.now)) result (behind_unit_at (unit_tree unit) text.now) }
+fn read_format_behind(
+    alloc: Global,
+    text: &[u8],
+) -> Result<(ControlOrder, FormatSource, &[u8]), ReadError>
+    ensures { (u : UnitTree) → Agrees (λ x. (control_with x.0 u (format_tree x.1), x.2.now)) result (behind_unit_at u text.now) }
 {
     if let Some(rest) = behind(b",FMT=", text) {
         let (format, rest) = read_source(alloc, rest)?;
-        let order = ControlOrder::FormatNamed;
-        return Ok((
+        return Ok((ControlOrder::FormatNamed, format, rest));
+    }
+    let rest = expect(b",", text)?;
+    let (format, rest) = read_source(alloc, rest)?;
+    Ok((ControlOrder::Plain, format, rest))
+}
+
+/// A format behind a unit that has no keyword.
+fn read_behind_unit(alloc: Global, unit: Unit, text: &[u8]) -> Result<(Control, &[u8]), ReadError>
+    ensures { Agrees (λ x. (control_tree x.0, x.1.now)) result (behind_unit_at (unit_tree unit) text.now) }
+{
+    match read_format_behind(alloc, text) {
+        Err(error) => {
+            drop(unit);
+            Err(error)
+        }
+        Ok((order, format, rest)) => Ok((
             Control {
                 order,
                 unit,
                 format,
             },
             rest,
-        ));
+        )),
     }
-    let rest = expect(b",", text)?;
-    let (format, rest) = read_source(alloc, rest)?;
-    let order = ControlOrder::Plain;
-    Ok((
-        Control {
-            order,
-            unit,
-            format,
-        },
-        rest,
-    ))
 }
 
 /// What the parentheses of a WRITE statement hold.
@@ -124,16 +148,29 @@ fn read_control(alloc: Global, text: &[u8]) -> Result<(Control, &[u8]), ReadErro
     read_behind_unit(alloc, unit, rest)
 }
 
+/// What stands behind the control of a WRITE statement: the closing parenthesis, and the list.
+#[tactic(auto, unfolding(crate::specs::Behind::control_behind))]
+fn read_written(alloc: Global, text: &[u8]) -> Result<ListItems, ReadError>
+    ensures { (c : ControlTree) → Agrees (λ x. writing c (list_items_tree x)) result (control_behind c text.now) }
+{
+    let rest = expect(b")", text)?;
+    read_list(alloc, rest)
+}
+
 /// A WRITE statement (ANSI X3.9-1978, 12.8).
-#[tactic(auto, unfolding(meaning::specs::Reading::writing_of))]
+#[tactic(auto, unfolding(meaning::specs::Reading::writing_of, crate::specs::Behind::control_behind))]
 pub fn read_write(alloc: Global, text: &[u8]) -> Result<Shape, ReadError>
     ensures { Agrees (λ x. shape_tree x) result (writing_of text.now) }
 {
     let rest = expect(b"WRITE(", text)?;
     let (control, rest) = read_control(alloc, rest)?;
-    let rest = expect(b")", rest)?;
-    let list = read_list(alloc, rest)?;
-    Ok(Shape::Write { control, list })
+    match read_written(alloc, rest) {
+        Err(error) => {
+            drop(control);
+            Err(error)
+        }
+        Ok(list) => Ok(Shape::Write { control, list }),
+    }
 }
 
 /// A PRINT statement (ANSI X3.9-1978, 12.8).

@@ -1,10 +1,12 @@
 //! Statements: a text as the form that it reads as.
 
-ghost use Rattle.std.specs.Prelude.{◌≡◌};
-ghost use Rattle.meaning.specs.Syntax.{expr_tree, exprs_tree, limits_tree, shape_tree};
-ghost use Rattle.meaning.specs.Reading.{at_end as ends, whole_expression_at, exprs_at, subscripts_at, value_of, target_of, assignment_of, format_of, alone_of, limits_at, comma_at, doing_of, simple_by, logical_if_of, shape_by, shape_of, read_shape};
+ghost use Rattle.std.specs.Prelude.{◌≡◌, ◌<◌, false, option_map};
+ghost use Rattle.meaning.specs.Kinds.{kind_of};
+ghost use Rattle.meaning.specs.Syntax.{ExprTree, ExprsTree, assignment, expr_tree, exprs_tree, limits_tree, shape_tree};
+ghost use Rattle.meaning.specs.Reading.{Text, at_end as ends, whole_expression_at, exprs_at, subscripts_at, value_of, target_of, assignment_of, format_of, alone_of, limits_at, comma_at, doing_of, simple_by, logical_if_of, shape_by, shape_of, most_open, read_shape};
 ghost use Rattle.meaning.specs.Answers.{at_line};
 ghost use Rattle.meaning.specs.Reports.{Gives};
+ghost use Rattle.parser.specs.Behind.{limits_with, target_behind, step_behind, limits_behind};
 ghost use Rattle.parser.specs.Reports.{Agrees};
 
 use crate::control::{
@@ -36,10 +38,13 @@ fn read_expressions(alloc: Global, most: usize, text: &[u8]) -> Result<(Exprs, &
     let (first, rest) = read_whole_expression(alloc, text)?;
     match behind(b",", rest) {
         None => Ok((list_with(alloc, first, Exprs::Empty)?, rest)),
-        Some(rest) => {
-            let (others, rest) = read_expressions(alloc, most - 1, rest)?;
-            Ok((list_with(alloc, first, others)?, rest))
-        }
+        Some(rest) => match read_expressions(alloc, most - 1, rest) {
+            Err(error) => {
+                drop(first);
+                Err(error)
+            }
+            Ok((others, rest)) => Ok((list_with(alloc, first, others)?, rest)),
+        },
     }
 }
 
@@ -48,6 +53,7 @@ pub fn at_end(shape: Shape, rest: &[u8]) -> Result<Shape, ReadError>
     ensures { Agrees (λ x. shape_tree x) result (ends (shape_tree shape, rest.now)) }
 {
     if !rest.is_empty() {
+        drop(shape);
         return Err(ReadError::NoReading);
     }
     Ok(shape)
@@ -62,7 +68,13 @@ fn read_subscripts(alloc: Global, text: &[u8]) -> Result<(Exprs, &[u8]), ReadErr
         None => Ok((Exprs::Empty, text)),
         Some(rest) => {
             let (list, rest) = read_expressions(alloc, rest.len() + 1, rest)?;
-            Ok((list, expect(b")", rest)?))
+            match behind(b")", rest) {
+                None => {
+                    drop(list);
+                    Err(ReadError::NoReading)
+                }
+                Some(rest) => Ok((list, rest)),
+            }
         }
     }
 }
@@ -74,24 +86,38 @@ pub fn read_value(alloc: Global, text: &[u8]) -> Result<Expr, ReadError>
 {
     let (value, rest) = read_whole_expression(alloc, text)?;
     if !rest.is_empty() {
+        drop(value);
         return Err(ReadError::NoReading);
     }
     Ok(value)
 }
 
+/// What stands on the right of an assignment, behind its equals sign.
+#[tactic(auto, unfolding(crate::specs::Behind::target_behind))]
+fn read_assigned(alloc: Global, text: &[u8]) -> Result<Expr, ReadError>
+    ensures { (name : Text) (es : ExprsTree) → Agrees (λ x. assignment name es (expr_tree x)) result (target_behind name es text.now) }
+{
+    let rest = expect(b"=", text)?;
+    read_value(alloc, rest)
+}
+
 /// What stands behind the name on the left of an assignment.
-#[tactic(auto, unfolding(meaning::specs::Reading::target_of))]
+#[tactic(auto, unfolding(meaning::specs::Reading::target_of, crate::specs::Behind::target_behind))]
 fn read_behind_name(alloc: Global, name: Vec<u8>, text: &[u8]) -> Result<Shape, ReadError>
     ensures { Agrees (λ x. shape_tree x) result (target_of name.items text.now) }
 {
     let (subscripts, rest) = read_subscripts(alloc, text)?;
-    let rest = expect(b"=", rest)?;
-    let value = read_value(alloc, rest)?;
-    Ok(Shape::Assignment {
-        name,
-        subscripts,
-        value,
-    })
+    match read_assigned(alloc, rest) {
+        Err(error) => {
+            drop(subscripts);
+            Err(error)
+        }
+        Ok(value) => Ok(Shape::Assignment {
+            name,
+            subscripts,
+            value,
+        }),
+    }
 }
 
 /// An assignment (ANSI X3.9-1978, 10.1), or a statement function without dummy arguments (15.4).
@@ -127,38 +153,57 @@ fn read_format(alloc: Global, text: &[u8]) -> Result<Shape, ReadError>
 fn read_alone(word: &[u8], shape: Shape, text: &[u8]) -> Result<Shape, ReadError>
     ensures { Agrees (λ x. shape_tree x) result (alone_of word.now (shape_tree shape) text.now) }
 {
-    let rest = expect(word, text)?;
-    at_end(shape, rest)
+    match behind(word, text) {
+        None => {
+            drop(shape);
+            Err(ReadError::NoReading)
+        }
+        Some(rest) => at_end(shape, rest),
+    }
+}
+
+/// A comma and an expression, or nothing.
+#[tactic(auto, unfolding(crate::specs::Behind::step_behind, meaning::specs::Reading::either))]
+fn read_step(alloc: Global, text: &[u8]) -> Result<(Option<Expr>, &[u8]), ReadError>
+    ensures { (a b : ExprTree) → Agrees (λ x. (limits_with a b (option_map expr_tree x.0), x.1.now)) result (step_behind a b text.now) }
+{
+    match behind(b",", text) {
+        None => Ok((None, text)),
+        Some(rest) => {
+            let (step, rest) = read_whole_expression(alloc, rest)?;
+            Ok((Some(step), rest))
+        }
+    }
+}
+
+/// The limits behind the first: a comma and an expression, and a step or none.
+#[tactic(auto, unfolding(crate::specs::Behind::limits_behind))]
+fn read_last_limits(alloc: Global, text: &[u8]) -> Result<(Expr, Option<Expr>, &[u8]), ReadError>
+    ensures { (a : ExprTree) → Agrees (λ x. (limits_with a (expr_tree x.0) (option_map expr_tree x.1), x.2.now)) result (limits_behind a text.now) }
+{
+    let rest = expect(b",", text)?;
+    let (last, rest) = read_whole_expression(alloc, rest)?;
+    match read_step(alloc, rest) {
+        Err(error) => {
+            drop(last);
+            Err(error)
+        }
+        Ok((step, rest)) => Ok((last, step, rest)),
+    }
 }
 
 /// The limits of a DO statement (ANSI X3.9-1978, 11.10): two expressions or three, with commas between.
-#[tactic(auto, unfolding(meaning::specs::Reading::limits_at, meaning::specs::Reading::either))]
+#[tactic(auto, unfolding(meaning::specs::Reading::limits_at, crate::specs::Behind::limits_behind, crate::specs::Behind::step_behind))]
 pub fn read_limits(alloc: Global, text: &[u8]) -> Result<(Limits, &[u8]), ReadError>
     ensures { Agrees (λ x. (limits_tree x.0, x.1.now)) result (limits_at text.now) }
 {
     let (first, rest) = read_whole_expression(alloc, text)?;
-    let rest = expect(b",", rest)?;
-    let (last, rest) = read_whole_expression(alloc, rest)?;
-    match behind(b",", rest) {
-        None => Ok((
-            Limits {
-                first,
-                last,
-                step: None,
-            },
-            rest,
-        )),
-        Some(rest) => {
-            let (step, rest) = read_whole_expression(alloc, rest)?;
-            Ok((
-                Limits {
-                    first,
-                    last,
-                    step: Some(step),
-                },
-                rest,
-            ))
+    match read_last_limits(alloc, rest) {
+        Err(error) => {
+            drop(first);
+            Err(error)
         }
+        Ok((last, step, rest)) => Ok((Limits { first, last, step }, rest)),
     }
 }
 
@@ -228,14 +273,27 @@ fn read_simple(alloc: Global, kind: Kind, text: &[u8]) -> Result<Shape, ReadErro
     }
 }
 
+/// The statement under a logical IF.
+fn read_boxed_simple(alloc: Global, text: &[u8]) -> Result<Box<Shape>, ReadError>
+    ensures { Agrees (λ x. shape_tree x.value) result (simple_by (kind_of text.now) text.now) }
+{
+    let statement = read_simple(alloc, kind_of_text(text), text)?;
+    Ok(Box::new(alloc, statement)?)
+}
+
 /// A logical IF statement (ANSI X3.9-1978, 11.5).
 #[tactic(auto, unfolding(meaning::specs::Reading::logical_if_of))]
 fn read_logical_if(alloc: Global, text: &[u8]) -> Result<Shape, ReadError>
     ensures { Agrees (λ x. shape_tree x) result (logical_if_of text.now) }
 {
     let (condition, rest) = read_condition(alloc, b"IF(", text)?;
-    let statement = read_simple(alloc, kind_of_text(rest), rest)?;
-    Ok(Shape::LogicalIf(condition, Box::new(alloc, statement)?))
+    match read_boxed_simple(alloc, rest) {
+        Err(error) => {
+            drop(condition);
+            Err(error)
+        }
+        Ok(statement) => Ok(Shape::LogicalIf(condition, statement)),
+    }
 }
 
 /// A statement of a kind.
@@ -279,11 +337,13 @@ fn read_shape_of(alloc: Global, bare: &Bare) -> Result<Shape, ReadError>
     read_statement(alloc, kind(bare), &bare.text)
 }
 
-/// The form that a bare text reads as. More than 64 parentheses open at once break G3. Where there is no reading,
-/// the text breaks G2 if it begins as a statement that is left out, and else G1. Fails too if memory is refused.
+/// The form that a bare text reads as. More than 64 parentheses open at once break G3, and no growth is made before that is
+/// known, so that want of memory is never answered then. Where there is no reading, the text breaks G2 if it begins as a
+/// statement that is left out, and else G1. Fails too if memory is refused.
 #[tactic(auto, unfolding(meaning::specs::Reading::read_shape, meaning::specs::Reading::either))]
 pub fn form(alloc: Global, bare: &Bare) -> Result<Form, Refusal>
     ensures exact { Gives (λ f. shape_tree f.shape) result (at_line bare.now.line (read_shape bare.now.text.items)) }
+    ensures deep { 64 < most_open 0 false bare.now.text.items → result ≡ Err (Refusal.Rule Rule.G3 bare.now.line) }
 {
     let line = bare.line;
     if is_too_deep(&bare.text) {
