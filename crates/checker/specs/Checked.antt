@@ -7,9 +7,16 @@ use Rattle.meaning.specs.Arrays.{Named, cells_of}
 use Rattle.meaning.specs.Trees.{Nested, nested, flatten}
 use Rattle.meaning.specs.Execution.{format_found}
 use Rattle.meaning.specs.Rules.{arrays_of, count}
+use Rattle.meaning.specs.declared.syntax.Tree.{Tree}
 use Rattle.checker.specs.declared.program.Program.{Program}
+use Rattle.checker.specs.declared.rules.Kept.{Kept}
 use Rattle.checker.specs.Numbered.{texts, with_names, variables, Numbers, found_in}
 use Rattle.checker.specs.Placed.{named, placed, placed_at}
+
+-- a program unit with what is kept beside its statements
+abbrev pub program_of : Tree → Kept → Program
+program_of t k =
+    record { tree = t; names = k.names; storage = k.storage; starts = k.starts; formats = k.formats }
 
 -- its program unit
 abbrev pub tree_of : Program → Nested
