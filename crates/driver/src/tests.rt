@@ -1,300 +1,269 @@
-//! The program over readers and writers in memory. Expected bytes come from the rules of docs/LANGUAGE.md.
+//! The whole program over words, readers and writers in memory: its exit status and its line on standard error. The
+//! expected lines are worked from docs/LANGUAGE.md.
 
-use executor::run::run;
-use executor::{Out, Sink};
-use meaning::ending::{Ending, Fault, FaultKind};
-use meaning::refusal::Rule;
-use std::alloc::Global;
+use crate::engine::engine;
+use std::env::{Env, FillError};
 use std::io;
-use std::io::{ErrorKind, Write};
+use std::io::{ErrorKind, Read, Write};
+use std::process::Abort;
+use std::rt::Files;
 use std::test::*;
 
-mod arrays;
-mod grammar;
-mod loops;
-mod program;
-
-/// A writer in memory that takes at most `step` bytes a call and `room` bytes in all; past that it answers 0, or an
-/// error.
+/// The words of a command line.
 #[derive(Drop)]
-struct Meter {
-    bytes: Vec<u8>,
-    step: usize,
-    room: usize,
-    errs: bool,
+struct Words<'a> {
+    words: &'a [&'a [u8]],
 }
 
-impl Write for Meter {
+impl Env for Words<'_> {
+    fn arg(&self, i: usize, buf: &mut [u8]) -> Result<usize, FillError> {
+        match self.words.get(i) {
+            None => Err(FillError::NotPresent),
+            Some(word) => {
+                if word.len() > buf.len() {
+                    return Err(FillError::TooLong);
+                }
+                buf[..word.len()].copy_from_slice(word);
+                Ok(word.len())
+            }
+        }
+    }
+
+    fn var(&self, _name: &str, _buf: &mut [u8]) -> Result<usize, FillError> {
+        Err(FillError::NotPresent)
+    }
+
+    fn var_at(&self, _i: usize, _buf: &mut [u8]) -> Result<usize, FillError> {
+        Err(FillError::NotPresent)
+    }
+}
+
+/// A reader that fails.
+#[derive(Drop)]
+struct Broken {
+    kind: ErrorKind,
+}
+
+impl Read for Broken {
+    fn read(&mut self, _buf: &mut [u8]) -> io::Result<usize> {
+        Err(io::Error::from(self.kind))
+    }
+}
+
+/// A writer that takes `room` bytes in all and then fails, at a flush too.
+#[derive(Drop)]
+struct Narrow {
+    room: usize,
+}
+
+impl Write for Narrow {
     fn write(&mut self, buf: &[u8]) -> io::Result<usize> {
-        let count = buf.len().min(self.step).min(self.room);
-        if count == 0 && self.errs && !buf.is_empty() {
+        if self.room == 0 {
             return Err(io::Error::from(ErrorKind::BrokenPipe));
         }
-        self.bytes.extend_from_slice(&buf[..count])?;
+        let count = buf.len().min(self.room);
         self.room -= count;
         Ok(count)
     }
 
     fn flush(&mut self) -> io::Result<()> {
-        if self.room == 0 && self.errs {
-            Err(io::Error::from(ErrorKind::BrokenPipe))
-        } else {
-            Ok(())
+        if self.room == 0 {
+            return Err(io::Error::from(ErrorKind::BrokenPipe));
         }
+        Ok(())
     }
 }
 
-fn make_meter(alloc: Global, step: usize, room: usize, errs: bool) -> Meter {
-    Meter {
-        bytes: Vec::new(alloc),
-        step,
-        room,
-        errs,
-    }
+/// What a run of the program left: its exit status, and what stands on standard output and standard error.
+#[derive(Drop)]
+struct Left {
+    status: u8,
+    out: Vec<u8>,
+    err: Vec<u8>,
+}
+
+// The turns that the program is given here.
+const TURNS: u64 = 1_000;
+
+// Runs the program of some words over a reader.
+fn left<R: Files + AllocGlobal, I: Read>(rt: &R, words: &[&[u8]], input: &mut I) -> Left {
+    let mut out = Vec::new(rt.alloc());
+    let mut err = Vec::new(rt.alloc());
+    let status = engine(&Words { words }, rt, TURNS, input, &mut out, &mut err);
+    Left { status, out, err }
+}
+
+// Runs the program over standard input, and expects a status and a line.
+fn expect_line<R: Files + AllocGlobal + Abort, I: Read>(
+    rt: &R,
+    input: &mut I,
+    status: u8,
+    line: &str,
+) {
+    let left = left(rt, &[b"f77run"], input);
+    assert_eq!(rt; left.err.as_slice(), line.as_bytes(), "{line}");
+    assert_eq!(rt; left.status, status, "{line}");
+    assert!(rt; left.out.is_empty(), "{line}");
 }
 
 const ANSWER: &str = "      WRITE (6,10) 42\n   10 FORMAT (1X,I5)\n      END\n";
 
-const FORTY_TWO: &str = "    42\n";
+// A source that breaks one rule, and the line of the program.
+const REFUSALS: &[(&str, &str)] = &[
+    ("      I=\t1\n      END\n", "REFUSED C1 LINE 1\n"),
+    ("  00  I=1\n      END\n", "REFUSED C2 LINE 1\n"),
+    ("      I=1\n10   1+2\n      END\n", "REFUSED C3 LINE 2\n"),
+    ("     1+2\n      END\n", "REFUSED C4 LINE 1\n"),
+    // the 20th continuation line
+    (
+        "      I=1\n     1+1\n     1+1\n     1+1\n     1+1\n     1+1\n     1+1\n     1+1\n     1+1\n     1+1\n     1+1\n     1+1\n     1+1\n     1+1\n     1+1\n     1+1\n     1+1\n     1+1\n     1+1\n     1+1\n     1+1\n      END\n",
+        "REFUSED C5 LINE 21\n",
+    ),
+    ("      I='A\n      END\n", "REFUSED C6 LINE 1\n"),
+    ("      I=2*-3\n      END\n", "REFUSED G1 LINE 1\n"),
+    ("      READ (5,*) N\n      END\n", "REFUSED G2 LINE 1\n"),
+    // 65 parentheses open at once
+    (
+        "      (((((((((((((((((((((((((((((((((((((((((((((((((((((((((((((((((\n",
+        "REFUSED G3 LINE 1\n",
+    ),
+    ("      I=1\n      INTEGER A(2)\n      END\n", "REFUSED N1 LINE 2\n"),
+    ("      I=1\n", "REFUSED N2 LINE 1\n"),
+    ("      I=1\n      ELSE\n      END\n", "REFUSED N3 LINE 2\n"),
+    ("      DO 10 I=1,2\n      END\n", "REFUSED N4 LINE 2\n"),
+    ("      I=1\n      GO TO 10\n   10 CONTINUE\n      END\n", "REFUSED K0 LINE 2\n"),
+    ("   10 I=1\n   10 J=1\n      END\n", "REFUSED K1 LINE 2\n"),
+    ("      X=1\n      END\n", "REFUSED K3 LINE 1\n"),
+    ("      INTEGER A,A\n      END\n", "REFUSED K4 LINE 1\n"),
+    ("      I=2147483648\n      END\n", "REFUSED K6 LINE 1\n"),
+    ("      INTEGER A(3:2)\n      END\n", "REFUSED K7 LINE 1\n"),
+    ("      INTEGER A(2)\n      I=A\n      END\n", "REFUSED K8 LINE 2\n"),
+    ("      DO 10 I=1,2\n   10 I=3\n      END\n", "REFUSED K9 LINE 2\n"),
+    ("      WRITE (5,10)\n   10 FORMAT ()\n      END\n", "REFUSED K11 LINE 1\n"),
+    ("      N(1)=0\n      END\n", "REFUSED K12 LINE 1\n"),
+    ("      J=1\n      I=N(1)\n      END\n", "REFUSED K13 LINE 2\n"),
+];
 
-const TWO_NUMBERS: &str =
-    "      I=3\n      J=2-I*4\n      WRITE (6,10) I,J\n   10 FORMAT (2I4)\n      END\n";
-
-const MANY: u64 = 1_000_000_000;
-
-// The ending of a source, and the bytes that it writes into a writer with room.
-fn outcome(alloc: Global, source: &[u8], turns: u64) -> (Ending, Vec<u8>) {
-    let mut sink = Out::new(make_meter(alloc, usize::MAX, usize::MAX, false));
-    let ending = run(alloc, source, turns, &mut sink);
-    let Meter { bytes, .. } = sink.into_inner();
-    (ending, bytes)
-}
+// A source that faults before it writes anything, and the line of the program.
+const FAULTS: &[(&str, &str)] = &[
+    ("      J=5\n      I=1/(J-J)\n      END\n", "FAULT F1 LINE 2\n"),
+    ("      I=2147483647\n      I=I+1\n      END\n", "FAULT F2 LINE 2\n"),
+    ("      INTEGER A(2)\n      A(3)=1\n      END\n", "FAULT F3 LINE 2\n"),
+    // turn 1001: the DO statement takes one, and each assignment
+    (
+        "      DO 10 I=1,1000\n   10 J=I\n      END\n",
+        "FAULT F4 LINE 2\n",
+    ),
+    ("      DO 10 I=1,3,0\n   10 CONTINUE\n      END\n", "FAULT F5 LINE 1\n"),
+    ("      I=0**0\n      END\n", "FAULT F6 LINE 1\n"),
+    ("      WRITE (6,10) 1\n   10 FORMAT (3X)\n      END\n", "FAULT F7 LINE 1\n"),
+    // three records of 499,952 bytes
+    (
+        "      WRITE (6,10) 1,1,1\n   10 FORMAT (50(9999X),I1)\n      END\n",
+        "FAULT F8 LINE 1\n",
+    ),
+];
 
 #[test]
-fn worked_programs(rt: HostRuntime) {
-    let rows = [
-        (ANSWER, FORTY_TWO),
-        (TWO_NUMBERS, "   3 -10\n"),
-        // a trailing X writes nothing, and control goes back for each value
-        (
-            "      WRITE (*,7) 1,22,333\n    7 FORMAT (I2,3X)\n      END\n",
-            " 1\n22\n**\n",
-        ),
-        // no list: one empty record
-        ("      WRITE (6,1)\n    1 FORMAT ()\n      END", "\n"),
-        // blanks and case have no meaning, nor has what stands past column 72
-        (
-            "C \u{e9}\n      k = 2 * 3 - 10\n      w r i t e (6, 0 1 0) k                                               X\n   10 f o r m a t (i 3)\n* THE END\n      e n d\n",
-            " -4\n",
-        ),
-        // nor has where a statement is cut into lines
-        (
-            "      WRI\n* here\n     1TE (6,1\n     20) 4\n     X2\n   10 FORMAT (1X,\n\n     1I5)\n      END\n",
-            FORTY_TWO,
-        ),
-        // a sign takes a whole term, and operators of one level group from the left
-        (
-            "      I=5\n      WRITE (6,10) -I*2+1,I-1-2,+7\n   10 FORMAT (3I4)\n      END\n",
-            "  -9   2   7\n",
-        ),
-        // a name that nothing gave a value is 0, and FORMAT may stand before the WRITE that uses it
-        (
-            "   10 FORMAT (I1)\r\n      WRITE (6,10) N\r\n      END\r\n",
-            "0\n",
-        ),
-    ];
-    for (source, records) in rows {
-        let (ending, bytes) = outcome(rt.alloc(), source.as_bytes(), MANY);
-        assert_eq!(rt; ending, Ending::Ended, "{source}");
-        assert_eq!(rt; bytes.as_slice(), records.as_bytes(), "{source}");
+fn refusals(rt: HostRuntime) {
+    for &(source, line) in REFUSALS {
+        let mut input = source.as_bytes();
+        expect_line(&rt, &mut input, 2, line);
     }
 }
 
 #[test]
-fn refused_sources(rt: HostRuntime) {
-    let rows = [
-        ("", Rule::N2, 1),
-        ("      I=\t1\n      END\n", Rule::C1, 1),
-        ("   A  I=1\n      END\n", Rule::C2, 1),
-        ("  00  I=1\n      END\n", Rule::C2, 1),
-        ("      I=1\n1    1+2\n      END\n", Rule::C3, 2),
-        ("     1+2\n      END\n", Rule::C4, 1),
-        (
-            "      I=1\n     1+1\n     1+1\n     1+1\n     1+1\n     1+1\n     1+1\n     1+1\n     1+1\n     1+1\n     1+1\n     1+1\n     1+1\n     1+1\n     1+1\n     1+1\n     1+1\n     1+1\n     1+1\n     1+1\n     1+1\n      END\n",
-            Rule::C5,
-            21,
-        ),
-        ("      I='A\n      END\n", Rule::C6, 1),
-        ("      I='A'\n      END\n", Rule::G1, 1),
-        ("      READ (5,*) N\n      END\n", Rule::G2, 1),
-        ("      I=1\n      GO TO 10\n      END\n", Rule::K0, 2),
-        (
-            "      I=((((((((((((((((((((((((((((((((((((((((((((((((((((((((((((\n",
-            Rule::G1,
-            1,
-        ),
-        // 65 parentheses open at once
-        (
-            "      (((((((((((((((((((((((((((((((((((((((((((((((((((((((((((((((((\n",
-            Rule::G3,
-            1,
-        ),
-        ("      I=1\n", Rule::N2, 1),
-        ("      END\n      I=1\n      END\n", Rule::N2, 2),
-        ("   10 I=1\n   10 J=1\n      END\n", Rule::K1, 2),
-        ("      X=1\n      END\n", Rule::K3, 1),
-        ("      I=1\n      J=2147483648\n      END\n", Rule::K6, 2),
-        (
-            "      WRITE (5,10)\n   10 FORMAT ()\n      END\n",
-            Rule::K11,
-            1,
-        ),
-        ("      WRITE (6,10)\n      END\n", Rule::K11, 1),
-        ("   10 FORMAT (A5)\n      END\n", Rule::K11, 1),
-        ("      FORMAT (I5)\n      END\n", Rule::K11, 1),
-        // two broken: the earlier phase, then the lesser line, then the lesser rule
-        ("      X=1\n      I=\n", Rule::G1, 2),
-        ("      J=9999999999\n      X=1\n      END\n", Rule::K6, 1),
-        ("      X=9999999999\n      END\n", Rule::K3, 1),
-        ("  00  I=\t'\n      END\n", Rule::C1, 1),
-    ];
-    for (source, rule, line) in rows {
-        let (ending, bytes) = outcome(rt.alloc(), source.as_bytes(), MANY);
-        assert_eq!(rt; ending, Ending::Refused(rule, line), "{source}");
-        assert!(rt; bytes.is_empty(), "{source}");
+fn deepest_ranges(rt: HostRuntime) -> Result<(), Fail> {
+    let mut source = Vec::new(rt.alloc());
+    for _ in 0..33 {
+        source.extend_from_slice(b"      DO 10 I=1,2\n")?;
     }
-}
-
-#[test]
-fn long_sources(rt: HostRuntime) -> Result<(), Fail> {
-    // comment lines up to 1,048,576 bytes are read, one byte more is not
-    let mut source = Vec::from_slice(rt.alloc(), ANSWER.as_bytes())?;
-    for place in source.len()..1_048_576 {
-        source.push(if place % 64 == 63 { b'\n' } else { b'*' })?;
-    }
-    let (ending, _) = outcome(rt.alloc(), &source, MANY);
-    assert_eq!(rt; ending, Ending::Ended);
-    source.push(b'*')?;
-    let (ending, _) = outcome(rt.alloc(), &source, MANY);
-    assert_eq!(rt; ending, Ending::Refused(Rule::C7, 1));
+    source.extend_from_slice(b"   10 CONTINUE\n      END\n")?;
+    let mut input = source.as_slice();
+    expect_line(&rt, &mut input, 2, "REFUSED N5 LINE 33\n");
     Ok(())
 }
 
 #[test]
 fn faults(rt: HostRuntime) {
-    let rows = [
+    for &(source, line) in FAULTS {
+        let mut input = source.as_bytes();
+        expect_line(&rt, &mut input, 1, line);
+    }
+}
+
+#[test]
+fn runs_to_its_end(rt: HostRuntime) {
+    let mut input = ANSWER.as_bytes();
+    let left = left(&rt, &[b"f77run"], &mut input);
+    assert_eq!(rt; left.status, 0);
+    assert!(rt; left.err.is_empty());
+    assert_eq!(rt; left.out.as_slice(), b"    42\n".as_slice());
+}
+
+#[test]
+fn longest_sources(rt: HostRuntime) {
+    // a comment line up to 1,048,576 bytes, and one byte more
+    let mut input = ANSWER.as_bytes().chain(io::repeat(b'*')).take(1_048_576);
+    let longest = left(&rt, &[b"f77run"], &mut input);
+    assert_eq!(rt; longest.status, 0);
+    assert!(rt; longest.err.is_empty());
+    let mut input = ANSWER.as_bytes().chain(io::repeat(b'*')).take(1_048_577);
+    expect_line(&rt, &mut input, 2, "REFUSED C7 LINE 1\n");
+    // readers that never end
+    expect_line(&rt, &mut io::repeat(b'*'), 2, "REFUSED C7 LINE 1\n");
+    let endless = left(&rt, &[b"f77run", b"/dev/zero"], &mut io::empty());
+    assert_eq!(rt; endless.status, 2);
+    assert_eq!(rt; endless.err.as_slice(), b"REFUSED C7 LINE 1\n".as_slice());
+}
+
+#[test]
+fn command_lines(rt: HostRuntime) {
+    let rows: &[(&[&[u8]], &str)] = &[
         (
-            "      I=2147483647\n      I=I+1\n      END\n",
-            FaultKind::F2,
-            2,
+            &[b"f77run", b"a.f", b"b.f"],
+            "more than one file is named; usage: f77run [FILE]\n",
         ),
+        (&[b"f77run", b"--turns"], "there are no options; usage: f77run [FILE]\n"),
+        // a byte that stands in no UTF-8
+        (&[b"f77run", b"a\xff.f"], "an argument is not UTF-8; usage: f77run [FILE]\n"),
         (
-            "      I=-2147483647-1\n      J=-I\n      END\n",
-            FaultKind::F2,
-            2,
-        ),
-        (
-            "      WRITE (6,10) 1\n   10 FORMAT (3X)\n      END\n",
-            FaultKind::F7,
-            1,
-        ),
-        (
-            "      WRITE (6,1) 1,1,1,1,1,1,1,1,1,1,1,1,1,1,1,1\n    1 FORMAT (9999X,9999X,9999X,9999X,9999X,9999X,9999X,9999X,I1)\n      END\n",
-            FaultKind::F8,
-            1,
-        ),
-        // nothing of a WRITE goes out where a later item faults
-        (
-            "      WRITE (6,10) 1,2147483647+1\n   10 FORMAT (I1)\n      END\n",
-            FaultKind::F2,
-            1,
+            &[b"f77run", b"a.f", b"\xff"],
+            "an argument is not UTF-8; usage: f77run [FILE]\n",
         ),
     ];
-    for (source, kind, line) in rows {
-        let (ending, bytes) = outcome(rt.alloc(), source.as_bytes(), MANY);
-        assert_eq!(rt; ending, Ending::Fault(Fault { kind, line }), "{source}");
-        assert!(rt; bytes.is_empty(), "{source}");
+    for &(words, line) in rows {
+        let left = left(&rt, words, &mut io::empty());
+        assert_eq!(rt; left.status, 3, "{line}");
+        assert_eq!(rt; left.err.as_slice(), line.as_bytes());
+        assert!(rt; left.out.is_empty(), "{line}");
     }
 }
 
 #[test]
-fn turn_limit(rt: HostRuntime) {
-    let fourth = Ending::Fault(Fault {
-        kind: FaultKind::F4,
-        line: 3,
-    });
-    let (ending, bytes) = outcome(rt.alloc(), TWO_NUMBERS.as_bytes(), 2);
-    assert_eq!(rt; ending, fourth);
-    assert!(rt; bytes.is_empty());
-    let (ending, bytes) = outcome(rt.alloc(), TWO_NUMBERS.as_bytes(), 3);
-    assert_eq!(rt; ending, Ending::Ended);
-    assert_eq!(rt; bytes.as_slice(), b"   3 -10\n".as_slice());
-}
-
-#[test]
-fn fronts_of_a_source(rt: HostRuntime) {
-    let source = ANSWER.as_bytes();
-    assert_eq!(rt; source.len(), 53);
-    for kept in 0..54usize {
-        let expected = match kept {
-            0..=6 | 18..=25 => Ending::Refused(Rule::N2, 1),
-            7..=17 => Ending::Refused(Rule::G1, 1),
-            26..=41 => Ending::Refused(Rule::G1, 2),
-            42..=49 => Ending::Refused(Rule::N2, 2),
-            50 | 51 => Ending::Refused(Rule::G1, 3),
-            _ => Ending::Ended,
-        };
-        let (ending, bytes) = outcome(rt.alloc(), &source[..kept], MANY);
-        assert_eq!(rt; ending, expected, "{kept} bytes");
-        let records: &[u8] = if kept < 52 { b"" } else { FORTY_TWO.as_bytes() };
-        assert_eq!(rt; bytes.as_slice(), records, "{kept} bytes");
+fn files_that_cannot_be_read(rt: HostRuntime) {
+    // a file that isn't there, and a directory
+    for &name in [b"no such file.f".as_slice(), b"/".as_slice()].as_slice() {
+        let left = left(&rt, &[b"f77run", name], &mut io::empty());
+        assert_eq!(rt; left.status, 5);
+        assert_eq!(rt; left.err.as_slice(), b"FILE REFUSED\n".as_slice());
+        assert!(rt; left.out.is_empty());
     }
-}
-
-// Two WRITEs, of 7 and 8 bytes.
-const TWO_WRITES: &str =
-    "      WRITE (6,10) 123\n      WRITE (6,20) 45\n   10 FORMAT (I6)\n   20 FORMAT (I7)\n      END\n";
-
-const BOTH: &str = "   123\n     45\n";
-
-#[test]
-fn a_byte_at_a_time(rt: HostRuntime) {
-    let mut sink = Out::new(make_meter(rt.alloc(), 1, usize::MAX, false));
-    let ending = run(rt.alloc(), TWO_WRITES.as_bytes(), MANY, &mut sink);
-    assert_eq!(rt; ending, Ending::Ended);
-    assert!(rt; !sink.refused());
-    assert_eq!(rt; sink.into_inner().bytes.as_slice(), BOTH.as_bytes());
+    let mut input = Broken { kind: ErrorKind::BrokenPipe };
+    expect_line(&rt, &mut input, 5, "FILE REFUSED\n");
+    let mut input = Broken { kind: ErrorKind::OutOfMemory };
+    expect_line(&rt, &mut input, 4, "NO MEMORY\n");
 }
 
 #[test]
-fn refused_writes(rt: HostRuntime) {
-    for errs in [false, true] {
-        for step in [1usize, 3, 100] {
-            for room in 0..17usize {
-                let mut sink = Out::new(make_meter(rt.alloc(), step, room, errs));
-                let ending = run(rt.alloc(), TWO_WRITES.as_bytes(), MANY, &mut sink);
-                let expected = if room < 15 {
-                    Ending::WriteRefused
-                } else {
-                    Ending::Ended
-                };
-                assert_eq!(rt; ending, expected, "room {room}");
-                assert_eq!(rt; sink.refused(), room < 15, "room {room}");
-                let kept = room.min(15);
-                assert_eq!(rt;
-                    sink.into_inner().bytes.as_slice(),
-                    &BOTH.as_bytes()[..kept]
-                );
-            }
-        }
+fn writes_that_are_refused(rt: HostRuntime) {
+    // in the record, and at the flush behind it
+    for &room in [0usize, 3, 7].as_slice() {
+        let mut input = ANSWER.as_bytes();
+        let mut err = Vec::new(rt.alloc());
+        let words = Words { words: &[b"f77run"] };
+        let status = engine(&words, &rt, TURNS, &mut input, Narrow { room }, &mut err);
+        assert_eq!(rt; status, 5);
+        assert_eq!(rt; err.as_slice(), b"WRITE REFUSED\n".as_slice());
     }
-}
-
-#[test]
-fn a_record_broken_off(rt: HostRuntime) {
-    let source = b"      WRITE (6,10)\n   10 FORMAT ('ABCDEFGHIJ')\n      END\n";
-    let mut sink = Out::new(make_meter(rt.alloc(), usize::MAX, 3, true));
-    let ending = run(rt.alloc(), source.as_slice(), MANY, &mut sink);
-    assert_eq!(rt; ending, Ending::WriteRefused);
-    assert_eq!(rt; sink.into_inner().bytes.as_slice(), b"ABC".as_slice());
 }
