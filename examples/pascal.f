@@ -1,0 +1,12 @@
+C     PASCAL'S TRIANGLE, EACH LINE MADE FROM THE ONE BEFORE.
+      INTEGER ROW(0:6)
+      DO 10 K=1,6
+   10 ROW(K)=0
+      ROW(0)=1
+      DO 30 N=1,6
+      DO 20 K=N,1,-1
+   20 ROW(K)=ROW(K)+ROW(K-1)
+      WRITE (6,40) ROW(0),ROW(1),ROW(2),ROW(3),ROW(4),ROW(5),ROW(6)
+   30 CONTINUE
+   40 FORMAT (7I4)
+      END

@@ -1,0 +1,12 @@
+C     THE FIRST POWERS OF TWO, BY DOUBLING, FOUR TO A RECORD.
+      N=1
+      N2=N+N
+      N4=N2+N2
+      N8=N4+N4
+      N16=N8+N8
+      N32=N16+N16
+      N64=N32+N32
+      N128=N64+N64
+      WRITE (*,20) N,N2,N4,N8,N16,N32,N64,N128
+   20 FORMAT (4I5)
+      END

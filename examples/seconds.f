@@ -1,0 +1,16 @@
+C     HOURS, MINUTES AND SECONDS AS SECONDS, AND A POLYNOMIAL BY
+C     HORNER'S RULE: 2*K*K*K - 3*K*K + 5*K - 7 AT K OF 4.
+      IH=12
+      IM=34
+      IS=56
+      MINS=IH*60+IM
+      ISECS=MINS*60+IS
+      WRITE (6,30) IH,IM,IS,ISECS
+      K=4
+      J=2*K-3
+      J=J*K+5
+      J=J*K-7
+      WRITE (6,40) K,J
+   30 FORMAT (3I3,2X,I6)
+   40 FORMAT (I3,I6)
+      END

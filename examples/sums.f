@@ -1,0 +1,11 @@
+C     SUMS OF SQUARES AND OF CUBES, AND WHAT THE RULES FOR THEM GIVE,
+C     SIX AND FOUR TIMES THE SUM.
+      DO 10 N=1,10
+      ISQ=0
+      ICU=0
+      DO 20 K=1,N
+      ISQ=ISQ+K*K
+   20 ICU=ICU+K*K*K
+   10 WRITE (6,30) N,6*ISQ,N*(N+1)*(2*N+1),4*ICU,(N*(N+1))*(N*(N+1))
+   30 FORMAT (I3,4I8)
+      END
