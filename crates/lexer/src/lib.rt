@@ -2,9 +2,11 @@
 #![tactic(auto)]
 
 mod bare_text;
+mod laws;
 mod scan;
 mod statement_kind;
 
 pub use bare_text::{bare, bare_bytes};
+pub use laws::{balanced_by_counts, bare_by_places};
 pub use scan::{begins, has_equals_sign, is_balanced, is_too_deep};
 pub use statement_kind::{kind, kind_of_text};
