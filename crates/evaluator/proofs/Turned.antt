@@ -13,7 +13,7 @@ use Rattle.evaluator.specs.Quiet.{is_writing}
 use Rattle.meaning.specs.Syntax.{ExprTree, ExprsTree, ShapeTree, ItemTree, assignment, continuing, shape_tree}
 use Rattle.meaning.specs.Maps.{Map, put}
 use Rattle.meaning.specs.Values.{dimensions_in, subscripts, value, as_integer, and_then}
-use Rattle.meaning.specs.Execution.{Ran, more, Follow, turn, with_ok, failed, step, output}
+use Rattle.meaning.specs.Execution.{Ran, more, Follow, turn, with_ok, failed, step}
 use Rattle.meaning.proofs.Running.{more-none}
 use Rattle.evaluator.specs.Statements.{Puts, target_and_value, TakesTurn, Leaves, Passes, Moves}
 

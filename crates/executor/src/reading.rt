@@ -39,13 +39,14 @@ fn members_in(alloc: Global, found: &[Statement]) -> Result<Vec<Item>, Refusal>
     let mut broken = None;
     for statement in found {
         match member_in(alloc, statement) {
-            Ok(member) => {
-                if let Err(unpushed) = members.push(member) {
+            Ok(member) => match members.push(member) {
+                Ok(()) => {}
+                Err(unpushed) => {
                     drop(unpushed);
                     drop(members);
                     return Err(Refusal::Memory);
                 }
-            }
+            },
             Err(Refusal::Rule { rule, line }) => {
                 broken = lesser(broken, Some(Broken { line, rule }));
             }

@@ -29,9 +29,7 @@ pub fn run<S: Sink>(alloc: Global, source: &[u8], turns: u64, sink: &mut S) -> E
         Err(Refusal::Memory) => return Ending::Memory,
         Err(Refusal::Rule { rule, line }) => return Ending::Refused(rule, line),
     };
-    let ended = execute(alloc, &program, turns, sink);
-    drop(program);
-    match ended {
+    match execute(alloc, &program, turns, sink) {
         Ok(None) => Ending::Ended,
         Ok(Some(fault)) => Ending::Fault(fault),
         Err(Halt::Memory) => Ending::Memory,
