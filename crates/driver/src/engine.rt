@@ -10,12 +10,10 @@ use executor::Out;
 use executor::run::run;
 use meaning::ending::Ending;
 use std::alloc::{AllocError, AllocFailed, Global};
-use std::env;
 use std::env::Env;
-use std::fs;
-use std::io;
 use std::io::{ErrorKind, Read, Write};
 use std::rt::Files;
+use std::{env, fs, io};
 
 /// So many bytes of a source are read at most: one more than a source may have.
 const BYTES_READ: u64 = 1_048_577;

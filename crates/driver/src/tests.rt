@@ -127,36 +127,69 @@ const REFUSALS: &[(&str, &str)] = &[
         "      (((((((((((((((((((((((((((((((((((((((((((((((((((((((((((((((((\n",
         "REFUSED G3 LINE 1\n",
     ),
-    ("      I=1\n      INTEGER A(2)\n      END\n", "REFUSED N1 LINE 2\n"),
+    (
+        "      I=1\n      INTEGER A(2)\n      END\n",
+        "REFUSED N1 LINE 2\n",
+    ),
     ("      I=1\n", "REFUSED N2 LINE 1\n"),
     ("      I=1\n      ELSE\n      END\n", "REFUSED N3 LINE 2\n"),
     ("      DO 10 I=1,2\n      END\n", "REFUSED N4 LINE 2\n"),
-    ("      I=1\n      GO TO 10\n   10 CONTINUE\n      END\n", "REFUSED K0 LINE 2\n"),
+    (
+        "      I=1\n      GO TO 10\n   10 CONTINUE\n      END\n",
+        "REFUSED K0 LINE 2\n",
+    ),
     ("   10 I=1\n   10 J=1\n      END\n", "REFUSED K1 LINE 2\n"),
     ("      X=1\n      END\n", "REFUSED K3 LINE 1\n"),
     ("      INTEGER A,A\n      END\n", "REFUSED K4 LINE 1\n"),
     ("      I=2147483648\n      END\n", "REFUSED K6 LINE 1\n"),
     ("      INTEGER A(3:2)\n      END\n", "REFUSED K7 LINE 1\n"),
-    ("      INTEGER A(2)\n      I=A\n      END\n", "REFUSED K8 LINE 2\n"),
-    ("      DO 10 I=1,2\n   10 I=3\n      END\n", "REFUSED K9 LINE 2\n"),
-    ("      WRITE (5,10)\n   10 FORMAT ()\n      END\n", "REFUSED K11 LINE 1\n"),
+    (
+        "      INTEGER A(2)\n      I=A\n      END\n",
+        "REFUSED K8 LINE 2\n",
+    ),
+    (
+        "      DO 10 I=1,2\n   10 I=3\n      END\n",
+        "REFUSED K9 LINE 2\n",
+    ),
+    (
+        "      WRITE (5,10)\n   10 FORMAT ()\n      END\n",
+        "REFUSED K11 LINE 1\n",
+    ),
     ("      N(1)=0\n      END\n", "REFUSED K12 LINE 1\n"),
-    ("      J=1\n      I=N(1)\n      END\n", "REFUSED K13 LINE 2\n"),
+    (
+        "      J=1\n      I=N(1)\n      END\n",
+        "REFUSED K13 LINE 2\n",
+    ),
 ];
 
 // A source that faults before it writes anything, and the line of the program.
 const FAULTS: &[(&str, &str)] = &[
-    ("      J=5\n      I=1/(J-J)\n      END\n", "FAULT F1 LINE 2\n"),
-    ("      I=2147483647\n      I=I+1\n      END\n", "FAULT F2 LINE 2\n"),
-    ("      INTEGER A(2)\n      A(3)=1\n      END\n", "FAULT F3 LINE 2\n"),
+    (
+        "      J=5\n      I=1/(J-J)\n      END\n",
+        "FAULT F1 LINE 2\n",
+    ),
+    (
+        "      I=2147483647\n      I=I+1\n      END\n",
+        "FAULT F2 LINE 2\n",
+    ),
+    (
+        "      INTEGER A(2)\n      A(3)=1\n      END\n",
+        "FAULT F3 LINE 2\n",
+    ),
     // turn 1001: the DO statement takes one, and each assignment
     (
         "      DO 10 I=1,1000\n   10 J=I\n      END\n",
         "FAULT F4 LINE 2\n",
     ),
-    ("      DO 10 I=1,3,0\n   10 CONTINUE\n      END\n", "FAULT F5 LINE 1\n"),
+    (
+        "      DO 10 I=1,3,0\n   10 CONTINUE\n      END\n",
+        "FAULT F5 LINE 1\n",
+    ),
     ("      I=0**0\n      END\n", "FAULT F6 LINE 1\n"),
-    ("      WRITE (6,10) 1\n   10 FORMAT (3X)\n      END\n", "FAULT F7 LINE 1\n"),
+    (
+        "      WRITE (6,10) 1\n   10 FORMAT (3X)\n      END\n",
+        "FAULT F7 LINE 1\n",
+    ),
     // three records of 499,952 bytes
     (
         "      WRITE (6,10) 1,1,1\n   10 FORMAT (50(9999X),I1)\n      END\n",
@@ -224,9 +257,15 @@ fn command_lines(rt: HostRuntime) {
             &[b"f77run", b"a.f", b"b.f"],
             "more than one file is named; usage: f77run [FILE]\n",
         ),
-        (&[b"f77run", b"--turns"], "there are no options; usage: f77run [FILE]\n"),
+        (
+            &[b"f77run", b"--turns"],
+            "there are no options; usage: f77run [FILE]\n",
+        ),
         // a byte that stands in no UTF-8
-        (&[b"f77run", b"a\xff.f"], "an argument is not UTF-8; usage: f77run [FILE]\n"),
+        (
+            &[b"f77run", b"a\xff.f"],
+            "an argument is not UTF-8; usage: f77run [FILE]\n",
+        ),
         (
             &[b"f77run", b"a.f", b"\xff"],
             "an argument is not UTF-8; usage: f77run [FILE]\n",
@@ -249,9 +288,13 @@ fn files_that_cannot_be_read(rt: HostRuntime) {
         assert_eq!(rt; left.err.as_slice(), b"FILE REFUSED\n".as_slice());
         assert!(rt; left.out.is_empty());
     }
-    let mut input = Broken { kind: ErrorKind::BrokenPipe };
+    let mut input = Broken {
+        kind: ErrorKind::BrokenPipe,
+    };
     expect_line(&rt, &mut input, 5, "FILE REFUSED\n");
-    let mut input = Broken { kind: ErrorKind::OutOfMemory };
+    let mut input = Broken {
+        kind: ErrorKind::OutOfMemory,
+    };
     expect_line(&rt, &mut input, 4, "NO MEMORY\n");
 }
 
@@ -261,7 +304,9 @@ fn writes_that_are_refused(rt: HostRuntime) {
     for &room in [0usize, 3, 7].as_slice() {
         let mut input = ANSWER.as_bytes();
         let mut err = Vec::new(rt.alloc());
-        let words = Words { words: &[b"f77run"] };
+        let words = Words {
+            words: &[b"f77run"],
+        };
         let status = engine(&words, &rt, TURNS, &mut input, Narrow { room }, &mut err);
         assert_eq!(rt; status, 5);
         assert_eq!(rt; err.as_slice(), b"WRITE REFUSED\n".as_slice());

@@ -117,4 +117,3 @@ pub unless_do : (s : ShapeTree) (arrays : Arrays) (rec : Meaning) (line : ℕ) (
 unfolding looped
 unless_do (doing label comma variable limits) arrays rec line range m t h go = absurd (false≢true h)
 unless_do s arrays rec line range m t h go = refl
-

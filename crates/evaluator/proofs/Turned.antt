@@ -116,7 +116,6 @@ module _ (all : List ItemTree) (n : List ℕ) (es : ExprsTree) (e : ExprTree) (l
 pub passes_over : (m : Map) (t : ℕ) → Passes (λ go. go m t) t m t
 passes_over m t = record { used = 0; is = λ go. more-none (go m t); turns = omega arith }
 
-
 -- a CONTINUE statement
 pub continues : (all : List ItemTree) (line : ℕ) (m : Map) (t u : ℕ) → t ≡ suc u → Passes (λ go. step all continuing line m t go) t m u
 continues all line m t u taken =

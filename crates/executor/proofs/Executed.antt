@@ -96,4 +96,3 @@ pub outputs : (all : List ItemTree) (s : ShapeTree) (source : FormatTree) (list 
 outputs all (writing control items) source list is line m t go = ap (λ o. output all o.0 o.1 line m t go) (sym (same_Some (source, list) (control.source, items) is))
 outputs all (printing f items) source list is line m t go = ap (λ o. output all o.0 o.1 line m t go) (sym (same_Some (source, list) (f, items) is))
 outputs all s source list is line m t go = absurd cc
-

@@ -33,18 +33,19 @@ keeps_nothing source limit a =
       says_so = refl;
     })
 
-module _ (source : List ℕ) (limit : ℕ) (t : Nested) (old new : Told) (e : program_of source ≡ Ok t) where
-  pub keeps_whole : (o : Option Fault) (ending : Ending) → HasEnded (run_of t limit) o old new → ending ≡ ending_of (outcome_of o) → Keeps (answer source limit) old new ending
-  keeps_whole o ending over is =
-      subst (λ x. Keeps x old new ending) (sym (answer_is source limit (Ok t) e)) (whole (record { bytes = over.bytes; same_ending = is ∙ ap ending_of (sym over.outcome) }))
+module _ (limit : ℕ) (t : Nested) (old new : Told) where
+  pub keeps_whole : (o : Option Fault) (ending : Ending) → HasEnded (run_of t limit) o old new → ending ≡ ending_of (outcome_of o) → Keeps (answer_of (Ok t) limit) old new ending
+  keeps_whole o ending over is = whole (record { bytes = over.bytes; same_ending = is ∙ ap ending_of (sym over.outcome) })
 
-  pub keeps_front : IsFront (run_of t limit).pieces old new → Keeps (answer source limit) old new endings.Memory
-  keeps_front front =
-      subst (λ x. Keeps x old new endings.Memory) (sym (answer_is source limit (Ok t) e)) (cut_short (record { bytes = front; says_so = refl }))
+  pub keeps_front : IsFront (run_of t limit).pieces old new → Keeps (answer_of (Ok t) limit) old new endings.Memory
+  keeps_front front = cut_short (record { bytes = front; says_so = refl })
 
-  pub keeps_broken : IsBroken (concat (run_of t limit).pieces) old new → Keeps (answer source limit) old new endings.WriteRefused
-  keeps_broken broken =
-      subst (λ x. Keeps x old new endings.WriteRefused) (sym (answer_is source limit (Ok t) e)) (broken_off (record { bytes = broken; says_so = refl }))
+  pub keeps_broken : IsBroken (concat (run_of t limit).pieces) old new → Keeps (answer_of (Ok t) limit) old new endings.WriteRefused
+  keeps_broken broken = broken_off (record { bytes = broken; says_so = refl })
+
+  -- of a source that spells the program
+  pub keeps_spelled : (source : List ℕ) (ending : Ending) → program_of source ≡ Ok t → Keeps (answer_of (Ok t) limit) old new ending → Keeps (answer source limit) old new ending
+  keeps_spelled source ending e = subst (λ x. Keeps x old new ending) (sym (answer_is source limit (Ok t) e))
 
 -- another ending, and a sink that hasn't refused
 pub not_refused : (ending : Ending) (b : Bool) → (ending ≡ endings.WriteRefused → ⊥) → b ≡ false → (ending ≡ endings.WriteRefused) ↔ (b ≡ true)

@@ -22,7 +22,8 @@ use crate::statement::execute_item;
 use array_store::Whole;
 use checker::Program;
 use evaluator::{
-    Span, add_whole, count_of, do_of, is_quiet_list, limits_whole, set_whole, take_turn, trips_whole,
+    Span, add_whole, count_of, do_of, is_quiet_list, limits_whole, set_whole, take_turn,
+    trips_whole,
 };
 use meaning::ending::{Fault, FaultKind};
 use meaning::syntax::{Limits, Loop, Member};

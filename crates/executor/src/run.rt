@@ -1,7 +1,7 @@
 //! The run of a source: from its bytes to the records that it writes.
 
-ghost use Rattle.std.specs.Prelude.{◌≡◌, ◌↔◌, false, true};
-ghost use Rattle.meaning.specs.Answers.{answer};
+ghost use Rattle.std.specs.Prelude.{◌≡◌, ◌↔◌, Ok, false, true};
+ghost use Rattle.meaning.specs.Answers.{answer, answer_of};
 ghost use Rattle.meaning.specs.Promise.{Keeps};
 ghost use Rattle.checker.specs.Checked.{tree_of, IsNumbered};
 
@@ -9,9 +9,25 @@ use crate::execute::execute;
 use crate::halt::Halt;
 use crate::reading::program_in;
 use crate::sink::Sink;
+use checker::Program;
 use meaning::ending::Ending;
 use meaning::refusal::Refusal;
 use std::alloc::Global;
+
+// Runs a program that keeps the rules.
+fn run_program<S: Sink>(alloc: Global, program: &Program, turns: u64, sink: &mut S) -> Ending
+    requires numbered { IsNumbered program.now }
+    requires unrefused { (S.told sink.old).refused ≡ false }
+    ensures promise { Keeps (answer_of (Ok (tree_of program.now)) turns) (S.told sink.old) (S.told sink.new) result }
+    ensures refused { (result ≡ Ending.WriteRefused) ↔ ((S.told sink.new).refused ≡ true) }
+{
+    match execute(alloc, program, turns, sink) {
+        Ok(None) => Ending::Ended,
+        Ok(Some(fault)) => Ending::Fault(fault),
+        Err(Halt::Memory) => Ending::Memory,
+        Err(Halt::WriteRefused) => Ending::WriteRefused,
+    }
+}
 
 /// Runs a source with a limit on turns, and puts what it writes into a sink that hasn't refused.
 ///
@@ -29,10 +45,7 @@ pub fn run<S: Sink>(alloc: Global, source: &[u8], turns: u64, sink: &mut S) -> E
         Err(Refusal::Memory) => return Ending::Memory,
         Err(Refusal::Rule { rule, line }) => return Ending::Refused(rule, line),
     };
-    match execute(alloc, &program, turns, sink) {
-        Ok(None) => Ending::Ended,
-        Ok(Some(fault)) => Ending::Fault(fault),
-        Err(Halt::Memory) => Ending::Memory,
-        Err(Halt::WriteRefused) => Ending::WriteRefused,
-    }
+    let ending = run_program(alloc, &program, turns, sink);
+    drop(program);
+    ending
 }
