@@ -61,7 +61,7 @@ const LENGTHS: &[usize] = &[0, 1, 4096, 4097, 1_048_576];
 fn piece_of(alloc: Global, length: usize) -> Result<Vec<u8>, AllocError> {
     let mut piece = Vec::new(alloc);
     for place in 0..length {
-        piece.push((place % 251) as u8)?;
+        piece.push(u8::try_from(place % 251).unwrap_or(0))?;
     }
     Ok(piece)
 }

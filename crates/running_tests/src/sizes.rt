@@ -25,8 +25,8 @@ fn statements(rt: HostRuntime) -> Result<(), Fail> {
 /// 20,000 names, each of which gets the value of the one before and 1.
 fn many_names(alloc: Global) -> Result<String, Fail> {
     let mut source = String::new(alloc);
-    for place in 1..20_000u32 {
-        let before = place - 1;
+    for before in 0..19_999u32 {
+        let place = before.saturating_add(1);
         source.push_str(format!(in alloc; "      N{place}=N{before}+1\n")?.as_str())?;
     }
     source.push_str("      WRITE (6,10) N19999\n   10 FORMAT (I6)\n      END\n")?;
