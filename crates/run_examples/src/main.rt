@@ -2,7 +2,8 @@
 //! compiler's program wrote.
 #![tactic(auto)]
 
-use executor::{Out, run};
+use executor::Out;
+use executor::run::run;
 use meaning::ending::Ending;
 use std::alloc::Global;
 use std::{fs, io};
@@ -13,8 +14,10 @@ const TURNS: u64 = 1_000_000_000;
 // What a source writes, if it ends at END.
 fn records_of(alloc: Global, source: &[u8]) -> Option<Vec<u8>> {
     let mut sink = Out::new(Vec::new(alloc));
-    match run(alloc, source, TURNS, &mut sink) {
-        Ending::Ended => Some(sink.into_inner()),
+    let ending = run(alloc, source, TURNS, &mut sink);
+    let records = sink.into_inner();
+    match ending {
+        Ending::Ended => Some(records),
         _ => None,
     }
 }
