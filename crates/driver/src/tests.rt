@@ -76,7 +76,7 @@ impl Write for Narrow {
 
 /// What a run of the program left: its exit status, and what stands on standard output and standard error.
 #[derive(Drop)]
-struct Left {
+struct Run {
     status: u8,
     out: Vec<u8>,
     err: Vec<u8>,
@@ -86,11 +86,11 @@ struct Left {
 const TURNS: u64 = 1_000;
 
 // Runs the program of some words over a reader.
-fn left<R: Files + AllocGlobal, I: Read>(rt: &R, words: &[&[u8]], input: &mut I) -> Left {
+fn run_of<R: Files + AllocGlobal, I: Read>(rt: &R, words: &[&[u8]], input: &mut I) -> Run {
     let mut out = Vec::new(rt.alloc());
     let mut err = Vec::new(rt.alloc());
     let status = engine(&Words { words }, rt, TURNS, input, &mut out, &mut err);
-    Left { status, out, err }
+    Run { status, out, err }
 }
 
 // Runs the program over standard input, and expects a status and a line.
@@ -100,10 +100,10 @@ fn expect_line<R: Files + AllocGlobal + Abort, I: Read>(
     status: u8,
     line: &str,
 ) {
-    let left = left(rt, &[b"f77run"], input);
-    assert_eq!(rt; left.err.as_slice(), line.as_bytes(), "{line}");
-    assert_eq!(rt; left.status, status, "{line}");
-    assert!(rt; left.out.is_empty(), "{line}");
+    let run = run_of(rt, &[b"f77run"], input);
+    assert_eq!(rt; run.err.as_slice(), line.as_bytes(), "{line}");
+    assert_eq!(rt; run.status, status, "{line}");
+    assert!(rt; run.out.is_empty(), "{line}");
 }
 
 const ANSWER: &str = "      WRITE (6,10) 42\n   10 FORMAT (1X,I5)\n      END\n";
@@ -228,24 +228,24 @@ fn faults(rt: HostRuntime) {
 #[test]
 fn runs_to_its_end(rt: HostRuntime) {
     let mut input = ANSWER.as_bytes();
-    let left = left(&rt, &[b"f77run"], &mut input);
-    assert_eq!(rt; left.status, 0);
-    assert!(rt; left.err.is_empty());
-    assert_eq!(rt; left.out.as_slice(), b"    42\n".as_slice());
+    let run = run_of(&rt, &[b"f77run"], &mut input);
+    assert_eq!(rt; run.status, 0);
+    assert!(rt; run.err.is_empty());
+    assert_eq!(rt; run.out.as_slice(), b"    42\n".as_slice());
 }
 
 #[test]
 fn longest_sources(rt: HostRuntime) {
     // a comment line up to 1,048,576 bytes, and one byte more
     let mut input = ANSWER.as_bytes().chain(io::repeat(b'*')).take(1_048_576);
-    let longest = left(&rt, &[b"f77run"], &mut input);
+    let longest = run_of(&rt, &[b"f77run"], &mut input);
     assert_eq!(rt; longest.status, 0);
     assert!(rt; longest.err.is_empty());
     let mut input = ANSWER.as_bytes().chain(io::repeat(b'*')).take(1_048_577);
     expect_line(&rt, &mut input, 2, "REFUSED C7 LINE 1\n");
     // readers that never end
     expect_line(&rt, &mut io::repeat(b'*'), 2, "REFUSED C7 LINE 1\n");
-    let endless = left(&rt, &[b"f77run", b"/dev/zero"], &mut io::empty());
+    let endless = run_of(&rt, &[b"f77run", b"/dev/zero"], &mut io::empty());
     assert_eq!(rt; endless.status, 2);
     assert_eq!(rt; endless.err.as_slice(), b"REFUSED C7 LINE 1\n".as_slice());
 }
@@ -272,10 +272,10 @@ fn command_lines(rt: HostRuntime) {
         ),
     ];
     for &(words, line) in rows {
-        let left = left(&rt, words, &mut io::empty());
-        assert_eq!(rt; left.status, 3, "{line}");
-        assert_eq!(rt; left.err.as_slice(), line.as_bytes());
-        assert!(rt; left.out.is_empty(), "{line}");
+        let run = run_of(&rt, words, &mut io::empty());
+        assert_eq!(rt; run.status, 3, "{line}");
+        assert_eq!(rt; run.err.as_slice(), line.as_bytes());
+        assert!(rt; run.out.is_empty(), "{line}");
     }
 }
 
@@ -283,10 +283,10 @@ fn command_lines(rt: HostRuntime) {
 fn files_that_cannot_be_read(rt: HostRuntime) {
     // a file that isn't there, and a directory
     for &name in [b"no such file.f".as_slice(), b"/".as_slice()].as_slice() {
-        let left = left(&rt, &[b"f77run", name], &mut io::empty());
-        assert_eq!(rt; left.status, 5);
-        assert_eq!(rt; left.err.as_slice(), b"FILE REFUSED\n".as_slice());
-        assert!(rt; left.out.is_empty());
+        let run = run_of(&rt, &[b"f77run", name], &mut io::empty());
+        assert_eq!(rt; run.status, 5);
+        assert_eq!(rt; run.err.as_slice(), b"FILE REFUSED\n".as_slice());
+        assert!(rt; run.out.is_empty());
     }
     let mut input = Broken {
         kind: ErrorKind::BrokenPipe,
