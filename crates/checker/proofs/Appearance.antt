@@ -1,119 +1,66 @@
--- The names of statements in the order of their first appearance.
-use Rattle.std.proofs.Common.{◌≡◌, ℕ, ◌+◌, ◌<◌, Bool, true, false, ◌||◌, List, [], ◌∷◌, ◌++◌, length, get_or, take, map, refl, sym, ap, ap₂, ◌∙◌, subst}
+-- Variables and arrays as they appear, some names or one statement more.
+use Rattle.std.proofs.Common.{◌≡◌, ℕ, ◌+◌, ◌<◌, Bool, true, false, List, [], ◌∷◌, ◌++◌, length, get_or, take, map, append_assoc, refl, sym, ap, ap₂, ◌∙◌}
+use Rattle.std.specs.Prelude.{if◌then◌else◌}
 use Rattle.std.specs.Borrow.{Bor}
-use Rattle.std.specs.Global.{Vec}
-use Rattle.std.specs.Prelude.{flat_map, if◌then◌else◌}
-use Rattle.std.specs.Str.{bytes_eq}
-use Rattle.std.specs.List.{list_any, AllByRecursion}
-use Rattle.std.proofs.lemmas.Slice.Eq.{bytes_eq-Decides}
-use Rattle.std.proofs.lemmas.List.{map-append, append-nil}
-use Rattle.std.proofs.lemmas.Grind.{flat_map-append}
+use Rattle.std.specs.List.{filter}
+use Rattle.std.proofs.lemmas.List.{append-nil, map-append}
+use Rattle.std.proofs.lemmas.List.Elements.{filter-append}
 use Rattle.meaning.specs.declared.syntax.Item.{Item}
-use Rattle.meaning.specs.Syntax.{ExprTree, number, truth, name, signed, negated, binary, paren, element, call, ExprsTree, no_exprs, exprs, ItemTree}
-use Rattle.meaning.specs.Rules.{Use, uses_in, uses_in_all}
-use Rattle.k_rules.specs.Listed.{tree_at}
-use Rattle.k_rules.proofs.NameSets.{texts_any, with_names_append}
-use Rattle.k_rules.proofs.Parts.{any_append}
-use Rattle.k_rules.proofs.Passes.{trees_more}
-use Rattle.checker.specs.Numbered.{names_in, names_in_all, names_of, HoldsAll, Numbers, texts, with_name, with_names, variables}
+use Rattle.meaning.specs.Scopes.{declarators_in}
+use Rattle.meaning.specs.Syntax.{DeclaratorTree, ItemTree}
+use Rattle.meaning.specs.Uses.{Roles, Use, is_defining, parts_of, uses_at}
+use Rattle.roles.specs.Listed.{tree_at, trees_at}
+use Rattle.roles.specs.NameSets.{with_name, with_names}
+use Rattle.roles.proofs.NameSets.{with_names_append}
+use Rattle.roles.proofs.Passes.{map_more}
+use Rattle.checker.specs.Numbered.{is_variable, names_at, names_from, with_variables}
 
--- ---- the names of uses
+pub with_variables_append : (r : Roles) (names a b : List (List ℕ)) → with_variables r names (a ++ b) ≡ with_variables r (with_variables r names a) b
+with_variables_append r names a b =
+    ap (with_names names) (filter-append (is_variable r) a b) ∙ with_names_append names (filter (is_variable r) a) (filter (is_variable r) b)
 
-abbrev named_by : List Use → List (List ℕ)
-named_by us = map (λ u. u.name) us
+-- a name more, where it is that of a variable or an array, and where it isn't
+pub variable_more : (r : Roles) (names : List (List ℕ)) (n : List ℕ) → is_variable r n ≡ true → with_name names n ≡ with_variables r names (n ∷ [])
+variable_more r names n h = ap (λ b. with_names names (if b then n ∷ [] else [])) (sym h)
 
-named_append : (us vs : List Use) → named_by (us ++ vs) ≡ named_by us ++ named_by vs
-named_append us vs = map-append (λ u. u.name) us vs
+pub other_more : (r : Roles) (names : List (List ℕ)) (n : List ℕ) → is_variable r n ≡ false → names ≡ with_variables r names (n ∷ [])
+other_more r names n h = ap (λ b. with_names names (if b then n ∷ [] else [])) (sym h)
 
-abbrev mutual
-  names_are : (e : ExprTree) → named_by (uses_in e) ≡ names_in e
-  names_are (number digits) = refl
-  names_are (name letters) = refl
-  names_are (signed sign e) = names_are e
-  names_are (binary operator a b) =
-      named_append (uses_in a) (uses_in b) ∙ ap₂ ◌++◌ (names_are a) (names_are b)
-  names_are (paren e) = names_are e
-  names_are (call letters) = refl
-  names_are (truth value) = refl
-  names_are (negated e) = names_are e
-  names_are (element letters es) = ap (λ ns. letters ∷ ns) (all_are es)
+-- the names of a statement, those that it declares in front of the others
+pub item_names : (r : Roles) (before : List ItemTree) (x : ItemTree) (old mid new : List (List ℕ)) (ds : List DeclaratorTree) (us : List Use) (defines : Bool) → ds ≡ declarators_in x.shape → defines ≡ is_defining r before x → us ≡ (parts_of r defines x.shape).sets ++ (parts_of r defines x.shape).reads → mid ≡ with_variables r old (map (λ d. d.name) ds) → new ≡ with_variables r mid (map (λ u. u.name) us) → new ≡ with_variables r old (names_at r before x)
+item_names r before x old mid new ds us defines declared is used first second =
+    let uses : us ≡ uses_at r before x = used ∙ ap (λ b. (parts_of r b x.shape).sets ++ (parts_of r b x.shape).reads) is in
+    second
+    ∙ ap₂ (λ ns vs. with_variables r ns (map (λ u. u.name) vs)) (first ∙ ap (λ es. with_variables r old (map (λ d. d.name) es)) declared) uses
+    ∙ sym (with_variables_append r old (map (λ d. d.name) (declarators_in x.shape)) (map (λ u. u.name) (uses_at r before x)))
 
-  all_are : (es : ExprsTree) → named_by (uses_in_all es) ≡ names_in_all es
-  all_are no_exprs = refl
-  all_are (exprs e es) = named_append (uses_in e) (uses_in_all es) ∙ ap₂ ◌++◌ (names_are e) (all_are es)
+-- name gives the name of an element's tree
+pub variables_more : {X Y : Type 0} (r : Roles) (tree : X → Y) (name : Y → List ℕ) (xs : List X) (i : ℕ) (x : X) (front now next : List (List ℕ)) → i < length xs → x ≡ get_or xs i x → now ≡ with_variables r front (map name (map tree (take i xs))) → next ≡ with_variables r now (name (tree x) ∷ []) → next ≡ with_variables r front (map name (map tree (take (i + 1) xs)))
+variables_more r tree name xs i x front now next lt is so_far added =
+    let before = map tree (take i xs) in
+    added ∙ ap (λ ns. with_variables r ns (name (tree x) ∷ [])) so_far ∙ sym (with_variables_append r front (map name before) (name (tree x) ∷ []))
+    ∙ ap (with_variables r front) (sym (map-append name before (tree x ∷ [])) ∙ ap (map name) (sym (map_more tree xs i x lt is)))
 
-pub names_used : (es : List ExprTree) → map (λ u. u.name) (flat_map uses_in es) ≡ flat_map names_in es
-names_used [] = refl
-names_used (e ∷ es) =
-    named_append (uses_in e) (flat_map uses_in es) ∙ ap₂ ◌++◌ (names_are e) (names_used es)
+names_from-push : (r : Roles) (before xs : List ItemTree) (x : ItemTree) → names_from r before (xs ++ x ∷ []) ≡ names_from r before xs ++ names_at r (before ++ xs) x
+unfolding names_from
+names_from-push r before [] x =
+    append-nil (names_at r before x) ∙ ap (λ b. names_at r b x) (sym (append-nil before))
+names_from-push r before (y ∷ ys) x =
+    ap (λ ns. names_at r before y ++ ns) (names_from-push r (before ++ y ∷ []) ys x ∙ ap (λ b. names_from r (before ++ y ∷ []) ys ++ names_at r b x) (append_assoc before (y ∷ []) ys))
+    ∙ sym (append_assoc (names_at r before y) (names_from r (before ++ y ∷ []) ys) (names_at r (before ++ y ∷ ys) x))
 
--- ---- one statement more
+pub names_none : (r : Roles) → with_variables r [] (names_from r [] []) ≡ []
+unfolding names_from
+names_none r = refl
 
-pub names_more : (before between after a b : List (List ℕ)) → between ≡ with_names before a → after ≡ with_names between b → after ≡ with_names before (a ++ b)
-names_more before between after a b first second =
-    second ∙ ap (λ names. with_names names b) first ∙ sym (with_names_append before a b)
+-- the trees of the statements so far, and one more
+pub trees_more : (ms : List (Bor Item)) (i : ℕ) (m : Bor Item) → i < length ms → m ≡ get_or ms i m → trees_at (take (i + 1) ms) ≡ trees_at (take i ms) ++ tree_at m ∷ []
+trees_more ms i m lt is = map_more tree_at ms i m lt is
 
-pub variables_more : (ms : List (Bor Item)) (i : ℕ) (m : Bor Item) (before after : List (List ℕ)) → i < length ms → m ≡ get_or ms i m → before ≡ with_names [] (variables (map tree_at (take i ms))) → after ≡ with_names before (names_of (tree_at m).shape) → after ≡ with_names [] (variables (map tree_at (take (i + 1) ms)))
-variables_more ms i m before after lt is so_far added =
-    let front = map tree_at (take i ms) in
-    let here = names_of (tree_at m).shape in
-    let joined : variables (front ++ tree_at m ∷ []) ≡ variables front ++ here =
-    flat_map-append (λ x. names_of x.shape) front (tree_at m ∷ []) ∙ ap (λ ns. variables front ++ ns) (append-nil here) in
-    names_more [] before after (variables front) here so_far added
-    ∙ ap (with_names []) (sym joined ∙ ap variables (sym (trees_more ms i m lt is)))
-
--- ---- the names are among the keys
-
-abbrev IsAmong : List (List ℕ) → List ℕ → Type 0
-IsAmong names n = list_any (bytes_eq n) names ≡ true
-
-kept_by_name : (names : List (List ℕ)) (n m : List ℕ) → IsAmong names n → IsAmong (with_name names m) n
-kept_by_name names n m h = by_test (list_any (bytes_eq m) names)
-  where
-    by_test : (b : Bool) → IsAmong (if b then names else names ++ m ∷ []) n
-    by_test true = h
-    by_test false = any_append (bytes_eq n) names (m ∷ []) ∙ ap (λ b. b || list_any (bytes_eq n) (m ∷ [])) h
-
-kept_by_names : (names more : List (List ℕ)) (n : List ℕ) → IsAmong names n → IsAmong (with_names names more) n
-kept_by_names names [] n h = h
-kept_by_names names (m ∷ more) n h = kept_by_names (with_name names m) more n (kept_by_name names n m h)
-
-last_or : (a : Bool) → (a || true) ≡ true
-last_or true = refl
-last_or false = refl
-
-is_added : (names : List (List ℕ)) (n : List ℕ) → IsAmong (with_name names n) n
-is_added names n = by_test (list_any (bytes_eq n) names) refl
-  where
-    by_test : (b : Bool) → list_any (bytes_eq n) names ≡ b → IsAmong (if b then names else names ++ n ∷ []) n
-    by_test true h = h
-    by_test false h =
-        any_append (bytes_eq n) names (n ∷ []) ∙ ap (λ b. list_any (bytes_eq n) names || (b || false)) ((bytes_eq-Decides n n).1 refl) ∙ last_or (list_any (bytes_eq n) names)
-
-abbrev AreAmong : List (List ℕ) → List (List ℕ) → Type 0
-AreAmong names ns = AllByRecursion (IsAmong names) ns
-
-all_added : (names ns : List (List ℕ)) → AreAmong (with_names names ns) ns
-all_added names [] = tt
-all_added names (n ∷ ns) = (kept_by_names (with_name names n) ns n (is_added names n), all_added (with_name names n) ns)
-
-first_part : (names a b : List (List ℕ)) → AreAmong names (a ++ b) → AreAmong names a
-first_part names [] b h = tt
-first_part names (n ∷ a) b h = (h.0, first_part names a b h.1)
-
-second_part : (names a b : List (List ℕ)) → AreAmong names (a ++ b) → AreAmong names b
-second_part names [] b h = h
-second_part names (n ∷ a) b h = second_part names a b h.1
-
-holds_all : (keys : List (Vec ℕ)) (ns : List (List ℕ)) → AreAmong (texts keys) ns → HoldsAll keys ns
-holds_all keys [] h = tt
-holds_all keys (n ∷ ns) h = (texts_any n keys ∙ h.0, holds_all keys ns h.1)
-
-numbers_all : (keys : List (Vec ℕ)) (ms : List ItemTree) → AreAmong (texts keys) (variables ms) → Numbers keys ms
-numbers_all keys [] h = tt
-numbers_all keys (m ∷ ms) h =
-    (holds_all keys (names_of m.shape) (first_part (texts keys) (names_of m.shape) (variables ms) h), numbers_all keys ms (second_part (texts keys) (names_of m.shape) (variables ms) h))
-
--- each variable of the statements is among the keys
-pub numbered : (keys : List (Vec ℕ)) (ms : List ItemTree) → texts keys ≡ with_names [] (variables ms) → Numbers keys ms
-numbered keys ms is = numbers_all keys ms (subst (λ names. AreAmong names (variables ms)) (sym is) (all_added [] (variables ms)))
+pub statement_more : (r : Roles) (ms : List (Bor Item)) (i : ℕ) (m : Bor Item) (now next : List (List ℕ)) → i < length ms → m ≡ get_or ms i m → now ≡ with_variables r [] (names_from r [] (trees_at (take i ms))) → next ≡ with_variables r now (names_at r (trees_at (take i ms)) (tree_at m)) → next ≡ with_variables r [] (names_from r [] (trees_at (take (i + 1) ms)))
+statement_more r ms i m now next lt is so_far added =
+    let front = trees_at (take i ms) in
+    added ∙ ap (λ ns. with_variables r ns (names_at r front (tree_at m))) so_far
+    ∙ sym (with_variables_append r [] (names_from r [] front) (names_at r front (tree_at m)))
+    ∙ ap (with_variables r []) (sym (names_from-push r [] front (tree_at m)))
+    ∙ ap (λ xs. with_variables r [] (names_from r [] xs)) (sym (trees_more ms i m lt is))

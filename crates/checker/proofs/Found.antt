@@ -4,10 +4,10 @@ use Rattle.std.specs.Borrow.{Bor}
 use Rattle.meaning.specs.declared.syntax.Item.{Item}
 use Rattle.meaning.specs.Syntax.{ItemTree}
 use Rattle.meaning.specs.Formats.{Parts}
-use Rattle.k_rules.specs.Listed.{tree_at}
+use Rattle.roles.specs.Listed.{tree_at}
 use Rattle.meaning.specs.Execution.{format_found, or_else}
-use Rattle.checker.specs.Numbered.{format_here}
-use Rattle.k_rules.proofs.Passes.{trees_more}
+use Rattle.checker.specs.FormatsFound.{format_here}
+use Rattle.roles.proofs.Passes.{map_more}
 
 pub found_none : (s : ℕ) → format_found [] s ≡ None
 unfolding format_found
@@ -30,4 +30,4 @@ format_found-push (x ∷ xs) m s =
 pub found_more : (ms : List (Bor Item)) (i : ℕ) (m : Bor Item) (s : ℕ) (old new : Option (Parts)) → i < length ms → m ≡ get_or ms i m → old ≡ format_found (map tree_at (take i ms)) s → new ≡ or_else old (format_here s (tree_at m)) → new ≡ format_found (map tree_at (take (i + 1) ms)) s
 found_more ms i m s old new lt is so_far added =
     added ∙ ap (λ o. or_else o (format_here s (tree_at m))) so_far ∙ sym (format_found-push (map tree_at (take i ms)) (tree_at m) s)
-    ∙ ap (λ xs. format_found xs s) (sym (trees_more ms i m lt is))
+    ∙ ap (λ xs. format_found xs s) (sym (map_more tree_at ms i m lt is))

@@ -1,12 +1,14 @@
-//! The numbering of the variables and array elements of a program unit that keeps the rules (ANSI X3.9-1978, 2.5, 2.12, 5.2
-//! and 13.1).
+//! Programs that keep the rules, numbered for their execution (ANSI X3.9-1978, 2.5, 2.12, chapters 5, 8, 9, 13 and 15).
 #![tactic(auto)]
 
+mod entries;
 mod formats;
+mod functions;
 mod numbers;
+mod parts;
 mod program;
+mod queries;
 mod rules;
-mod storage;
+mod starts;
 
-pub use program::{Program, Storage};
-pub use rules::check;
+pub use program::{Program, check};

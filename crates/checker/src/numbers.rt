@@ -1,91 +1,125 @@
 //! The order in which variables and arrays appear (ANSI X3.9-1978, 2.5).
 
-ghost use Rattle.std.specs.Prelude.{◌≡◌, [], flat_map, map, OnOk, IfOk};
-ghost use Rattle.meaning.specs.Syntax.{declarator_tree, shape_tree};
-ghost use Rattle.k_rules.specs.NameSets.{declared_names};
-ghost use Rattle.k_rules.specs.Listed.{name_at, tree_at};
-ghost use Rattle.checker.specs.Numbered.{exprs_used, names_in, names_of, names_set, texts, with_names, variables};
+ghost use Rattle.std.specs.Prelude.{◌≡◌, ◌∷◌, ◌++◌, [], List, map, IfOk, OnOk};
+ghost use Rattle.meaning.specs.Syntax.{ItemTree, declarator_tree, shape_tree};
+ghost use Rattle.meaning.specs.Trees.{item_tree};
+ghost use Rattle.meaning.specs.Uses.{parts_of};
+ghost use Rattle.roles.specs.Listed.{trees_at};
+ghost use Rattle.roles.specs.NameSets.{texts};
+ghost use Rattle.roles.specs.RolesAt.{roles_at};
+ghost use Rattle.roles.specs.Stages.{IsBehind};
+ghost use Rattle.roles.specs.UsesAt.{uses_at};
+ghost use Rattle.checker.specs.Numbered.{is_variable as is_variable_name, names_at, variables_by, with_variables};
 
 use indexmap::IndexSet;
-use k_rules::{add_name, add_names_used, declarators_in};
 use meaning::syntax::{Declarator, Item, Shape};
+use roles::{
+    NameUse, Roles, Stage, add_name, add_reads, declarators_in, is_array_name, is_other_name,
+    set_by,
+};
 use std::alloc::{AllocError, Global};
 
-/// Puts the names in the expressions of an executable statement behind those that are there.
-#[tactic(auto, using(crate::proofs::Appearance::names_used))]
-fn add_expression_names(
+/// Whether a name is that of a variable or an array.
+fn is_variable(roles: &Roles, name: &[u8]) -> bool
+    ensures { result ≡ is_variable_name (roles_at roles.now) name.now }
+{
+    is_array_name(roles, name) || is_other_name(roles, name)
+}
+
+/// Puts a name behind those that are there, if it is that of a variable or an array and isn't one of them.
+#[tactic(auto, using(crate::proofs::Appearance::variable_more, crate::proofs::Appearance::other_more))]
+fn add_variable(
     names: &mut IndexSet<Vec<u8>>,
     alloc: Global,
-    shape: &Shape,
+    roles: &Roles,
+    name: &[u8],
 ) -> Result<(), AllocError>
-    ensures { OnOk result (texts names.new.keys ≡ with_names (texts names.old.keys) (flat_map names_in (exprs_used (shape_tree shape.now)))) }
+    ensures { OnOk result (texts names.new.keys ≡ with_variables (roles_at roles.now) (texts names.old.keys) (name.now ∷ [])) }
 {
-    match shape {
-        Shape::Assignment { .. } => add_names_used(names, alloc, shape),
-        Shape::Write { .. } => add_names_used(names, alloc, shape),
-        Shape::Print { .. } => add_names_used(names, alloc, shape),
-        Shape::Do { .. } => add_names_used(names, alloc, shape),
-        _ => Ok(()),
+    if is_variable(roles, name) {
+        add_name(names, alloc, name)
+    } else {
+        Ok(())
     }
 }
 
-/// The name that a statement sets, with subscripts or without, if it sets one.
-fn name_set(shape: &Shape) -> Option<&[u8]>
-    ensures { name_at result ≡ names_set (shape_tree shape.now) }
-{
-    match shape {
-        Shape::Assignment {
-            name,
-            subscripts: _,
-            value: _,
-        } => Some(name),
-        Shape::Do {
-            label: _,
-            comma: _,
-            variable,
-            limits: _,
-        } => Some(variable),
-        _ => None,
-    }
-}
-
-/// Puts the names that declarators declare behind those that are there.
-fn add_declared_names(
+/// Puts the names of variables and arrays in declarators behind those that are there.
+fn add_declared(
     names: &mut IndexSet<Vec<u8>>,
     alloc: Global,
+    roles: &Roles,
     declarators: &[Declarator],
 ) -> Result<(), AllocError>
-    ensures { OnOk result (texts names.new.keys ≡ with_names (texts names.old.keys) (declared_names (map declarator_tree declarators.now))) }
+    ensures { OnOk result (texts names.new.keys ≡ with_variables (roles_at roles.now) (texts names.old.keys) (map (λ d. d.name) (map declarator_tree declarators.now))) }
 {
     for declarator in declarators {
-        add_name(names, alloc, &declarator.name)?;
+        add_variable(names, alloc, roles, &declarator.name)?;
     }
     Ok(())
 }
 
-/// Puts the names of a statement behind those that are there, those that it declares and then the one that it sets.
-#[tactic(auto, using(k_rules::proofs::NameSets::with_names_append))]
-fn add_names_of(
+/// Puts the names of variables and arrays that are used behind those that are there.
+fn add_used(
     names: &mut IndexSet<Vec<u8>>,
     alloc: Global,
-    shape: &Shape,
+    roles: &Roles,
+    uses: &[NameUse],
 ) -> Result<(), AllocError>
-    ensures { OnOk result (texts names.new.keys ≡ with_names (texts names.old.keys) (names_of (shape_tree shape.now))) }
+    ensures { OnOk result (texts names.new.keys ≡ with_variables (roles_at roles.now) (texts names.old.keys) (map (λ u. u.name) (uses_at uses.now))) }
 {
-    add_declared_names(names, alloc, declarators_in(shape))?;
-    if let Some(name) = name_set(shape) {
-        add_name(names, alloc, name)?;
+    for one in uses {
+        add_variable(names, alloc, roles, one.name)?;
     }
-    add_expression_names(names, alloc, shape)
+    Ok(())
+}
+
+/// What a statement sets and what it has values of; it defines a statement function or doesn't.
+fn uses_of<'a>(
+    alloc: Global,
+    roles: &Roles,
+    defines: bool,
+    shape: &'a Shape,
+) -> Result<Vec<NameUse<'a>>, AllocError>
+    ensures { IfOk result (λ us. uses_at us.items ≡ (parts_of (roles_at roles.now) defines (shape_tree shape.now)).sets ++ (parts_of (roles_at roles.now) defines (shape_tree shape.now)).reads) }
+{
+    let mut uses = Vec::new(alloc);
+    match set_by(defines, shape) {
+        Some(target) => uses.push(target)?,
+        None => {}
+    }
+    add_reads(&mut uses, alloc, roles, defines, shape)?;
+    Ok(uses)
+}
+
+/// Puts the variables and arrays of a statement behind those that are there.
+fn add_names_at(
+    names: &mut IndexSet<Vec<u8>>,
+    alloc: Global,
+    roles: &Roles,
+    stage: &Stage,
+    item: &Item,
+) -> Result<(), AllocError>
+    ensures { OnOk result ((before : List ItemTree) → IsBehind roles.now stage.now before → texts names.new.keys ≡ with_variables (roles_at roles.now) (texts names.old.keys) (names_at (roles_at roles.now) before (item_tree item.now))) }
+{
+    let shape = &item.form.shape;
+    let uses = uses_of(alloc, roles, stage.is_defining(roles, item), shape)?;
+    add_declared(names, alloc, roles, declarators_in(shape))?;
+    add_used(names, alloc, roles, &uses)?;
+    Ok(())
 }
 
 /// The variables and arrays of the statements, in the order of their first appearance.
-pub fn names_in_order(alloc: Global, members: &[&Item]) -> Result<IndexSet<Vec<u8>>, AllocError>
-    ensures { IfOk result (λ names. texts names.keys ≡ with_names [] (variables (map tree_at members.now))) }
+pub(crate) fn variables_in_order(
+    alloc: Global,
+    roles: &Roles,
+) -> Result<IndexSet<Vec<u8>>, AllocError>
+    ensures { IfOk result (λ names. texts names.keys ≡ variables_by (roles_at roles.now) (trees_at roles.now.items.now)) }
 {
     let mut names = IndexSet::new(alloc);
-    for member in members {
-        add_names_of(&mut names, alloc, &member.form.shape)?;
+    let mut stage = Stage::new();
+    for item in roles.items {
+        add_names_at(&mut names, alloc, roles, &stage, item)?;
+        stage.pass(roles, item);
     }
     Ok(names)
 }

@@ -1,74 +1,159 @@
 //! Programs that keep the rules.
 
-ghost use Rattle.meaning.specs.Arrays.{cell_of, cells_of};
-ghost use Rattle.meaning.specs.Rules.{arrays_of};
-ghost use Rattle.meaning.specs.Trees.{flatten};
-ghost use Rattle.checker.specs.Checked.{tree_of, named_of_program, IsNumbered};
+ghost use Rattle.std.specs.Prelude.{◌≡◌, ℕ, ℤ, List, IfOk, IfSome, Ok, Some, length, option_map};
+ghost use Rattle.meaning.specs.Characters.{number_of};
+ghost use Rattle.meaning.specs.Execution.{format_found};
+ghost use Rattle.meaning.specs.Formats.{format_in as format_in_text, undoubled};
+ghost use Rattle.meaning.specs.Reports.{Gives};
+ghost use Rattle.meaning.specs.Rules.{checked};
+ghost use Rattle.meaning.specs.Trees.{members_tree, nested};
+ghost use Rattle.format_edit.specs.Formatted.{descriptors};
+ghost use Rattle.checker.specs.Checked.{count_in, items_in, names_in, numbers_in};
+ghost use Rattle.checker.specs.Starts.{map_of, start_in};
 
+use crate::formats::Formats;
+use crate::parts::Parts;
+use crate::queries::{array_in, find_in, format_in, function_in, named_in, text_format_in};
+use crate::rules::{Kept, Names, kept_of};
+use expressions::{Cells, Function, Named, Numbering, Place};
 use format_edit::Format;
-use indexmap::IndexSet;
-use k_rules::label_of;
-use meaning::syntax::Tree;
-use std::collections::BTreeMap;
-use values::{Dimension, Numbering, Place};
+use meaning::refusal::Refusal;
+use meaning::syntax::{Member, Tree};
+use std::alloc::Global;
+use std::marker::Model;
 
-/// Where the values of a variable or an array are kept.
-#[derive(Drop)]
-pub struct Storage {
-    /// The number of the first cell.
-    pub first: usize,
-    /// The dimensions, none for a variable.
-    pub dimensions: Vec<Dimension>,
-}
-
-/// A program that keeps the rules.
+/// A program that keeps the rules. Contracts see its tree; what is kept beside it agrees with what the statements say.
 #[derive(Drop)]
 pub struct Program {
-    /// Its statements.
-    pub tree: Tree,
-    /// Its variables and arrays, in the order of their first appearance.
-    pub names: IndexSet<Vec<u8>>,
-    /// Where the values of each of them are kept, in the same order.
-    pub storage: Vec<Storage>,
-    /// The values that the cells start with.
-    pub starts: Vec<i32>,
-    /// The formats of its FORMAT statements, by their labels.
-    pub formats: BTreeMap<u32, Format>,
+    parts: Parts,
+}
+
+impl Model for Program {
+    ghost use Rattle.meaning.specs.declared.syntax.Tree.{Tree};
+    ghost use Rattle.meaning.specs.contracts.syntax.Tree as trees;
+
+    ghost Value = { Tree };
+
+    ghost coded = { trees.the_row.coded };
+
+    ghost use Rattle.checker.specs.Agreed.{IsNumbered};
+
+    ghost view = { λ p. p.parts.tree };
+
+    ghost invariant = { λ p. IsNumbered p.parts };
 }
 
 impl Program {
-    ghost use Rattle.std.specs.Prelude.{◌≡◌, option_map};
-    ghost use Rattle.meaning.specs.Characters.{number_of};
-    ghost use Rattle.meaning.specs.Execution.{format_found};
-    ghost use Rattle.format_edit.specs.Formatted.{descriptors};
+    /// Its program unit, which breaks no rule.
+    pub fn tree(&self) -> &Tree
+        ensures tree { result.now ≡ self.now }
+        ensures allowed { checked (nested self.now) ≡ Ok (nested self.now) }
+    {
+        &self.parts.tree
+    }
+
+    /// The members of its body.
+    pub fn body(&self) -> &[Member]
+        ensures { members_tree result.now ≡ members_tree self.now.body.items }
+    {
+        &self.parts.tree.body
+    }
+
+    /// The values that the cells start with.
+    pub fn starts(&self) -> &[i32]
+        ensures many { length result.now ≡ count_in self.now }
+        ensures started { (n : List ℕ) (ss : List ℤ) → map_of self.now result.now n ss ≡ start_in self.now n ss }
+    {
+        &self.parts.starts
+    }
 
     /// The format of the FORMAT statement that has the label which digits spell, leading zeros aside (ANSI X3.9-1978,
     /// 3.4 and 13.1.1); `None` where there is none.
     pub fn format(&self, digits: &[u8]) -> Option<&Format>
-        requires { IsNumbered self.now }
-        ensures { option_map (λ f. descriptors f.now) result ≡ format_found (flatten (tree_of self.now)) (number_of digits.now) }
+        ensures { option_map (λ f. descriptors f.now) result ≡ format_found (items_in self.now) (number_of digits.now) }
     {
-        let label = label_of(digits)?;
-        self.formats.get(&label)
+        format_in(&self.parts, digits)
+    }
+
+    /// The format in a character constant, if one is kept (ANSI X3.9-1978, 12.4); it was read once.
+    pub fn text_format(&self, text: &[u8]) -> Option<&Format>
+        ensures { IfSome result (λ f. format_in_text (undoubled text.now) ≡ Some (descriptors f.now)) }
+    {
+        text_format_in(&self.parts, text)
     }
 }
 
 impl Numbering for Program {
-    ghost is_sound = { IsNumbered };
+    ghost is_sound = { λ _. Unit {0} };
 
-    ghost arrays = { λ p. arrays_of (flatten (tree_of p)) };
+    ghost names = { names_in };
 
-    ghost numbers = { λ p. cell_of (named_of_program p) };
+    ghost numbers = { numbers_in };
 
-    ghost count = { λ p. cells_of (named_of_program p) };
+    ghost count = { count_in };
+
+    fn functions(&self) -> usize {
+        self.parts.function_count
+    }
 
     fn find(&self, name: &[u8]) -> Place<'_> {
-        match self.names.get_index_of(name) {
-            Some(index) => match self.storage.get(index) {
-                Some(storage) => Place::new(storage.first, &storage.dimensions),
-                None => Place::nowhere(),
+        find_in(&self.parts, name)
+    }
+
+    fn named(&self, name: &[u8]) -> Named<'_> {
+        named_in(&self.parts, name)
+    }
+
+    fn array(&self, name: &[u8]) -> Option<Cells<'_>> {
+        array_in(&self.parts, name)
+    }
+
+    fn function(&self, name: &[u8]) -> Option<Function<'_>> {
+        function_in(&self.parts, name)
+    }
+}
+
+/// Checks a program unit by the rules on labels, names, constants, arrays, DO variables, units, formats, DATA and statement
+/// functions: the program, whose statements are the unit's, or the least broken rule of the least line. `Memory` where a growth
+/// was refused; also for trees that no source text has, where a statement function stands in a range or an arm and no DO or block
+/// IF statement before it.
+pub fn check(alloc: Global, tree: Tree) -> Result<Program, Refusal>
+    ensures exact { Gives (λ p. nested p) result (checked (nested tree)) }
+    ensures tree { IfOk result (λ p. p ≡ tree) }
+{
+    match kept_of(alloc, &tree) {
+        Ok(
+            Kept {
+                names,
+                functions,
+                function_count,
+                no_dummies,
+                formats,
             },
-            None => Place::nowhere(),
+        ) => {
+            let Names {
+                entries,
+                letters,
+                starts,
+            } = names;
+            let Formats { by_label, texts } = formats;
+            Ok(Program {
+                parts: Parts {
+                    tree,
+                    entries,
+                    letters,
+                    functions,
+                    function_count,
+                    no_dummies,
+                    starts,
+                    formats: by_label,
+                    texts,
+                },
+            })
+        }
+        Err(refusal) => {
+            drop(tree);
+            Err(refusal)
         }
     }
 }

@@ -1,75 +1,126 @@
 //! From a program unit to a program that keeps the rules.
 
-ghost use Rattle.std.specs.Prelude.{IfOk};
+ghost use Rattle.std.specs.Prelude.{◌≡◌, ℕ, List, IfOk};
 ghost use Rattle.meaning.specs.Reports.{Gives};
 ghost use Rattle.meaning.specs.Rules.{checked};
 ghost use Rattle.meaning.specs.Trees.{nested};
-ghost use Rattle.checker.specs.Checked.{program_of, tree_of, IsNumbered};
+ghost use Rattle.checker.specs.Agreed.{IsNumbered};
+ghost use Rattle.roles.specs.Listed.{trees_at};
+ghost use Rattle.checker.specs.Built.{AreNames, IsJudged, count_at, parts_by, variables_at};
+ghost use Rattle.checker.specs.Checked.{items_in};
+ghost use Rattle.checker.specs.Entries.{IsSaid, said_at};
 
-use crate::formats::formats_by_label;
-use crate::numbers::names_in_order;
-use crate::program::{Program, Storage};
-use crate::storage::{storage_of, zeros};
-use format_edit::Format;
-use indexmap::IndexSet;
-use k_rules::{items_of, judge};
+use crate::entries::{Storing, entries_of};
+use crate::formats::{Formats, formats_of};
+use crate::functions::functions_in;
+use crate::numbers::variables_in_order;
+use crate::parts::{Entry, FunctionAt};
+use crate::starts::starts_of;
+use indexmap::IndexMap;
+use k_rules::{Facts, judge};
 use meaning::refusal::Refusal;
-use meaning::syntax::Tree;
-use std::alloc::Global;
-use std::collections::BTreeMap;
+use meaning::syntax::{DataType, Exprs, Tree};
+use roles::{Roles, items_of, letter_types_of};
+use std::alloc::{AllocError, Global};
+
+/// What is kept of names.
+#[derive(Drop)]
+pub(crate) struct Names {
+    pub entries: IndexMap<Vec<u8>, Entry>,
+    pub letters: Vec<Option<DataType>>,
+    pub starts: Vec<i32>,
+}
 
 /// What is kept of a program unit beside its statements.
 #[derive(Drop)]
-struct Kept {
-    names: IndexSet<Vec<u8>>,
-    storage: Vec<Storage>,
-    starts: Vec<i32>,
-    formats: BTreeMap<u32, Format>,
+pub(crate) struct Kept {
+    pub names: Names,
+    pub functions: IndexMap<Vec<u8>, FunctionAt>,
+    pub function_count: usize,
+    pub no_dummies: Exprs,
+    pub formats: Formats,
+}
+
+/// What is kept of the names of a program unit, and how many cells they take.
+fn stored_names(alloc: Global, roles: &Roles, facts: &Facts) -> Result<Storing, AllocError>
+    ensures next { IfOk result (λ s. s.next ≡ count_at facts.now roles.now) }
+    ensures said { IfOk result (λ s. (n : List ℕ) → IsSaid facts.now roles.now (variables_at roles.now) n (said_at s.entries n)) }
+{
+    let names = variables_in_order(alloc, roles)?;
+    entries_of(alloc, roles, facts, names.as_slice())
+}
+
+/// What is kept of the names of a program unit, and the values that the cells start with.
+fn names_of(alloc: Global, roles: &Roles, facts: &Facts) -> Result<Names, AllocError>
+    ensures { IfOk result (AreNames facts.now roles.now) }
+{
+    let letters = letter_types_of(alloc, roles)?;
+    let Storing { entries, next } = stored_names(alloc, roles, facts)?;
+    match starts_of(alloc, &entries, &facts.starts, next) {
+        Ok(starts) => Ok(Names {
+            entries,
+            letters,
+            starts,
+        }),
+        Err(AllocError) => {
+            drop(entries);
+            Err(AllocError)
+        }
+    }
+}
+
+/// What is kept of a program unit that breaks no rule, by what its statements say of names.
+fn kept_in(alloc: Global, tree: &Tree, facts: &Facts, roles: &Roles) -> Result<Kept, AllocError>
+    requires judged { IsJudged tree.now facts.now }
+    requires listed { trees_at roles.now.items.now ≡ items_in tree.now }
+    ensures { IfOk result (λ k. IsNumbered (parts_by tree.now k)) }
+{
+    let names = names_of(alloc, roles, facts)?;
+    let functions = match functions_in(alloc, roles, &tree.body) {
+        Ok(functions) => functions,
+        Err(AllocError) => {
+            drop(names);
+            return Err(AllocError);
+        }
+    };
+    match formats_of(alloc, roles.items) {
+        Ok(formats) => Ok(Kept {
+            names,
+            functions,
+            function_count: roles.functions.len(),
+            no_dummies: Exprs::Empty,
+            formats,
+        }),
+        Err(AllocError) => {
+            drop(names);
+            drop(functions);
+            Err(AllocError)
+        }
+    }
+}
+
+/// What is kept of a program unit that breaks no rule.
+fn kept_by(alloc: Global, tree: &Tree, facts: &Facts) -> Result<Kept, AllocError>
+    requires { IsJudged tree.now facts.now }
+    ensures { IfOk result (λ k. IsNumbered (parts_by tree.now k)) }
+{
+    let items = items_of(alloc, tree)?;
+    let roles = Roles::new(alloc, items.as_slice())?;
+    let kept = kept_in(alloc, tree, facts, &roles);
+    drop(roles);
+    kept
 }
 
 /// What is kept of a program unit, or the least broken rule of the least line. `Memory` where a growth was refused.
-fn kept_of(alloc: Global, tree: &Tree) -> Result<Kept, Refusal>
+pub(crate) fn kept_of(alloc: Global, tree: &Tree) -> Result<Kept, Refusal>
     ensures exact { Gives (λ _. nested tree.now) result (checked (nested tree.now)) }
-    ensures numbered { IfOk result (λ k. IsNumbered (program_of tree.now k)) }
+    ensures numbered { IfOk result (λ k. IsNumbered (parts_by tree.now k)) }
 {
     let facts = judge(alloc, tree)?;
-    let items = items_of(alloc, tree)?;
-    let names = names_in_order(alloc, &items)?;
-    let (storage, cells) = storage_of(alloc, &facts, names.as_slice())?;
-    let starts = zeros(alloc, cells)?;
-    let formats = formats_by_label(alloc, &items)?;
-    Ok(Kept {
-        names,
-        storage,
-        starts,
-        formats,
-    })
-}
-
-/// Checks a program unit by the rules on labels, names, constants, arrays, DO variables, units and formats: the program,
-/// or the least broken rule of the least line (K1, K3, K4, K6 to K9, K11 to K13). `Memory` where a growth was refused.
-pub fn check(alloc: Global, tree: Tree) -> Result<Program, Refusal>
-    ensures exact { Gives tree_of result (checked (nested tree)) }
-    ensures numbered { IfOk result IsNumbered }
-{
-    match kept_of(alloc, &tree) {
-        Ok(
-            Kept {
-                names,
-                storage,
-                starts,
-                formats,
-            },
-        ) => Ok(Program {
-            tree,
-            names,
-            storage,
-            starts,
-            formats,
-        }),
-        Err(refusal) => {
-            drop(tree);
-            Err(refusal)
-        }
+    let kept = kept_by(alloc, tree, &facts);
+    drop(facts);
+    match kept {
+        Ok(kept) => Ok(kept),
+        Err(AllocError) => Err(Refusal::Memory),
     }
 }

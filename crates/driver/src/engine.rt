@@ -72,15 +72,33 @@ fn source_asked<V: Env, R: Files + AllocGlobal, I: Read>(
     input: &mut I,
 ) -> Result<Vec<u8>, Stop> {
     let words = words_of(words, rt.alloc())?;
-    let mut texts = Vec::new(rt.alloc());
-    for word in &words {
-        texts.push(word.as_str())?;
-    }
-    let asked = options(&texts)?;
-    match source_of(rt, asked, input) {
+    let source = source_named(rt, &words, input);
+    drop(words);
+    source
+}
+
+// The source that the words of a command line ask for.
+fn source_named<R: Files + AllocGlobal, I: Read>(
+    rt: &R,
+    words: &[String],
+    input: &mut I,
+) -> Result<Vec<u8>, Stop> {
+    let texts = texts_of(rt.alloc(), words)?;
+    let asked = options(&texts);
+    drop(texts);
+    match source_of(rt, asked?, input) {
         Ok(source) => Ok(source),
         Err(error) => Err(unread(&error)),
     }
+}
+
+// The texts of words.
+fn texts_of(alloc: Global, words: &[String]) -> Result<Vec<&str>, AllocError> {
+    let mut texts = Vec::new(alloc);
+    for word in words {
+        texts.push(word.as_str())?;
+    }
+    Ok(texts)
 }
 
 // The words of a command line.

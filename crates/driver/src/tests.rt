@@ -101,8 +101,8 @@ fn expect_line<R: Files + AllocGlobal + Abort, I: Read>(
     line: &str,
 ) {
     let run = run_of(rt, &[b"f77run"], input);
-    assert_eq!(rt; run.err.as_slice(), line.as_bytes(), "{line}");
-    assert_eq!(rt; run.status, status, "{line}");
+    assert!(rt; run.err.as_slice() == line.as_bytes(), "{line}");
+    assert!(rt; run.status == status, "{line}");
     assert!(rt; run.out.is_empty(), "{line}");
 }
 
@@ -229,9 +229,9 @@ fn faults(rt: HostRuntime) {
 fn runs_to_its_end(rt: HostRuntime) {
     let mut input = ANSWER.as_bytes();
     let run = run_of(&rt, &[b"f77run"], &mut input);
-    assert_eq!(rt; run.status, 0);
+    assert!(rt; run.status == 0);
     assert!(rt; run.err.is_empty());
-    assert_eq!(rt; run.out.as_slice(), b"    42\n".as_slice());
+    assert!(rt; run.out.as_slice() == b"    42\n".as_slice());
 }
 
 #[test]
@@ -239,15 +239,15 @@ fn longest_sources(rt: HostRuntime) {
     // a comment line up to 1,048,576 bytes, and one byte more
     let mut input = ANSWER.as_bytes().chain(io::repeat(b'*')).take(1_048_576);
     let longest = run_of(&rt, &[b"f77run"], &mut input);
-    assert_eq!(rt; longest.status, 0);
+    assert!(rt; longest.status == 0);
     assert!(rt; longest.err.is_empty());
     let mut input = ANSWER.as_bytes().chain(io::repeat(b'*')).take(1_048_577);
     expect_line(&rt, &mut input, 2, "REFUSED C7 LINE 1\n");
     // readers that never end
     expect_line(&rt, &mut io::repeat(b'*'), 2, "REFUSED C7 LINE 1\n");
     let endless = run_of(&rt, &[b"f77run", b"/dev/zero"], &mut io::empty());
-    assert_eq!(rt; endless.status, 2);
-    assert_eq!(rt; endless.err.as_slice(), b"REFUSED C7 LINE 1\n".as_slice());
+    assert!(rt; endless.status == 2);
+    assert!(rt; endless.err.as_slice() == b"REFUSED C7 LINE 1\n".as_slice());
 }
 
 #[test]
@@ -273,8 +273,8 @@ fn command_lines(rt: HostRuntime) {
     ];
     for &(words, line) in rows {
         let run = run_of(&rt, words, &mut io::empty());
-        assert_eq!(rt; run.status, 3, "{line}");
-        assert_eq!(rt; run.err.as_slice(), line.as_bytes());
+        assert!(rt; run.status == 3, "{line}");
+        assert!(rt; run.err.as_slice() == line.as_bytes());
         assert!(rt; run.out.is_empty(), "{line}");
     }
 }
@@ -284,8 +284,8 @@ fn files_that_cannot_be_read(rt: HostRuntime) {
     // a file that isn't there, and a directory
     for &name in [b"no such file.f".as_slice(), b"/".as_slice()].as_slice() {
         let run = run_of(&rt, &[b"f77run", name], &mut io::empty());
-        assert_eq!(rt; run.status, 5);
-        assert_eq!(rt; run.err.as_slice(), b"FILE REFUSED\n".as_slice());
+        assert!(rt; run.status == 5);
+        assert!(rt; run.err.as_slice() == b"FILE REFUSED\n".as_slice());
         assert!(rt; run.out.is_empty());
     }
     let mut input = Broken {
@@ -308,7 +308,7 @@ fn writes_that_are_refused(rt: HostRuntime) {
             words: &[b"f77run"],
         };
         let status = engine(&words, &rt, TURNS, &mut input, Narrow { room }, &mut err);
-        assert_eq!(rt; status, 5);
-        assert_eq!(rt; err.as_slice(), b"WRITE REFUSED\n".as_slice());
+        assert!(rt; status == 5);
+        assert!(rt; err.as_slice() == b"WRITE REFUSED\n".as_slice());
     }
 }

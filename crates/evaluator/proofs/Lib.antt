@@ -7,3 +7,4 @@ pub mod Quotients
 pub mod Looped
 pub mod Quietly
 pub mod Silent
+pub mod Targets

@@ -10,8 +10,8 @@ use Rattle.meaning.specs.declared.syntax.Loop.{Loop as LoopOf, out-Loop}
 use Rattle.meaning.specs.Syntax.{ItemTree, ShapeTree, LimitsTree, doing, shape_tree}
 use Rattle.meaning.specs.Trees.{Members, none, flat, flat_arms, row_arms, item_tree, member_before, row_members, members_tree}
 use Rattle.meaning.specs.Trips.{Span, span_of, trips, trip_count}
-use Rattle.meaning.specs.Rules.{arrays_of}
-use Rattle.meaning.specs.Values.{Arrays}
+use Rattle.meaning.specs.Scopes.{scope_of}
+use Rattle.meaning.specs.Values.{Scope}
 use Rattle.meaning.specs.Maps.{Map}
 use Rattle.meaning.specs.Execution.{Ran, Meaning, Follow, ended, more, goes_on, added, fold_trips, trips_from, looped, pass_over, exec}
 use Rattle.meaning.proofs.Running.{exec_is}
@@ -53,9 +53,9 @@ module _ (P : ItemTree → Type 0) where
 -- ---- lists
 
 module _ (program : List ItemTree) where
-  pub loop_does : (rec : Meaning) (l : LoopOf) (m : Map) (t : ℕ) (go : Follow) → member_does program rec (Loop l) m t go ≡ looped (arrays_of program) rec (shape_tree (out-Loop l).head.form.shape) (out-Loop l).head.line (members_tree (out-Loop l).range.items) m t go
+  pub loop_does : (rec : Meaning) (l : LoopOf) (m : Map) (t : ℕ) (go : Follow) → member_does program rec (Loop l) m t go ≡ looped (scope_of program) rec (shape_tree (out-Loop l).head.form.shape) (out-Loop l).head.line (members_tree (out-Loop l).range.items) m t go
   loop_does rec l m t go =
-      ap (λ range. looped (arrays_of program) rec (shape_tree (out-Loop l).head.form.shape) (out-Loop l).head.line range m t go) (range_is l)
+      ap (λ range. looped (scope_of program) rec (shape_tree (out-Loop l).head.form.shape) (out-Loop l).head.line range m t go) (range_is l)
 
   head-does : (rec : Meaning) (all : Members) (x : Member) (ms : Members) (m : Map) (t : ℕ) → pass_over program rec all (member_before x ms) m t ≡ member_does program rec x m t (λ n u. pass_over program rec all ms n u)
   unfolding pass_over
@@ -107,13 +107,13 @@ module _ (rec : Meaning) (line : ℕ) (variable : List ℕ) (first last by : ℤ
 
 -- ---- DO statements
 
-module _ (arrays : Arrays) (rec : Meaning) (label : List ℕ) (comma : Bool) (variable : List ℕ) (limits : LimitsTree) (line : ℕ) (range : Members) (m : Map) (t u : ℕ) (taken : t ≡ suc u) where
-  pub do_is : (s : Span) → span_of arrays limits m ≡ Ok s → (go : Follow) → looped arrays rec (doing label comma variable limits) line range m t go ≡ more [] 1 (goes_on (trips_from rec line variable range m u s) u go)
+module _ (scope : Scope) (rec : Meaning) (label : List ℕ) (comma : Bool) (variable : List ℕ) (limits : LimitsTree) (line : ℕ) (range : Members) (m : Map) (t u : ℕ) (taken : t ≡ suc u) where
+  pub do_is : (s : Span) → span_of scope limits m ≡ Ok s → (go : Follow) → looped scope rec (doing label comma variable limits) line range m t go ≡ more [] 1 (goes_on (trips_from rec line variable range m u s) u go)
   unfolding looped
-  do_is s h go = turn_goes line m t u (span_of arrays limits m) s (λ y n. goes_on (trips_from rec line variable range m n y) n go) taken h
+  do_is s h go = turn_goes line m t u (span_of scope limits m) s (λ y n. goes_on (trips_from rec line variable range m n y) n go) taken h
 
 -- what is no DO statement is passed over
-pub unless_do : (s : ShapeTree) (arrays : Arrays) (rec : Meaning) (line : ℕ) (range : Members) (m : Map) (t : ℕ) → IsTrue (not (is_doing s)) → (go : Follow) → looped arrays rec s line range m t go ≡ go m t
+pub unless_do : (s : ShapeTree) (scope : Scope) (rec : Meaning) (line : ℕ) (range : Members) (m : Map) (t : ℕ) → IsTrue (not (is_doing s)) → (go : Follow) → looped scope rec s line range m t go ≡ go m t
 unfolding looped
-unless_do (doing label comma variable limits) arrays rec line range m t h go = absurd (false≢true h)
-unless_do s arrays rec line range m t h go = refl
+unless_do (doing label comma variable limits) scope rec line range m t h go = absurd (false≢true h)
+unless_do s scope rec line range m t h go = refl

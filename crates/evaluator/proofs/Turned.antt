@@ -4,16 +4,16 @@ use Rattle.meaning.specs.declared.ending.FaultKind.{FaultKind}
 use Rattle.meaning.specs.declared.ending.FaultKind.TheVariants.{F4}
 use Rattle.meaning.specs.declared.ending.Fault.{Fault}
 use Rattle.meaning.specs.declared.ending.Value.{Value}
-use Rattle.std.specs.Prelude.{not, IsTrue}
+use Rattle.std.specs.Prelude.{IsSome, is_some, not, IsTrue}
 use Rattle.std.proofs.lemmas.Bool.{false≢true}
 use Rattle.meaning.specs.declared.syntax.Shape.{Shape}
 use Rattle.meaning.specs.declared.syntax.Shape.TheVariants as shapes
-use Rattle.meaning.specs.Rules.{arrays_of}
+use Rattle.meaning.specs.Scopes.{Definition, arrays_of, defined_by, scope_of}
 use Rattle.evaluator.specs.Quiet.{is_writing}
 use Rattle.meaning.specs.Syntax.{ExprTree, ExprsTree, ShapeTree, ItemTree, assignment, continuing, shape_tree}
 use Rattle.meaning.specs.Maps.{Map, put}
-use Rattle.meaning.specs.Values.{dimensions_in, subscripts, value, as_integer, and_then}
-use Rattle.meaning.specs.Execution.{Ran, more, Follow, turn, with_ok, failed, step}
+use Rattle.meaning.specs.Values.{Scope, dimensions_in, subscripts, value, as_integer, and_then}
+use Rattle.meaning.specs.Execution.{Ran, more, Follow, turn, with_ok, failed, assigned, unless_defined, step}
 use Rattle.meaning.proofs.Running.{more-none}
 use Rattle.evaluator.specs.Statements.{Puts, target_and_value, TakesTurn, Leaves, Passes, Moves}
 
@@ -82,39 +82,52 @@ with_ok-parts (Ok x) (Ok y) line m go = refl
 with_ok-parts (Ok x) (Err k) line m go = refl
 with_ok-parts (Err k) q line m go = refl
 
-module _ (all : List ItemTree) (n : List ℕ) (es : ExprsTree) (e : ExprTree) (line t : ℕ) (m : Map) where
+module _ (scope : Scope) (n : List ℕ) (es : ExprsTree) (e : ExprTree) (line t : ℕ) (m : Map) where
   abbrev parts : Result (List ℤ × Value) FaultKind
-  parts = target_and_value (arrays_of all) n es e m
+  parts = target_and_value scope n es e m
 
   abbrev puts_them : Follow → List ℤ × Value → ℕ → Ran
   puts_them go p u = go (put m n p.0 (as_integer p.1)) u
 
-  assigns : (go : Follow) → step all (assignment n es e) line m t go ≡ turn line m t (λ u. with_ok parts line m (λ p. puts_them go p u))
-  assigns go = λ i. turn line m t (λ u. with_ok-parts (subscripts (arrays_of all) (dimensions_in (arrays_of all n)) es m) (value (arrays_of all) e m) line m (λ ss v. go (put m n ss (as_integer v)) u) i)
+  assigns : (go : Follow) → assigned scope n es e line m t go ≡ turn line m t (λ u. with_ok parts line m (λ p. puts_them go p u))
+  assigns go = λ i. turn line m t (λ u. with_ok-parts (subscripts scope (dimensions_in (scope.arrays n)) es m) (value scope e m) line m (λ ss v. go (put m n ss (as_integer v)) u) i)
 
-  pub assigned : (new : Map) (u : ℕ) → t ≡ suc u → Puts (arrays_of all) n es e m new → (go : Follow) → step all (assignment n es e) line m t go ≡ more [] 1 (go new u)
-  assigned new u taken puts go =
+  goes_to : (new : Map) (u : ℕ) → t ≡ suc u → Puts scope n es e m new → (go : Follow) → assigned scope n es e line m t go ≡ more [] 1 (go new u)
+  goes_to new u taken puts go =
       assigns go ∙ turn_goes line m t u parts puts.given (λ p k. puts_them go p k) taken puts.is ∙ ap (λ x. more [] 1 (go x u)) (sym puts.after)
 
-  along : (u : ℕ) (f : Fault) (go : Follow) → Leaves (turn line m t (λ k. with_ok parts line m (λ p. puts_them go p k))) t m u (Some f) → Leaves (step all (assignment n es e) line m t go) t m u (Some f)
+  along : (u : ℕ) (f : Fault) (go : Follow) → Leaves (turn line m t (λ k. with_ok parts line m (λ p. puts_them go p k))) t m u (Some f) → Leaves (assigned scope n es e line m t go) t m u (Some f)
   along u f go x = subst (λ r. Leaves r t m u (Some f)) (sym (assigns go)) x
 
-  pub unexecuted : (u : ℕ) → t ≡ 0 → u ≡ 0 → (go : Follow) → Leaves (step all (assignment n es e) line m t go) t m u (Some (record { kind = F4; line = line }))
+  pub unexecuted : (u : ℕ) → t ≡ 0 → u ≡ 0 → (go : Follow) → Leaves (assigned scope n es e line m t go) t m u (Some (record { kind = F4; line = line }))
   unexecuted u none left go = along u (record { kind = F4; line = line }) go (turn_none line m t u (λ k. with_ok parts line m (λ p. puts_them go p k)) none left)
 
   -- an assignment, or its fault
-  pub assign_moves : (new : Map) (u : ℕ) → t ≡ suc u → Puts (arrays_of all) n es e m new → Moves (λ go. step all (assignment n es e) line m t go) t new u None
-  assign_moves new u taken puts = record { used = 1; is = assigned new u taken puts; turns = one_less t u taken }
+  pub assign_moves : (new : Map) (u : ℕ) → t ≡ suc u → Puts scope n es e m new → Moves (λ go. assigned scope n es e line m t go) t new u None
+  assign_moves new u taken puts = record { used = 1; is = goes_to new u taken puts; turns = one_less t u taken }
 
-  pub assign_faults : (new : Map) (u : ℕ) (k : FaultKind) → t ≡ suc u → (parts ≡ Err k) × (new ≡ m) → Moves (λ go. step all (assignment n es e) line m t go) t new u (Some (record { kind = k; line = line }))
+  pub assign_faults : (new : Map) (u : ℕ) (k : FaultKind) → t ≡ suc u → (parts ≡ Err k) × (new ≡ m) → Moves (λ go. assigned scope n es e line m t go) t new u (Some (record { kind = k; line = line }))
   assign_faults new u k taken h go =
-      subst (λ x. Leaves (step all (assignment n es e) line m t go) t x u (Some (record { kind = k; line = line }))) (sym h.1) (along u (record { kind = k; line = line }) go (turn_fails line m t u parts k (λ p i. puts_them go p i) taken h.0))
+      subst (λ x. Leaves (assigned scope n es e line m t go) t x u (Some (record { kind = k; line = line }))) (sym h.1) (along u (record { kind = k; line = line }) go (turn_fails line m t u parts k (λ p i. puts_them go p i) taken h.0))
 
 -- ---- a statement that isn't executable, and CONTINUE
 
 -- a statement that isn't executable
 pub passes_over : (m : Map) (t : ℕ) → Passes (λ go. go m t) t m t
 passes_over m t = record { used = 0; is = λ go. more-none (go m t); turns = omega arith }
+
+-- a statement function's
+passed_by : (d : Option Definition) (r passed : Ran) → IsSome d → unless_defined d r passed ≡ passed
+passed_by None r passed h = absurd (false≢true h)
+passed_by (Some d) r passed h = refl
+
+pub defines : (all : List ItemTree) (n : List ℕ) (es : ExprsTree) (e : ExprTree) (line : ℕ) → IsSome (defined_by (arrays_of all) (assignment n es e)) → (m : Map) (t : ℕ) → Passes (λ go. step all (assignment n es e) line m t go) t m t
+defines all n es e line some m t =
+    record {
+      used = 0;
+      is = λ go. passed_by (defined_by (arrays_of all) (assignment n es e)) (assigned (scope_of all) n es e line m t go) (go m t) some ∙ more-none (go m t);
+      turns = omega arith;
+    }
 
 -- a CONTINUE statement
 pub continues : (all : List ItemTree) (line : ℕ) (m : Map) (t u : ℕ) → t ≡ suc u → Passes (λ go. step all continuing line m t go) t m u

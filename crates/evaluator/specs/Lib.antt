@@ -1,5 +1,6 @@
-pub mod Cells
+pub mod Known
 pub mod Statements
 pub mod Member
 pub mod Limited
 pub mod Quiet
+pub mod Over

@@ -5,7 +5,7 @@ use Rattle.meaning.specs.declared.ending.FaultKind.{FaultKind}
 use Rattle.meaning.specs.declared.ending.Value.{Value}
 use Rattle.meaning.specs.Syntax.{ExprTree, ExprsTree}
 use Rattle.meaning.specs.Maps.{Map, put}
-use Rattle.meaning.specs.Values.{Arrays, dimensions_in, value, subscripts, as_integer, ◌>>=◌}
+use Rattle.meaning.specs.Values.{Scope, dimensions_in, value, subscripts, as_integer, ◌>>=◌}
 use Rattle.meaning.specs.Execution.{Outcome, normal, fault, Ran, failed, added, more, Follow}
 
 abbrev pub outcome_of : Option Fault → Outcome
@@ -41,20 +41,20 @@ pub record Reaches (whole rest : Ran) (given left : ℕ) : Type 0 where
 -- ---- the parts of a statement
 
 -- the subscripts of a target and the value that it gets, or the leftmost fault
-abbrev pub target_and_value : Arrays → List ℕ → ExprsTree → ExprTree → Map → Result (List ℤ × Value) FaultKind
-target_and_value arrays target es e m =
-    subscripts arrays (dimensions_in (arrays target)) es m >>= λ ss. value arrays e m >>= λ v. Ok (ss, v)
+abbrev pub target_and_value : Scope → List ℕ → ExprsTree → ExprTree → Map → Result (List ℤ × Value) FaultKind
+target_and_value s target es e m =
+    subscripts s (dimensions_in (s.arrays target)) es m >>= λ ss. value s e m >>= λ v. Ok (ss, v)
 
 -- the element or the variable has the expression's value, and all else what it had
-pub record Puts (arrays : Arrays) (target : List ℕ) (es : ExprsTree) (e : ExprTree) (old new : Map) : Type 0 where
+pub record Puts (s : Scope) (target : List ℕ) (es : ExprsTree) (e : ExprTree) (old new : Map) : Type 0 where
   pub given : List ℤ × Value
-  pub is : target_and_value arrays target es e old ≡ Ok given
+  pub is : target_and_value s target es e old ≡ Ok given
   pub after : new ≡ put old target given.0 (as_integer given.1)
 
 -- an assignment, or the fault of its parts, which leaves the map
-abbrev pub Assigns : Arrays → List ℕ → ExprsTree → ExprTree → Map → Map → Result (Unit {0}) FaultKind → Type 0
-Assigns arrays target es e old new (Ok u) = Puts arrays target es e old new
-Assigns arrays target es e old new (Err kind) = (target_and_value arrays target es e old ≡ Err kind) × (new ≡ old)
+abbrev pub Assigns : Scope → List ℕ → ExprsTree → ExprTree → Map → Map → Result (Unit {0}) FaultKind → Type 0
+Assigns s target es e old new (Ok u) = Puts s target es e old new
+Assigns s target es e old new (Err kind) = (target_and_value s target es e old ≡ Err kind) × (new ≡ old)
 
 -- the DO variable has the sum, or it stays and the fault is told at the line; whatever follows
 abbrev pub Adds : ℕ → List ℕ → ℤ → Map → Map → Result (Unit {0}) FaultKind → Type 0

@@ -7,7 +7,7 @@ mod quiet;
 mod shapes;
 mod whole;
 
-pub use assignment::{add_to, assign, set_variable};
+pub use assignment::{add_to, assign, set_variable, target_of};
 pub use limits::{Span, count_of, values_of_limits};
 pub use quiet::{run_item, run_list, run_trips, take_turn};
 pub use shapes::{do_of, is_quiet_list, output_of};

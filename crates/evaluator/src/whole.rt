@@ -1,22 +1,23 @@
 //! What is proved over any store, over a whole store, which refuses no write.
 
-ghost use Rattle.std.specs.Prelude.{◌≡◌, ◌≢◌, ℕ, [], IsTrue, length, not, pos, IfOk};
+ghost use Rattle.std.specs.Prelude.{◌≡◌, ◌≢◌, ℕ, [], false, IsTrue, length, not, pos, IfOk};
 ghost use Rattle.meaning.specs.declared.syntax.Loop.{out-Loop};
-ghost use Rattle.meaning.specs.Arrays.{cells_of};
-ghost use Rattle.meaning.specs.Execution.{step, exec, fold_trips};
+ghost use Rattle.meaning.specs.Execution.{step};
+ghost use Rattle.meaning.specs.Lists.{listed, list_limit};
 ghost use Rattle.meaning.specs.Maps.{put};
-ghost use Rattle.meaning.specs.Rules.{values_in};
 ghost use Rattle.meaning.specs.Syntax.{limits_tree, list_items_tree, shape_tree};
-ghost use Rattle.meaning.specs.Trees.{flat, flatten, item_tree, members_tree};
-ghost use Rattle.meaning.specs.Trips.{span_of, trips};
-ghost use Rattle.meaning.specs.Values.{dimensions_in, values_of};
-ghost use Rattle.checker.specs.Checked.{tree_of, named_of_program, IsNumbered};
-ghost use Rattle.checker.specs.Numbered.{Holds};
-ghost use Rattle.values.specs.Listed.{Listed};
-ghost use Rattle.evaluator.specs.Cells.{arrays_in, map_in, IsKnown, AreKnown};
+ghost use Rattle.meaning.specs.Trees.{flat, item_tree, members_tree};
+ghost use Rattle.meaning.specs.Trips.{span_of};
+ghost use Rattle.meaning.specs.Unrun.{has_loop};
+ghost use Rattle.expressions.specs.Listed.{Listed};
+ghost use Rattle.checker.specs.Checked.{items_in, count_in};
+ghost use Rattle.checker.specs.Starts.{map_of};
+ghost use Rattle.values.specs.Programs.{scope_in};
+ghost use Rattle.evaluator.specs.Known.{HasCellsIn, IsKnown, AreKnown};
 ghost use Rattle.evaluator.specs.Limited.{SpanIs};
+ghost use Rattle.evaluator.specs.Over.{MovesIn, LeavesIn, trips_as};
 ghost use Rattle.evaluator.specs.Quiet.{WritesNothing, is_writing};
-ghost use Rattle.evaluator.specs.Statements.{Adds, Leaves, Moves};
+ghost use Rattle.evaluator.specs.Statements.{Adds};
 
 use crate::assignment::{add_to, set_variable};
 use crate::limits::{Span, values_of_limits};
@@ -30,11 +31,9 @@ use values::values;
 
 /// Gives a variable a value.
 pub fn set_whole(program: &Program, name: &[u8], x: i32, cells: &mut Whole)
-    requires numbered { IsNumbered program.now }
-    requires held { Holds program.now.names.keys name.now }
-    requires plain { length (dimensions_in (arrays_in program.now name.now)) ≡ 0 }
-    requires sized { length cells.old ≡ cells_of (named_of_program program.now) }
-    ensures set { map_in program.now cells.new ≡ put (map_in program.now cells.old) name.now [] x }
+    requires held { HasCellsIn program.now name.now 0 }
+    requires sized { length cells.old ≡ count_in program.now }
+    ensures set { map_of program.now cells.new ≡ put (map_of program.now cells.old) name.now [] x }
     ensures len { length cells.new ≡ length cells.old }
 {
     match set_variable(program, name, x, cells) {
@@ -51,11 +50,12 @@ pub fn item_whole(
     cells: &mut Whole,
     turns: &mut u64,
 ) -> Option<Fault>
-    requires numbered { IsNumbered program.now }
     requires known { IsKnown program.now (item_tree item.now) }
     requires quiet { IsTrue (not (is_writing (shape_tree item.now.form.shape))) }
-    requires sized { length cells.old ≡ cells_of (named_of_program program.now) }
-    ensures moves { Moves (λ go. step (flatten (tree_of program.now)) (shape_tree item.now.form.shape) item.now.line (map_in program.now cells.old) turns.old go) turns.old (map_in program.now cells.new) turns.new result }
+    requires sized { length cells.old ≡ count_in program.now }
+    ensures moves { MovesIn program.now cells.old cells.new
+        (step (items_in program.now) (shape_tree item.now.form.shape) item.now.line)
+        turns.old turns.new result }
     ensures len { length cells.new ≡ length cells.old }
 {
     match run_item(program, item, cells, turns) {
@@ -74,14 +74,15 @@ pub fn trips_whole(
     cells: &mut Whole,
     turns: &mut u64,
 ) -> Option<Fault>
-    requires numbered { IsNumbered program.now }
-    requires named { AreKnown program.now (flat (members_tree (out-Loop repeated.now).range.items)) }
+    requires named { AreKnown program.now
+        (flat (members_tree (out-Loop repeated.now).range.items)) }
     requires quiet { WritesNothing (members_tree (out-Loop repeated.now).range.items) }
-    requires held { Holds program.now.names.keys variable.now }
-    requires plain { length (dimensions_in (arrays_in program.now variable.now)) ≡ 0 }
-    requires sized { length cells.old ≡ cells_of (named_of_program program.now) }
+    requires held { HasCellsIn program.now variable.now 0 }
+    requires sized { length cells.old ≡ count_in program.now }
     requires some { span.step ≢ pos 0 }
-    ensures leaves { Leaves (fold_trips (exec (flatten (tree_of program.now))) (out-Loop repeated.now).head.line variable.now span.step (members_tree (out-Loop repeated.now).range.items) (trips span.first span.last span.step) (map_in program.now cells.old) turns.old) turns.old (map_in program.now cells.new) turns.new result }
+    ensures leaves { LeavesIn program.now cells.old cells.new
+        (trips_as (items_in program.now) repeated.now variable.now span)
+        turns.old turns.new result }
     ensures len { length cells.new ≡ length cells.old }
 {
     match run_trips(program, repeated, variable, span, cells, turns) {
@@ -98,11 +99,10 @@ pub fn add_whole(
     by: i32,
     cells: &mut Whole,
 ) -> Result<(), FaultKind>
-    requires numbered { IsNumbered program.now }
-    requires held { Holds program.now.names.keys name.now }
-    requires plain { length (dimensions_in (arrays_in program.now name.now)) ≡ 0 }
-    requires sized { length cells.old ≡ cells_of (named_of_program program.now) }
-    ensures adds { (line : ℕ) → Adds line name.now by (map_in program.now cells.old) (map_in program.now cells.new) result }
+    requires held { HasCellsIn program.now name.now 0 }
+    requires sized { length cells.old ≡ count_in program.now }
+    ensures adds { (line : ℕ) → Adds line name.now by
+        (map_of program.now cells.old) (map_of program.now cells.new) result }
     ensures len { length cells.new ≡ length cells.old }
 {
     match add_to(program, name, by, cells) {
@@ -118,28 +118,30 @@ pub fn limits_whole(
     limits: &Limits,
     cells: &mut Whole,
 ) -> Result<Span, FaultKind>
-    requires numbered { IsNumbered program.now }
-    requires sized { length cells.old ≡ cells_of (named_of_program program.now) }
-    ensures span { SpanIs result (span_of (arrays_in program.now) (limits_tree limits.now) (map_in program.now cells.old)) }
-    ensures kept { map_in program.now cells.new ≡ map_in program.now cells.old }
+    requires sized { length cells.old ≡ count_in program.now }
+    ensures span { SpanIs result
+        (span_of (scope_in program.now) (limits_tree limits.now) (map_of program.now cells.old)) }
+    ensures kept { map_of program.now cells.new ≡ map_of program.now cells.old }
     ensures len { length cells.new ≡ length cells.old }
 {
     values_of_limits(program, limits, cells)
 }
 
-/// The values of a list, or the leftmost fault. The cells keep their values.
+/// The values of a list without implied DOs, or the leftmost fault. The cells keep their values.
 pub fn values_whole(
     alloc: Global,
     list: &ListItems,
     program: &Program,
     cells: &mut Whole,
 ) -> Result<Result<Vec<Value>, FaultKind>, AllocError>
-    requires numbered { IsNumbered program.now }
-    requires sized { length cells.old ≡ cells_of (named_of_program program.now) }
-    ensures values { IfOk result (λ r. Listed r (values_of (arrays_in program.now) (values_in (list_items_tree list.now)) (map_in program.now cells.old))) }
-    ensures kept { IfOk result (λ _. map_in program.now cells.new ≡ map_in program.now cells.old) }
+    requires plain { has_loop (list_items_tree list.now) ≡ false }
+    requires sized { length cells.old ≡ count_in program.now }
+    ensures values { IfOk result (λ r. Listed r (map_of program.now cells.old)
+        (listed (scope_in program.now) (list_items_tree list.now)
+        (map_of program.now cells.old) list_limit)) }
+    ensures kept { IfOk result (λ _. map_of program.now cells.new ≡ map_of program.now cells.old) }
     ensures len { length cells.new ≡ length cells.old }
 {
-    let found = values(alloc, list, program, cells)?;
+    let found = values(alloc, program, list, cells)?;
     Ok(found)
 }

@@ -4,19 +4,23 @@ use Rattle.std.specs.List.{concat}
 use Rattle.meaning.specs.declared.ending.FaultKind.{FaultKind}
 use Rattle.meaning.specs.declared.ending.FaultKind.TheVariants.{F4}
 use Rattle.meaning.specs.declared.ending.Fault.{Fault}
-use Rattle.meaning.specs.Rules.{arrays_of, values_in}
+use Rattle.meaning.specs.declared.ending.Value.{Value}
+use Rattle.meaning.specs.Scopes.{scope_of}
+use Rattle.meaning.specs.Lists.{Listed, listed, list_limit}
 use Rattle.std.proofs.lemmas.Option.{same_Some}
 use Rattle.evaluator.specs.Quiet.{output_in}
 use Rattle.meaning.specs.Syntax.{FormatTree, ListItemsTree, ShapeTree, ItemTree, writing, printing}
 use Rattle.meaning.specs.Maps.{Map}
-use Rattle.meaning.specs.Values.{values_of, and_then}
+use Rattle.meaning.specs.Values.{and_then}
 use Rattle.meaning.specs.Records.{edited}
 use Rattle.meaning.specs.Execution.{Ran, more, Follow, turn, with_ok, step, output, parts_for}
 use Rattle.meaning.specs.Promise.{Told, Took, IsBroken}
 use Rattle.meaning.proofs.Running.{more-more}
 use Rattle.executor.specs.Walk.{Faults, GoesOn, Runs, Steps}
 use Rattle.evaluator.specs.Statements.{Leaves, Moves}
-use Rattle.executor.specs.Recorded.{recorded}
+use Rattle.std.specs.Global.{Vec}
+use Rattle.expressions.specs.Listed.{listing}
+use Rattle.executor.specs.Recorded.{AreEdited, AreRecorded, recorded}
 use Rattle.executor.proofs.Taken.{Took-none}
 use Rattle.evaluator.proofs.Turned.{pieces-more, one_less, turn_none, turn_goes, turn_fails, passes_over}
 use Rattle.std.proofs.lemmas.List.{append-nil}
@@ -27,35 +31,43 @@ quiet_fault r given m left f a x = record { outcome = x.outcome; bytes = subst (
 
 -- ---- a WRITE or PRINT statement
 
-with_ok-with_ok : {A B : Type 0} (r : Result A FaultKind) (f : A → Result B FaultKind) (line : ℕ) (m : Map) (go : B → Ran) → with_ok r line m (λ x. with_ok (f x) line m go) ≡ with_ok (and_then r f) line m go
+with_ok-edited : (r : Result (List ℕ) FaultKind) (n : Map) (line : ℕ) (m : Map) (go : List ℕ → Map → Ran) → with_ok r line m (λ records. go records n) ≡ with_ok {A = List ℕ × Map} (and_then r (λ records. Ok (records, n))) line m (λ p. go p.0 p.1)
 unfolding with_ok and_then
-with_ok-with_ok (Ok x) f line m go = refl
-with_ok-with_ok (Err k) f line m go = refl
+with_ok-edited (Ok records) n line m go = refl
+with_ok-edited (Err k) n line m go = refl
+
+with_ok-listed : (r : Listed) (f : List Value → Result (List ℕ) FaultKind) (line : ℕ) (m : Map) (go : List ℕ → Map → Ran) → with_ok r line m (λ l. with_ok (f l.values) line m (λ records. go records l.map)) ≡ with_ok {A = List ℕ × Map} (and_then r (λ l. and_then (f l.values) (λ records. Ok (records, l.map)))) line m (λ p. go p.0 p.1)
+unfolding with_ok and_then
+with_ok-listed (Ok l) f line m go = with_ok-edited (f l.values) l.map line m go
+with_ok-listed (Err k) f line m go = refl
 
 module _ (all : List ItemTree) (source : FormatTree) (list : ListItemsTree) (line : ℕ) (m : Map) (t : ℕ) where
-  abbrev made : Result (List ℕ) FaultKind
+  abbrev made : Result (List ℕ × Map) FaultKind
   made = recorded all source list m
 
-  writes : (go : Follow) → output all source list line m t go ≡ turn line m t (λ u. with_ok (made) line m (λ records. more (records ∷ []) 0 (go m u)))
-  writes go = λ i. turn line m t (λ u. with_ok-with_ok (values_of (arrays_of all) (values_in list) m) (λ vs. edited (parts_for all source) vs) line m (λ records. more (records ∷ []) 0 (go m u)) i)
+  abbrev puts_it : Follow → List ℕ × Map → ℕ → Ran
+  puts_it go p u = more (p.0 ∷ []) 0 (go p.1 u)
 
-  told_along : (u : ℕ) (f : Fault) (a : Told) (go : Follow) → Leaves (turn line m t (λ k. with_ok (made) line m (λ records. more (records ∷ []) 0 (go m k)))) t m u (Some f) → Faults (output all source list line m t go) f a a
+  writes : (go : Follow) → output all source list line m t go ≡ turn line m t (λ u. with_ok made line m (λ p. puts_it go p u))
+  writes go = λ i. turn line m t (λ u. with_ok-listed (listed (scope_of all) list m list_limit) (edited (parts_for all source)) line m (λ records n. more (records ∷ []) 0 (go n u)) i)
+
+  told_along : (u : ℕ) (f : Fault) (a : Told) (go : Follow) → Leaves (turn line m t (λ k. with_ok made line m (λ p. puts_it go p k))) t m u (Some f) → Faults (output all source list line m t go) f a a
   told_along u f a go x = subst (λ r. Faults r f a a) (sym (writes go)) (quiet_fault _ t m u f a x)
 
   pub unwritten : (a : Told) → t ≡ 0 → (go : Follow) → Faults (output all source list line m t go) (record { kind = F4; line = line }) a a
   unwritten a none go =
-      told_along t (record { kind = F4; line = line }) a go (turn_none line m t t (λ u. with_ok (made) line m (λ records. more (records ∷ []) 0 (go m u))) none none)
+      told_along t (record { kind = F4; line = line }) a go (turn_none line m t t (λ u. with_ok made line m (λ p. puts_it go p u)) none none)
 
   module _ (u : ℕ) (taken : t ≡ suc u) where
     pub write_fails : (k : FaultKind) (a : Told) → made ≡ Err k → (go : Follow) → Faults (output all source list line m t go) (record { kind = k; line = line }) a a
     write_fails k a h go =
-        told_along u (record { kind = k; line = line }) a go (turn_fails line m t u (made) k (λ records n. more (records ∷ []) 0 (go m n)) taken h)
+        told_along u (record { kind = k; line = line }) a go (turn_fails line m t u made k (λ p n. puts_it go p n) taken h)
 
-    one_piece : (records : List ℕ) → made ≡ Ok records → (go : Follow) → output all source list line m t go ≡ more (records ∷ []) 1 (go m u)
+    one_piece : (records : List ℕ) → made ≡ Ok (records, m) → (go : Follow) → output all source list line m t go ≡ more (records ∷ []) 1 (go m u)
     one_piece records h go =
-        writes go ∙ turn_goes line m t u (made) records (λ rs n. more (rs ∷ []) 0 (go m n)) taken h ∙ more-more [] (records ∷ []) 1 0 (go m u)
+        writes go ∙ turn_goes line m t u made (records, m) (λ p n. puts_it go p n) taken h ∙ more-more [] (records ∷ []) 1 0 (go m u)
 
-    pub written_whole : (records : List ℕ) (old new : Told) → made ≡ Ok records → Took old new records → GoesOn (λ go. output all source list line m t go) t m u old new
+    pub written_whole : (records : List ℕ) (old new : Told) → made ≡ Ok (records, m) → Took old new records → GoesOn (λ go. output all source list line m t go) t m u old new
     written_whole records old new h took =
         record {
           pieces = records ∷ [];
@@ -65,7 +77,7 @@ module _ (all : List ItemTree) (source : FormatTree) (list : ListItemsTree) (lin
           bytes = subst (λ bs. Took old new bs) (sym (append-nil records)) took;
         }
 
-    pub written_in_part : (records : List ℕ) (old new : Told) → made ≡ Ok records → IsBroken records old new → (go : Follow) → IsBroken (concat (output all source list line m t go).pieces) old new
+    pub written_in_part : (records : List ℕ) (old new : Told) → made ≡ Ok (records, m) → IsBroken records old new → (go : Follow) → IsBroken (concat (output all source list line m t go).pieces) old new
     written_in_part records old new h broken go =
         subst (λ (r : Ran). IsBroken (concat r.pieces) old new) (sym (one_piece records h go)) (subst (λ ps. IsBroken (concat ps) old new) (sym (pieces-more (records ∷ []) 1 (go m u))) (record {
           taken = broken.taken;
@@ -73,6 +85,18 @@ module _ (all : List ItemTree) (source : FormatTree) (list : ListItemsTree) (lin
           parts = ap (λ bs. bs ++ concat (go m u).pieces) broken.parts ∙ append_assoc broken.taken broken.lost (concat (go m u).pieces);
           after = broken.after;
         }))
+
+-- ---- the records of a list that sets nothing
+
+module _ (all : List ItemTree) (source : FormatTree) (list : ListItemsTree) (m : Map) where
+  pub list_fails : (k : FaultKind) → listed (scope_of all) list m list_limit ≡ Err k → AreRecorded (Err k) m (recorded all source list m)
+  unfolding and_then
+  list_fails k h = rw h refl
+
+  pub list_recorded : (vs : List Value) (r : Result (Vec ℕ) FaultKind) → listed (scope_of all) list m list_limit ≡ Ok (listing vs m) → AreEdited r (edited (parts_for all source) vs) → AreRecorded r m (recorded all source list m)
+  unfolding and_then
+  list_recorded vs (Ok v) h made = rw h (rw made refl)
+  list_recorded vs (Err k) h made = rw h (rw made refl)
 
 -- ---- any statement
 

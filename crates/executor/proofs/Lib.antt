@@ -5,3 +5,5 @@ pub mod Repeated
 pub mod Listed
 pub mod Searched
 pub mod Promised
+pub mod Known
+pub mod Nested

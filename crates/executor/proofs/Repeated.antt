@@ -1,5 +1,5 @@
 -- DO statements over a sink, and the start and the end of a run.
-use Rattle.std.proofs.Common.{◌≡◌, Bool, Result, Ok, ℕ, ℤ, pos, zero, suc, List, [], replicate, slice_get, unwrap_or, Option, Some, None, Err, refl, sym, ◌∙◌, subst}
+use Rattle.std.proofs.Common.{◌≡◌, Bool, Result, Ok, ℕ, ℤ, suc, List, [], Option, Some, None, Err, refl, sym, ap, ◌∙◌, subst}
 use mathlib.Core.Path.{fun_ext}
 use Rattle.meaning.specs.declared.ending.FaultKind.{FaultKind}
 use Rattle.meaning.specs.declared.ending.FaultKind.TheVariants.{F4}
@@ -9,10 +9,10 @@ use Rattle.executor.specs.declared.halt.Halt.{Halt}
 use Rattle.meaning.specs.Syntax.{ShapeTree, LimitsTree, doing}
 use Rattle.meaning.specs.Trees.{Members}
 use Rattle.meaning.specs.Trips.{Span, span_of, trips}
-use Rattle.meaning.specs.Values.{Arrays}
-use Rattle.meaning.specs.Stores.{known, overlay}
-use Rattle.array_store.specs.Whole.{world_of}
-use Rattle.meaning.specs.Maps.{Map, CellNumbers, put, start, value_at, map_by}
+use Rattle.meaning.specs.Values.{Scope}
+use Rattle.meaning.specs.declared.syntax.Tree.{Tree}
+use Rattle.checker.specs.Starts.{map_of, start_in}
+use Rattle.meaning.specs.Maps.{Map, put}
 use Rattle.meaning.specs.Execution.{Ran, Meaning, Follow, failed, with_ok, goes_on, added, fold_trips, trips_from, looped}
 use Rattle.executor.specs.Walk.{Faults, Halts, Runs, Ends, GoesOn, Steps}
 use Rattle.executor.proofs.Composed.{steps_on, steps_behind_turn}
@@ -24,43 +24,32 @@ use Rattle.evaluator.proofs.Looped.{do_is, unless_do}
 
 -- ---- the start
 
-zero_at : (n i : ℕ) → unwrap_or (slice_get (replicate n (pos 0)) i) (pos 0) ≡ pos 0
-zero_at zero i = refl
-zero_at (suc n) zero = refl
-zero_at (suc n) (suc i) = zero_at n i
-
-zero_cell : (n : ℕ) (o : Option ℕ) → value_at (known (world_of (replicate n (pos 0)))) o ≡ pos 0
-unfolding known overlay
-zero_cell n None = refl
-zero_cell n (Some i) = zero_at n i
-
--- cells of 0 stand for the start
-pub start_is : (numbers : CellNumbers) (n : ℕ) → map_by numbers (known (world_of (replicate n (pos 0)))) ≡ start
-unfolding map_by start
-start_is numbers n = fun_ext (λ x. fun_ext (λ xs. zero_cell n (numbers x xs)))
+-- cells that are what the program starts with stand for the start
+pub start_is : (t : Tree) (values cells : List ℤ) → cells ≡ values → ((n : List ℕ) (ss : List ℤ) → map_of t values n ss ≡ start_in t n ss) → map_of t cells ≡ start_in t
+start_is t values cells same started = ap (map_of t) same ∙ fun_ext (λ n. fun_ext (λ ss. started n ss))
 
 -- ---- DO statements
 
-module _ (arrays : Arrays) (rec : Meaning) (label : List ℕ) (comma : Bool) (variable : List ℕ) (limits : LimitsTree) (line : ℕ) (range : Members) (m : Map) (t : ℕ) where
+module _ (scope : Scope) (rec : Meaning) (label : List ℕ) (comma : Bool) (variable : List ℕ) (limits : LimitsTree) (line : ℕ) (range : Members) (m : Map) (t : ℕ) where
   abbrev do_statement : ShapeTree
   do_statement = doing label comma variable limits
 
-  pub do_unexecuted : (a : Told) → t ≡ 0 → (go : Follow) → Faults (looped arrays rec do_statement line range m t go) (record { kind = F4; line = line }) a a
+  pub do_unexecuted : (a : Told) → t ≡ 0 → (go : Follow) → Faults (looped scope rec do_statement line range m t go) (record { kind = F4; line = line }) a a
   unfolding looped
   do_unexecuted a zero-left go =
-      quiet_fault _ t m t (record { kind = F4; line = line }) a (turn_none line m t t (λ u. with_ok (span_of arrays limits m) line m (λ s. goes_on (trips_from rec line variable range m u s) u go)) zero-left zero-left)
+      quiet_fault _ t m t (record { kind = F4; line = line }) a (turn_none line m t t (λ u. with_ok (span_of scope limits m) line m (λ s. goes_on (trips_from rec line variable range m u s) u go)) zero-left zero-left)
 
   module _ (u : ℕ) (taken : t ≡ suc u) where
-    pub do_fails : (k : FaultKind) (a : Told) → span_of arrays limits m ≡ Err k → (go : Follow) → Faults (looped arrays rec do_statement line range m t go) (record { kind = k; line = line }) a a
+    pub do_fails : (k : FaultKind) (a : Told) → span_of scope limits m ≡ Err k → (go : Follow) → Faults (looped scope rec do_statement line range m t go) (record { kind = k; line = line }) a a
     unfolding looped
     do_fails k a h go =
-        quiet_fault _ t m u (record { kind = k; line = line }) a (turn_fails line m t u (span_of arrays limits m) k (λ s n. goes_on (trips_from rec line variable range m n s) n go) taken h)
+        quiet_fault _ t m u (record { kind = k; line = line }) a (turn_fails line m t u (span_of scope limits m) k (λ s n. goes_on (trips_from rec line variable range m n s) n go) taken h)
 
     -- the trips of a DO statement, and then what follows it
-    pub do_runs : (s : Span) (first new : Map) (left : ℕ) (o : Result (Option Fault) Halt) (old after : Told) → span_of arrays limits m ≡ Ok s → first ≡ put m variable [] s.first → Runs (fold_trips rec line variable s.step range (trips s.first s.last s.step) first u) u new left o old after → Steps (λ go. looped arrays rec do_statement line range m t go) t new left o old after
+    pub do_runs : (s : Span) (first new : Map) (left : ℕ) (o : Result (Option Fault) Halt) (old after : Told) → span_of scope limits m ≡ Ok s → first ≡ put m variable [] s.first → Runs (fold_trips rec line variable s.step range (trips s.first s.last s.step) first u) u new left o old after → Steps (λ go. looped scope rec do_statement line range m t go) t new left o old after
     do_runs s first new left o old after h e x =
         let runs = subst (λ n. Runs (fold_trips rec line variable s.step range (trips s.first s.last s.step) n u) u new left o old after) e x in
-        steps_behind_turn (λ go. goes_on (trips_from rec line variable range m u s) u go) (λ go. looped arrays rec do_statement line range m t go) t u new left o old after taken (do_is arrays rec label comma variable limits line range m t u taken s h) (steps_on (trips_from rec line variable range m u s) u new left o old after runs)
+        steps_behind_turn (λ go. goes_on (trips_from rec line variable range m u s) u go) (λ go. looped scope rec do_statement line range m t go) t u new left o old after taken (do_is scope rec label comma variable limits line range m t u taken s h) (steps_on (trips_from rec line variable range m u s) u new left o old after runs)
 
 -- ---- what is no DO statement
 
@@ -72,9 +61,9 @@ steps_same does whole given m left (Ok (Some f)) old new is x = λ go. subst (λ
 steps_same does whole given m left (Err h) old new is x =
     λ go. subst (λ (r : Ran). Halts r.pieces h old new) (sym (is go)) (x go)
 
-pub steps_unless_do : (arrays : Arrays) (rec : Meaning) (s : ShapeTree) (line : ℕ) (range : Members) (m : Map) (t : ℕ) (a : Told) → IsTrue (not (is_doing s)) → GoesOn (λ go. looped arrays rec s line range m t go) t m t a a
-steps_unless_do arrays rec s line range m t a h =
-    steps_same (λ go. go m t) (λ go. looped arrays rec s line range m t go) t m t (Ok None) a a (unless_do s arrays rec line range m t h) (passed_over m t a)
+pub steps_unless_do : (scope : Scope) (rec : Meaning) (s : ShapeTree) (line : ℕ) (range : Members) (m : Map) (t : ℕ) (a : Told) → IsTrue (not (is_doing s)) → GoesOn (λ go. looped scope rec s line range m t go) t m t a a
+steps_unless_do scope rec s line range m t a h =
+    steps_same (λ go. go m t) (λ go. looped scope rec s line range m t go) t m t (Ok None) a a (unless_do s scope rec line range m t h) (passed_over m t a)
 
 -- ---- the addition behind a range
 

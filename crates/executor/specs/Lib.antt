@@ -1,3 +1,4 @@
 pub mod Puts
 pub mod Walk
 pub mod Recorded
+pub mod Run

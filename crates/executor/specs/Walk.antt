@@ -1,11 +1,13 @@
 -- What the code that executes statements answers, against what the statements do.
-use Rattle.std.specs.Prelude.{◌≡◌, ◌+◌, ℕ, List, Option, Some, None, Result, Ok, Err}
+use Rattle.std.specs.Prelude.{◌≡◌, ◌+◌, ℕ, ℤ, List, Option, Some, None, Result, Ok, Err}
 use Rattle.std.specs.List.{concat}
 use Rattle.meaning.specs.declared.ending.Fault.{Fault}
+use Rattle.meaning.specs.declared.syntax.Tree.{Tree}
 use Rattle.meaning.specs.Maps.{Map}
 use Rattle.meaning.specs.Execution.{normal, fault, Ran, more, Follow}
 use Rattle.meaning.specs.Promise.{Told, Took, IsFront, IsBroken}
 use Rattle.executor.specs.declared.halt.Halt.{Halt}
+use Rattle.checker.specs.Starts.{map_of}
 use Rattle.evaluator.specs.Statements.{outcome_of}
 use Rattle.executor.specs.declared.halt.Halt.TheVariants as halts
 
@@ -47,6 +49,15 @@ abbrev pub Steps : (Follow → Ran) → ℕ → Map → ℕ → Result (Option F
 Steps does given m left (Ok None) old new = GoesOn does given m left old new
 Steps does given m left (Ok (Some f)) old new = (go : Follow) → Faults (does go) f old new
 Steps does given m left (Err h) old new = (go : Follow) → Halts (does go).pieces h old new
+
+-- ---- of a program, from values of its cells to others
+
+abbrev pub RunsIn : Tree → List ℤ → List ℤ → (Map → ℕ → Ran) → ℕ → ℕ → Result (Option Fault) Halt → Told → Told → Type 0
+RunsIn t cells new_cells does given left o old new = Runs (does (map_of t cells) given) given (map_of t new_cells) left o old new
+
+abbrev pub StepsIn : Tree → List ℤ → List ℤ → (Map → ℕ → Follow → Ran) → ℕ → ℕ → Result (Option Fault) Halt → Told → Told → Type 0
+StepsIn t cells new_cells does given left o old new =
+    Steps (λ go. does (map_of t cells) given go) given (map_of t new_cells) left o old new
 
 -- ---- what was run so far, followed by what is left, is the whole
 

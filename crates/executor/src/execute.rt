@@ -2,19 +2,16 @@
 
 ghost use Rattle.std.specs.Prelude.{◌≡◌, ◌≢◌, ℕ, List, Bool, false, length, pos};
 ghost use Rattle.meaning.specs.declared.syntax.Loop.{out-Loop};
-ghost use Rattle.meaning.specs.Arrays.{cells_of};
 ghost use Rattle.meaning.specs.Syntax.{shape_tree, limits_tree, doing};
-ghost use Rattle.meaning.specs.Trees.{Members, none, flat, flatten, item_tree, member_before, members_tree};
-ghost use Rattle.meaning.specs.Trips.{trips};
+ghost use Rattle.meaning.specs.Trees.{Members, none, flat, item_tree, member_before, members_tree};
 ghost use Rattle.meaning.specs.Answers.{run_of};
-ghost use Rattle.meaning.specs.Values.{dimensions_in};
-ghost use Rattle.meaning.specs.Execution.{exec, fold_trips, looped};
-ghost use Rattle.meaning.specs.Promise.{Told};
-ghost use Rattle.checker.specs.Checked.{tree_of, named_of_program, IsNumbered};
-ghost use Rattle.checker.specs.Numbered.{Holds};
-ghost use Rattle.evaluator.specs.Cells.{arrays_in, map_in, IsKnown, AreKnown};
-ghost use Rattle.executor.specs.Walk.{Steps, Runs, Ends};
+ghost use Rattle.meaning.specs.Execution.{exec};
+ghost use Rattle.checker.specs.Checked.{tree_of, items_in, count_in};
+ghost use Rattle.evaluator.specs.Known.{HasCellsIn, IsKnown, AreKnown};
+ghost use Rattle.evaluator.specs.Over.{loop_as, trips_as};
 ghost use Rattle.evaluator.specs.Member.{member_does};
+ghost use Rattle.executor.specs.Run.{IsRun};
+ghost use Rattle.executor.specs.Walk.{StepsIn, RunsIn, Ends};
 
 use crate::halt::Halt;
 use crate::sink::Sink;
@@ -41,14 +38,15 @@ fn execute_trips<S: Sink>(
     turns: &mut u64,
     sink: &mut S,
 ) -> Result<Option<Fault>, Halt>
-    requires numbered { IsNumbered program.now }
-    requires named { AreKnown program.now (flat (members_tree (out-Loop repeated.now).range.items)) }
-    requires held { Holds program.now.names.keys variable.now }
-    requires plain { length (dimensions_in (arrays_in program.now variable.now)) ≡ 0 }
-    requires sized { length cells.old ≡ cells_of (named_of_program program.now) }
+    requires named { AreKnown program.now
+        (flat (members_tree (out-Loop repeated.now).range.items)) }
+    requires held { HasCellsIn program.now variable.now 0 }
+    requires sized { length cells.old ≡ count_in program.now }
     requires unrefused { (S.told sink.old).refused ≡ false }
     requires some { span.step ≢ pos 0 }
-    ensures runs { Runs (fold_trips (exec (flatten (tree_of program.now))) (out-Loop repeated.now).head.line variable.now span.step (members_tree (out-Loop repeated.now).range.items) (trips span.first span.last span.step) (map_in program.now cells.old) turns.old) turns.old (map_in program.now cells.new) turns.new result (S.told sink.old) (S.told sink.new) }
+    ensures runs { RunsIn program.now cells.old cells.new
+        (trips_as (items_in program.now) repeated.now variable.now span)
+        turns.old turns.new result (S.told sink.old) (S.told sink.new) }
     ensures len { length cells.new ≡ length cells.old }
 {
     for _ in 0..count_of(span) {
@@ -79,13 +77,15 @@ fn execute_do<S: Sink>(
     turns: &mut u64,
     sink: &mut S,
 ) -> Result<Option<Fault>, Halt>
-    requires numbered { IsNumbered program.now }
-    requires named { AreKnown program.now (flat (members_tree (out-Loop repeated.now).range.items)) }
-    requires held { Holds program.now.names.keys variable.now }
-    requires plain { length (dimensions_in (arrays_in program.now variable.now)) ≡ 0 }
-    requires sized { length cells.old ≡ cells_of (named_of_program program.now) }
+    requires named { AreKnown program.now
+        (flat (members_tree (out-Loop repeated.now).range.items)) }
+    requires held { HasCellsIn program.now variable.now 0 }
+    requires sized { length cells.old ≡ count_in program.now }
     requires unrefused { (S.told sink.old).refused ≡ false }
-    ensures steps { (label : List ℕ) (comma : Bool) → Steps (λ go. looped (arrays_in program.now) (exec (flatten (tree_of program.now))) (doing label comma variable.now (limits_tree limits.now)) (out-Loop repeated.now).head.line (members_tree (out-Loop repeated.now).range.items) (map_in program.now cells.old) turns.old go) turns.old (map_in program.now cells.new) turns.new result (S.told sink.old) (S.told sink.new) }
+    ensures steps { (label : List ℕ) (comma : Bool) → StepsIn program.now cells.old cells.new
+        (loop_as (items_in program.now)
+        (doing label comma variable.now (limits_tree limits.now)) repeated.now)
+        turns.old turns.new result (S.told sink.old) (S.told sink.new) }
     ensures len { length cells.new ≡ length cells.old }
 {
     let line = repeated.head.line;
@@ -117,12 +117,15 @@ fn execute_loop<S: Sink>(
     turns: &mut u64,
     sink: &mut S,
 ) -> Result<Option<Fault>, Halt>
-    requires numbered { IsNumbered program.now }
-    requires named { AreKnown program.now (flat (members_tree (out-Loop repeated.now).range.items)) }
+    requires named { AreKnown program.now
+        (flat (members_tree (out-Loop repeated.now).range.items)) }
     requires head { IsKnown program.now (item_tree (out-Loop repeated.now).head) }
-    requires sized { length cells.old ≡ cells_of (named_of_program program.now) }
+    requires sized { length cells.old ≡ count_in program.now }
     requires unrefused { (S.told sink.old).refused ≡ false }
-    ensures steps { Steps (λ go. looped (arrays_in program.now) (exec (flatten (tree_of program.now))) (shape_tree (out-Loop repeated.now).head.form.shape) (out-Loop repeated.now).head.line (members_tree (out-Loop repeated.now).range.items) (map_in program.now cells.old) turns.old go) turns.old (map_in program.now cells.new) turns.new result (S.told sink.old) (S.told sink.new) }
+    ensures steps { StepsIn program.now cells.old cells.new
+        (loop_as (items_in program.now)
+        (shape_tree (out-Loop repeated.now).head.form.shape) repeated.now)
+        turns.old turns.new result (S.told sink.old) (S.told sink.new) }
     ensures len { length cells.new ≡ length cells.old }
 {
     match do_of(&repeated.head.form.shape) {
@@ -143,11 +146,12 @@ fn execute_member<S: Sink>(
     turns: &mut u64,
     sink: &mut S,
 ) -> Result<Option<Fault>, Halt>
-    requires numbered { IsNumbered program.now }
     requires named { AreKnown program.now (flat (member_before member.now none)) }
-    requires sized { length cells.old ≡ cells_of (named_of_program program.now) }
+    requires sized { length cells.old ≡ count_in program.now }
     requires unrefused { (S.told sink.old).refused ≡ false }
-    ensures steps { Steps (λ go. member_does (flatten (tree_of program.now)) (exec (flatten (tree_of program.now))) member.now (map_in program.now cells.old) turns.old go) turns.old (map_in program.now cells.new) turns.new result (S.told sink.old) (S.told sink.new) }
+    ensures steps { StepsIn program.now cells.old cells.new
+        (member_does (items_in program.now) (exec (items_in program.now)) member.now)
+        turns.old turns.new result (S.told sink.old) (S.told sink.new) }
     ensures len { length cells.new ≡ length cells.old }
 {
     match member {
@@ -168,11 +172,12 @@ fn execute_list<S: Sink>(
     turns: &mut u64,
     sink: &mut S,
 ) -> Result<Option<Fault>, Halt>
-    requires numbered { IsNumbered program.now }
     requires named { AreKnown program.now (flat (members_tree members.now)) }
-    requires sized { length cells.old ≡ cells_of (named_of_program program.now) }
+    requires sized { length cells.old ≡ count_in program.now }
     requires unrefused { (S.told sink.old).refused ≡ false }
-    ensures runs { (all : Members) → Runs (exec (flatten (tree_of program.now)) all (members_tree members.now) (map_in program.now cells.old) turns.old) turns.old (map_in program.now cells.new) turns.new result (S.told sink.old) (S.told sink.new) }
+    ensures runs { (all : Members) → RunsIn program.now cells.old cells.new
+        (exec (items_in program.now) all (members_tree members.now))
+        turns.old turns.new result (S.told sink.old) (S.told sink.new) }
     ensures len { length cells.new ≡ length cells.old }
 {
     for member in members {
@@ -184,26 +189,21 @@ fn execute_list<S: Sink>(
     Ok(None)
 }
 
-/// Executes a program from the start, and answers the fault of a statement, if one faulted. What was written is all
-/// that the statements write up to there; where a growth or a write was refused, it is a beginning of that.
+/// Executes a program, all of whose statements are run, from the start, and answers the fault of a statement, if one faulted.
+/// What was written is all that the statements write up to there; where a growth or a write was refused, it is a beginning of
+/// that.
 pub fn execute<S: Sink>(
     alloc: Global,
     program: &Program,
     turns: u64,
     sink: &mut S,
 ) -> Result<Option<Fault>, Halt>
-    requires numbered { IsNumbered program.now }
+    requires run { IsRun program.now }
     requires unrefused { (S.told sink.old).refused ≡ false }
     ensures { Ends (run_of (tree_of program.now) turns) result (S.told sink.old) (S.told sink.new) }
 {
-    let mut cells = Whole::new(alloc, &program.starts)?;
+    let tree = program.tree();
+    let mut cells = Whole::new(alloc, program.starts())?;
     let mut left = turns;
-    execute_list(
-        alloc,
-        program,
-        &program.tree.body,
-        &mut cells,
-        &mut left,
-        sink,
-    )
+    execute_list(alloc, program, &tree.body, &mut cells, &mut left, sink)
 }

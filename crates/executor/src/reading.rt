@@ -5,7 +5,8 @@ ghost use Rattle.meaning.specs.Reports.{Gives};
 ghost use Rattle.meaning.specs.Statements.{entry_of};
 ghost use Rattle.meaning.specs.Trees.{item_tree};
 ghost use Rattle.meaning.specs.Answers.{member_of, members_of, program_of};
-ghost use Rattle.checker.specs.Checked.{tree_of, IsNumbered};
+ghost use Rattle.checker.specs.Checked.{tree_of};
+ghost use Rattle.executor.specs.Run.{IsRun};
 
 use crate::unrun::unrun_statement;
 use checker::{Program, check};
@@ -65,12 +66,12 @@ fn members_in(alloc: Global, found: &[Statement]) -> Result<Vec<Item>, Refusal>
     }
 }
 
-/// The program that a source spells, or why it is refused: the least broken rule of the first phase that has one, or
-/// `Memory` where a growth was refused.
+/// The program that a source spells, all of whose statements are run, or why it is refused: the least broken rule of the first
+/// phase that has one, or `Memory` where a growth was refused.
 #[tactic(auto, unfolding(meaning::specs::Answers::program_of))]
 pub fn program_in(alloc: Global, source: &[u8]) -> Result<Program, Refusal>
     ensures exact { Gives tree_of result (program_of source.now) }
-    ensures numbered { IfOk result IsNumbered }
+    ensures run { IfOk result IsRun }
 {
     let found = statements(alloc, source)?;
     let members = members_in(alloc, &found)?;

@@ -3,7 +3,8 @@
 ghost use Rattle.std.specs.Prelude.{◌≡◌, ◌↔◌, Ok, false, true};
 ghost use Rattle.meaning.specs.Answers.{answer, answer_of};
 ghost use Rattle.meaning.specs.Promise.{Keeps};
-ghost use Rattle.checker.specs.Checked.{tree_of, IsNumbered};
+ghost use Rattle.checker.specs.Checked.{tree_of};
+ghost use Rattle.executor.specs.Run.{IsRun};
 
 use crate::execute::execute;
 use crate::halt::Halt;
@@ -16,9 +17,10 @@ use std::alloc::Global;
 
 // Runs a program that keeps the rules.
 fn run_program<S: Sink>(alloc: Global, program: &Program, turns: u64, sink: &mut S) -> Ending
-    requires numbered { IsNumbered program.now }
+    requires run { IsRun program.now }
     requires unrefused { (S.told sink.old).refused ≡ false }
-    ensures promise { Keeps (answer_of (Ok (tree_of program.now)) turns) (S.told sink.old) (S.told sink.new) result }
+    ensures promise { Keeps (answer_of (Ok (tree_of program.now)) turns)
+        (S.told sink.old) (S.told sink.new) result }
     ensures refused { (result ≡ Ending.WriteRefused) ↔ ((S.told sink.new).refused ≡ true) }
 {
     match execute(alloc, program, turns, sink) {

@@ -1,19 +1,18 @@
 //! Single statements (ANSI X3.9-1978, 10.1, 11.11 and 12.8).
 
 ghost use Rattle.std.specs.Prelude.{◌≡◌, false, length, unwrap_or, IfOk};
-ghost use Rattle.meaning.specs.Arrays.{cells_of};
 ghost use Rattle.meaning.specs.Syntax.{format_tree, list_items_tree, shape_tree};
-ghost use Rattle.meaning.specs.Trees.{item_tree, flatten};
+ghost use Rattle.meaning.specs.Trees.{item_tree};
 ghost use Rattle.meaning.specs.Execution.{output, parts_for, step};
 ghost use Rattle.meaning.specs.Records.{edited};
 ghost use Rattle.meaning.specs.Formats.{format_in, no_parts, undoubled};
-ghost use Rattle.meaning.specs.Promise.{Told};
+ghost use Rattle.meaning.specs.Unrun.{has_loop};
 ghost use Rattle.format_edit.specs.Formatted.{descriptors};
-ghost use Rattle.checker.specs.Checked.{tree_of, named_of_program, IsNumbered};
-ghost use Rattle.values.specs.Listed.{Listed};
-ghost use Rattle.evaluator.specs.Cells.{map_in, IsKnown};
-ghost use Rattle.executor.specs.Walk.{Steps};
-ghost use Rattle.executor.specs.Recorded.{recorded};
+ghost use Rattle.checker.specs.Checked.{items_in, count_in};
+ghost use Rattle.checker.specs.Starts.{map_of};
+ghost use Rattle.evaluator.specs.Known.{IsKnown};
+ghost use Rattle.executor.specs.Walk.{StepsIn};
+ghost use Rattle.executor.specs.Recorded.{AreEdited, AreRecorded, recorded};
 
 use crate::halt::Halt;
 use crate::sink::{Sink, put_all};
@@ -26,7 +25,6 @@ use meaning::syntax::{FormatSource, Item, ListItems};
 use std::alloc::{AllocError, Global};
 
 // The records of a WRITE or PRINT statement, or its fault. The cells keep their values.
-#[tactic(auto, unfolding(meaning::specs::Values::and_then))]
 fn recorded_list(
     alloc: Global,
     program: &Program,
@@ -34,10 +32,12 @@ fn recorded_list(
     list: &ListItems,
     cells: &mut Whole,
 ) -> Result<Result<Vec<u8>, FaultKind>, AllocError>
-    requires numbered { IsNumbered program.now }
-    requires sized { length cells.old ≡ cells_of (named_of_program program.now) }
-    ensures recorded { IfOk result (λ r. Listed r (recorded (flatten (tree_of program.now)) (format_tree source.now) (list_items_tree list.now) (map_in program.now cells.old))) }
-    ensures kept { IfOk result (λ _. map_in program.now cells.new ≡ map_in program.now cells.old) }
+    requires plain { has_loop (list_items_tree list.now) ≡ false }
+    requires sized { length cells.old ≡ count_in program.now }
+    ensures recorded { IfOk result (λ r. AreRecorded r (map_of program.now cells.old)
+        (recorded (items_in program.now) (format_tree source.now) (list_items_tree list.now)
+        (map_of program.now cells.old))) }
+    ensures kept { IfOk result (λ _. map_of program.now cells.new ≡ map_of program.now cells.old) }
     ensures len { length cells.new ≡ length cells.old }
 {
     match values_whole(alloc, list, program, cells)? {
@@ -52,7 +52,7 @@ fn edited_by(
     format: &Format,
     found: &[Value],
 ) -> Result<Result<Vec<u8>, FaultKind>, AllocError>
-    ensures { IfOk result (λ r. Listed r (edited (descriptors format.now) found.now)) }
+    ensures { IfOk result (λ r. AreEdited r (edited (descriptors format.now) found.now)) }
 {
     match edit(alloc, format, found) {
         Ok(records) => Ok(Ok(records)),
@@ -64,7 +64,8 @@ fn edited_by(
 
 // The format in a character constant; the rules of the language leave one.
 fn constant_format(alloc: Global, text: &[u8]) -> Result<Format, AllocError>
-    ensures { IfOk result (λ f. descriptors f ≡ unwrap_or (format_in (undoubled text.now)) no_parts) }
+    ensures { IfOk result
+        (λ f. descriptors f ≡ unwrap_or (format_in (undoubled text.now)) no_parts) }
 {
     match Format::read_constant(alloc, text) {
         Ok(format) => Ok(format),
@@ -89,8 +90,8 @@ fn edited_list(
     source: &FormatSource,
     found: &[Value],
 ) -> Result<Result<Vec<u8>, FaultKind>, AllocError>
-    requires { IsNumbered program.now }
-    ensures { IfOk result (λ r. Listed r (edited (parts_for (flatten (tree_of program.now)) (format_tree source.now)) found.now)) }
+    ensures { IfOk result (λ r. AreEdited r
+        (edited (parts_for (items_in program.now) (format_tree source.now)) found.now)) }
 {
     match source {
         FormatSource::Label(digits) => {
@@ -98,10 +99,13 @@ fn edited_list(
             let format = program.format(digits).unwrap_or(&blank);
             edited_by(alloc, format, found)
         }
-        FormatSource::Constant(text) => {
-            let format = constant_format(alloc, text)?;
-            edited_by(alloc, &format, found)
-        }
+        FormatSource::Constant(text) => match program.text_format(text) {
+            Some(format) => edited_by(alloc, format, found),
+            None => {
+                let format = constant_format(alloc, text)?;
+                edited_by(alloc, &format, found)
+            }
+        },
     }
 }
 
@@ -116,10 +120,12 @@ fn execute_output<S: Sink>(
     turns: &mut u64,
     sink: &mut S,
 ) -> Result<Option<Fault>, Halt>
-    requires numbered { IsNumbered program.now }
-    requires sized { length cells.old ≡ cells_of (named_of_program program.now) }
+    requires plain { has_loop (list_items_tree list.now) ≡ false }
+    requires sized { length cells.old ≡ count_in program.now }
     requires unrefused { (S.told sink.old).refused ≡ false }
-    ensures steps { Steps (λ go. output (flatten (tree_of program.now)) (format_tree source.now) (list_items_tree list.now) line (map_in program.now cells.old) turns.old go) turns.old (map_in program.now cells.new) turns.new result (S.told sink.old) (S.told sink.new) }
+    ensures steps { StepsIn program.now cells.old cells.new
+        (output (items_in program.now) (format_tree source.now) (list_items_tree list.now) line)
+        turns.old turns.new result (S.told sink.old) (S.told sink.new) }
     ensures len { length cells.new ≡ length cells.old }
 {
     if !take_turn(turns) {
@@ -147,11 +153,12 @@ pub fn execute_item<S: Sink>(
     turns: &mut u64,
     sink: &mut S,
 ) -> Result<Option<Fault>, Halt>
-    requires numbered { IsNumbered program.now }
     requires known { IsKnown program.now (item_tree item.now) }
-    requires sized { length cells.old ≡ cells_of (named_of_program program.now) }
+    requires sized { length cells.old ≡ count_in program.now }
     requires unrefused { (S.told sink.old).refused ≡ false }
-    ensures steps { Steps (λ go. step (flatten (tree_of program.now)) (shape_tree item.now.form.shape) item.now.line (map_in program.now cells.old) turns.old go) turns.old (map_in program.now cells.new) turns.new result (S.told sink.old) (S.told sink.new) }
+    ensures steps { StepsIn program.now cells.old cells.new
+        (step (items_in program.now) (shape_tree item.now.form.shape) item.now.line)
+        turns.old turns.new result (S.told sink.old) (S.told sink.new) }
     ensures len { length cells.new ≡ length cells.old }
 {
     match output_of(&item.form.shape) {

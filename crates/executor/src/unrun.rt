@@ -2,58 +2,12 @@
 
 ghost use Rattle.std.specs.Prelude.{◌≡◌, flat_map, map};
 ghost use Rattle.meaning.specs.Refusals.{least};
-ghost use Rattle.meaning.specs.Syntax.{expr_tree, exprs_tree, list_items_tree, shape_tree};
+ghost use Rattle.meaning.specs.Syntax.{list_items_tree, shape_tree};
 ghost use Rattle.meaning.specs.Trees.{item_tree};
-ghost use Rattle.meaning.specs.Unrun.{has_loop as has_implied_do, is_arithmetic as is_integer_operator, is_one_unrun as is_unrun_list, is_unrun as is_unrun_tree, is_unrun_form as is_unrun_shape, is_unrun_statement as is_unrun_by_all, unrun};
+ghost use Rattle.meaning.specs.Unrun.{has_loop as has_implied_do, is_unrun as is_unrun_tree, unrun};
 
-use k_rules::{Test, in_statement};
 use meaning::refusal::{Broken, Rule, lesser};
-use meaning::syntax::{Expr, Exprs, Item, ListItem, ListItems, Operator, Shape};
-
-// Whether an operator takes integers and gives one.
-fn is_arithmetic(operator: Operator) -> bool
-    ensures { result ≡ is_integer_operator operator }
-{
-    match operator {
-        Operator::Power => true,
-        Operator::Multiply => true,
-        Operator::Divide => true,
-        Operator::Add => true,
-        Operator::Subtract => true,
-        _ => false,
-    }
-}
-
-// Whether an expression has a part that isn't run.
-#[cycle(unrun)]
-fn is_unrun(expression: &Expr) -> bool
-    ensures { result ≡ is_unrun_tree (expr_tree expression.now) }
-{
-    match expression {
-        Expr::Number(_) => false,
-        Expr::Truth(_) => true,
-        Expr::Name(_) => false,
-        Expr::Signed(_, operand) => is_unrun(operand),
-        Expr::Not(_) => true,
-        Expr::Binary(operator, left, right) => {
-            !is_arithmetic(*operator) || is_unrun(left) || is_unrun(right)
-        }
-        Expr::Paren(operand) => is_unrun(operand),
-        Expr::Element(_, subscripts) => is_one_unrun(subscripts),
-        Expr::Call(_) => true,
-    }
-}
-
-// Whether one of a list has.
-#[cycle(unrun)]
-fn is_one_unrun(expressions: &Exprs) -> bool
-    ensures { result ≡ is_unrun_list (exprs_tree expressions.now) }
-{
-    match expressions {
-        Exprs::Empty => false,
-        Exprs::More(first, rest) => is_unrun(first) || is_one_unrun(rest),
-    }
-}
+use meaning::syntax::{Item, ListItem, ListItems, Shape};
 
 // Whether an implied DO stands in a list.
 fn has_loop(items: &ListItems) -> bool
@@ -68,46 +22,31 @@ fn has_loop(items: &ListItems) -> bool
     }
 }
 
-// Whether a statement isn't run, whatever its expressions are.
-fn is_unrun_form(shape: &Shape) -> bool
-    ensures { result ≡ is_unrun_shape (shape_tree shape.now) }
+// Whether a statement isn't run.
+fn is_unrun(shape: &Shape) -> bool
+    ensures { result ≡ is_unrun_tree (shape_tree shape.now) }
 {
     match shape {
-        Shape::Assignment { .. } => false,
         Shape::Write { control: _, list } => has_loop(list),
         Shape::Print { format: _, list } => has_loop(list),
-        Shape::Format(_) => false,
-        Shape::Do { .. } => false,
-        Shape::Continue => false,
-        Shape::Integer(_) => false,
-        Shape::End => false,
-        _ => true,
+        Shape::GoTo(_) => true,
+        Shape::ComputedGoTo { .. } => true,
+        Shape::ArithmeticIf { .. } => true,
+        Shape::LogicalIf(_, _) => true,
+        Shape::IfThen(_) => true,
+        Shape::ElseIf(_) => true,
+        Shape::Else => true,
+        Shape::EndIf => true,
+        Shape::Stop(_) => true,
+        _ => false,
     }
-}
-
-// The test whether an expression isn't run.
-struct UnrunTest;
-
-impl Test for UnrunTest {
-    ghost passes = { λ _ e. is_unrun_tree e };
-
-    fn holds(&self, expression: &Expr) -> bool {
-        is_unrun(expression)
-    }
-}
-
-// Whether a statement isn't run.
-fn is_unrun_statement(shape: &Shape) -> bool
-    ensures { result ≡ is_unrun_by_all (shape_tree shape.now) }
-{
-    is_unrun_form(shape) || in_statement(&UnrunTest, shape)
 }
 
 // K0 at the line of a statement that isn't run.
 fn broken_at(item: &Item) -> Option<Broken>
     ensures { result ≡ least (unrun (item_tree item.now)) }
 {
-    if is_unrun_statement(&item.form.shape) {
+    if is_unrun(&item.form.shape) {
         Some(Broken {
             line: item.line,
             rule: Rule::K0,

@@ -139,7 +139,7 @@ fn values_of(alloc: Global, list: &str) -> Result<Vec<Value>, AllocError> {
 fn shows(rt: &impl Abort, alloc: Global, row: Row) -> Result<(), Fail> {
     let values = values_of(alloc, row.1)?;
     let bytes = outcome(alloc, row.0.as_bytes(), &values)??;
-    assert_eq!(rt; bytes.as_slice(), row.2.as_bytes(), "{:?}", row.0);
+    assert!(rt; bytes.as_slice() == row.2.as_bytes(), "{:?}", row.0);
     Ok(())
 }
 
@@ -175,7 +175,7 @@ fn widths(rt: HostRuntime) -> Result<(), Fail> {
     let ends = [Int(i32::MIN), Int(i32::MAX)];
     for &(text, records) in WIDTHS {
         let bytes = outcome(rt.alloc(), text, &ends)??;
-        assert_eq!(rt; bytes.as_slice(), records, "{text:?}");
+        assert!(rt; bytes.as_slice() == records, "{text:?}");
     }
     Ok(())
 }
@@ -214,8 +214,8 @@ fn memory(rt: HostRuntime) -> Result<(), Fail> {
     let values = [Int(1), Int(2)];
     if let Ok(format) = Format::read_inside(rt.alloc(), b"5X,2('A',I3/),2X") {
         match edit(rt.alloc(), &format, &values) {
-            Ok(bytes) => assert_eq!(rt; bytes.as_slice(), b"     A  1\nA  2\n\n".as_slice()),
-            Err(fault) => assert_eq!(rt; fault, EditFault::Memory),
+            Ok(bytes) => assert!(rt; bytes.as_slice() == b"     A  1\nA  2\n\n".as_slice()),
+            Err(fault) => assert!(rt; fault == EditFault::Memory),
         }
     }
     Ok(())

@@ -1,103 +1,90 @@
-//! Uses of arrays, and of what is no array but has subscripts (ANSI X3.9-1978, 5.3 and 5.4).
+//! The arrays of a program unit with their bounds (ANSI X3.9-1978, 5.1).
 
-ghost use Rattle.std.specs.Prelude.{◌≡◌, flat_map, map};
-ghost use Rattle.std.specs.List.{list_any};
-ghost use Rattle.meaning.specs.Rules.{elements_set, expression_uses, functions, is_function_use, is_misused, misused_arrays, no_elements, uses_of};
-ghost use Rattle.meaning.specs.Refusals.{least};
-ghost use Rattle.k_rules.specs.Listed.{tree_at};
-ghost use Rattle.k_rules.specs.Used.{declarator_at};
+ghost use Rattle.std.specs.Prelude.{◌≡◌, ◌∷◌, [], ℕ, List, map, IfOk, OnOk};
+ghost use Rattle.meaning.specs.Scopes.{dimension_of as dimension_by, dimensions_in as dimensions_within, known_of, or_dimensions};
+ghost use Rattle.meaning.specs.Syntax.{bounds_tree, declarator_tree};
+ghost use Rattle.k_rules.specs.ArraysKept.{arrays_kept};
+ghost use Rattle.rule_passes.specs.Listed.{tree_at};
+ghost use Rattle.expressions.specs.Dimensions.{dimension};
+ghost use Rattle.k_rules.specs.Tables.{known_at, types_in};
+ghost use Rattle.roles.specs.RolesAt.{roles_at};
 
-use crate::lookup::{Declared, dimensions_given, is_array};
-use crate::pass::{Check, least_line};
-use crate::uses::{Sought, has_count, in_expressions, in_shape, is_element_set};
-use meaning::refusal::{Broken, Rule};
-use meaning::syntax::{Exprs, Item};
+use crate::known::{Table, pass_constants, table_of};
+use crate::sizes::dimension_of;
+use expressions::Dimension;
+use indexmap::IndexMap;
+use meaning::syntax::{Bounds, Declarator};
+use roles::{Roles, declarators_in};
+use std::alloc::{AllocError, Global};
 
-/// An array without subscripts, or with a wrong number of them.
-#[derive(Clone, Copy)]
-struct Misused<'a> {
-    declared: &'a Declared<'a>,
-}
-
-impl Sought for Misused<'_> {
-    ghost is_use = { λ s. is_misused (map declarator_at s.declared.now.declarators.now) };
-
-    fn is(&self, name: &[u8], subscripts: Option<&Exprs>) -> bool {
-        match dimensions_given(self.declared, name) {
-            None => false,
-            Some(number) => match subscripts {
-                None => true,
-                Some(list) => !has_count(list, number),
-            },
-        }
-    }
-}
-
-impl Check for Misused<'_> {
-    ghost breaks = { λ s x. list_any (is_misused (map declarator_at s.declared.now.declarators.now)) (uses_of x.shape) };
-
-    fn is_broken(&self, item: &Item) -> bool {
-        in_shape(self, &item.form.shape)
-    }
-}
-
-/// K8: the least line at which an array has no subscripts, or a wrong number of them.
-pub fn misused_array(declared: &Declared, members: &[&Item]) -> Option<Broken>
-    ensures { result ≡ least (flat_map (misused_arrays (map declarator_at declared.now.declarators.now)) (map tree_at members.now)) }
+/// The dimensions that bounds give.
+fn dimensions_by(
+    alloc: Global,
+    table: &Table,
+    bounds: &[Bounds],
+) -> Result<Vec<Dimension>, AllocError>
+    ensures { IfOk result (λ v. map dimension v.items ≡ map (dimension_by (types_in table.now) (known_at table.now)) (map bounds_tree bounds.now)) }
 {
-    least_line(&Misused { declared }, Rule::K8, members)
-}
-
-/// What is no array, with subscripts.
-#[derive(Clone, Copy)]
-pub struct Function<'a> {
-    /// The declared names of the program.
-    pub declared: &'a Declared<'a>,
-}
-
-impl Sought for Function<'_> {
-    ghost is_use = { λ s. is_function_use (map declarator_at s.declared.now.declarators.now) };
-
-    fn is(&self, name: &[u8], subscripts: Option<&Exprs>) -> bool {
-        subscripts.is_some() && !is_array(self.declared, name)
+    let mut found = Vec::new(alloc);
+    for one in bounds {
+        found.push(dimension_of(table, one))?;
     }
+    Ok(found)
 }
 
-/// A statement that sets it.
-#[derive(Clone, Copy)]
-struct NoElement<'a> {
-    declared: &'a Declared<'a>,
-}
-
-impl Check for NoElement<'_> {
-    ghost breaks = { λ s x. list_any (is_function_use (map declarator_at s.declared.now.declarators.now)) (elements_set x.shape) };
-
-    fn is_broken(&self, item: &Item) -> bool {
-        let sought = Function {
-            declared: self.declared,
-        };
-        is_element_set(&sought, &item.form.shape)
-    }
-}
-
-/// K12: the least line at which an element of what is no array is set.
-pub fn no_element(declared: &Declared, members: &[&Item]) -> Option<Broken>
-    ensures { result ≡ least (flat_map (no_elements (map declarator_at declared.now.declarators.now)) (map tree_at members.now)) }
+/// Keeps the dimensions of a declarator, if it is the first that gives its name bounds.
+fn add_array(
+    arrays: &mut IndexMap<Vec<u8>, Vec<Dimension>>,
+    alloc: Global,
+    table: &Table,
+    declarator: &Declarator,
+) -> Result<(), AllocError>
+    ensures { OnOk result ((n : List ℕ) → arrays_kept arrays.new n ≡ or_dimensions (arrays_kept arrays.old n) (dimensions_within (types_in table.now) (known_at table.now) (declarator_tree declarator.now ∷ []) n)) }
 {
-    least_line(&NoElement { declared }, Rule::K12, members)
-}
-
-impl Check for Function<'_> {
-    ghost breaks = { λ s x. list_any (is_function_use (map declarator_at s.declared.now.declarators.now)) (expression_uses x.shape) };
-
-    fn is_broken(&self, item: &Item) -> bool {
-        in_expressions(self, &item.form.shape)
+    let name = declarator.name.as_slice();
+    if declarator.bounds.len() > 0 && !arrays.contains_key(name) {
+        let dimensions = dimensions_by(alloc, table, &declarator.bounds)?;
+        let own = Vec::from_slice(alloc, name)?;
+        arrays.insert(own, dimensions)?;
     }
+    Ok(())
 }
 
-/// K13: the least line at which a function is used.
-pub fn function_used(declared: &Declared, members: &[&Item]) -> Option<Broken>
-    ensures { result ≡ least (flat_map (functions (map declarator_at declared.now.declarators.now)) (map tree_at members.now)) }
+/// Keeps the dimensions of declarators that are the first to give their names bounds.
+fn add_arrays(
+    arrays: &mut IndexMap<Vec<u8>, Vec<Dimension>>,
+    alloc: Global,
+    table: &Table,
+    declarators: &[Declarator],
+) -> Result<(), AllocError>
+    ensures { OnOk result ((n : List ℕ) → arrays_kept arrays.new n ≡ or_dimensions (arrays_kept arrays.old n) (dimensions_within (types_in table.now) (known_at table.now) (map declarator_tree declarators.now) n)) }
 {
-    least_line(&Function { declared }, Rule::K13, members)
+    for declarator in declarators {
+        add_array(arrays, alloc, table, declarator)?;
+    }
+    Ok(())
+}
+
+/// The constants and the arrays of a program unit.
+#[derive(Drop)]
+pub struct Declared<'a> {
+    /// The constants behind all statements.
+    pub table: Table<'a>,
+    /// The arrays with their dimensions.
+    pub arrays: IndexMap<Vec<u8>, Vec<Dimension>>,
+}
+
+/// The constants and the arrays of the statements.
+pub fn declared_in<'a>(alloc: Global, roles: &'a Roles<'a>) -> Result<Declared<'a>, AllocError>
+    ensures roles { IfOk result (λ declared. declared.table.roles.now ≡ roles.now) }
+    ensures constants { IfOk result (λ declared. known_at declared.table ≡ known_of (roles_at roles.now).names.types (map tree_at roles.now.items.now)) }
+    ensures arrays { IfOk result (λ declared. (n : List ℕ) → arrays_kept declared.arrays n ≡ (roles_at roles.now).names.arrays n) }
+{
+    let mut table = table_of(alloc, roles);
+    let mut arrays = IndexMap::new(alloc);
+    for item in roles.items {
+        add_arrays(&mut arrays, alloc, &table, declarators_in(&item.form.shape))?;
+        pass_constants(&mut table, alloc, item)?;
+    }
+    Ok(Declared { table, arrays })
 }

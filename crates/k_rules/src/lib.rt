@@ -1,32 +1,33 @@
-//! The rules on a whole program unit (ANSI X3.9-1978, 2.5, 3.4, 4.1.2, 4.3, 5.1 to 5.4, 8.4.1, 11.10, 12.3, 12.4 and
-//! 13.1).
+//! The rules on a whole program unit (ANSI X3.9-1978, chapters 2 to 15).
 #![tactic(auto)]
 
 mod arrays;
-mod broken;
-mod constants;
-mod declared;
-mod disputes;
-mod expressions;
-mod facts;
+mod control;
+mod counters;
+mod counts;
+mod data_lists;
+mod data_values;
+mod elements;
+mod filling;
 mod formats;
-mod gathered;
-mod items;
+mod giving;
+mod great;
+mod known;
 mod labels;
-mod lookup;
 mod loops;
-mod names;
-mod pass;
-mod rules;
+mod numbers;
+mod reach;
 mod sizes;
-mod targets;
-mod units;
-mod uses;
+mod starting;
+mod transfers;
+mod trips;
+mod verdict;
 
-pub use declared::declarators_in;
-pub use expressions::{Test, in_statement};
-pub use facts::Facts;
-pub use formats::{format_of, label_of};
-pub use gathered::{add_name, add_names_used};
-pub use items::items_of;
-pub use rules::judge;
+pub use control::misused_variable;
+pub use filling::Start;
+pub use formats::{bad_output, format_of};
+pub use labels::repeated_label;
+pub use numbers::bad_number;
+pub use sizes::large_array;
+pub use transfers::{Transfers, label_of, missed_label};
+pub use verdict::{Facts, judge};

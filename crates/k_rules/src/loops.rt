@@ -1,101 +1,72 @@
-//! The variables of DO statements (ANSI X3.9-1978, 11.10.5).
+//! The variables of DO statements and implied DOs (ANSI X3.9-1978, 11.10.5 and 12.8.2.3).
 
-ghost use Rattle.std.specs.Prelude.{◌≡◌, []};
+ghost use Rattle.std.specs.Prelude.{◌≡◌, ◌++◌, ℕ, List};
 ghost use Rattle.std.specs.List.{list_any};
-ghost use Rattle.std.specs.Str.{bytes_eq};
-ghost use Rattle.meaning.specs.Syntax.{shape_tree};
-ghost use Rattle.meaning.specs.Trees.{arms_tree, item_tree, members_tree, nested};
-ghost use Rattle.meaning.specs.Rules.{reset_variables, reset_in_arms as reset_in_all_arms, reset_at, sets_one_of as sets_one};
-ghost use Rattle.meaning.specs.Refusals.{least};
-ghost use Rattle.k_rules.specs.Around.{variables};
+ghost use Rattle.meaning.specs.LoopRules.{is_no_counter as is_no_counter_by};
+ghost use Rattle.meaning.specs.Surroundings.{controlled_by, counted_by, loop_variables};
+ghost use Rattle.meaning.specs.Syntax.{list_items_tree, shape_tree};
+ghost use Rattle.roles.specs.RolesAt.{roles_at};
+ghost use Rattle.meaning.specs.Trees.{item_tree};
+ghost use Rattle.k_rules.specs.Counters.{counters};
 
-use crate::broken::broken_if;
-use crate::targets::target_of;
-use meaning::refusal::{Broken, Rule, lesser};
-use meaning::syntax::{Arm, Item, Member, Shape, Tree};
+use crate::counters::counter_of;
+use meaning::syntax::{DataType, Item, ListItem, ListItems, Shape};
+use roles::{Roles, is_other_name, type_of_name};
 
-/// The variables of the DO statements around a statement.
-#[derive(Clone, Copy)]
-enum Around<'a> {
-    Nothing,
-    /// The innermost, and those around it.
-    Inside(&'a [u8], &'a Around<'a>),
-}
-
-/// Whether a name is one of the variables.
-fn is_among(name: &[u8], around: &Around) -> bool
-    ensures { result ≡ list_any (bytes_eq name.now) (variables around.now) }
+/// Leaves the variable of a DO statement.
+pub fn leave_counter(variables: &mut Vec<Vec<u8>>, item: &Item)
+    ensures { (outer : List (List ℕ)) → counters variables.old.items ≡ outer ++ counted_by (item_tree item.now).shape → counters variables.new.items ≡ outer }
 {
-    match around {
-        Around::Nothing => false,
-        Around::Inside(variable, outer) => name == *variable || is_among(name, outer),
+    match counter_of(&item.form.shape) {
+        Some(_) => {
+            let _ = variables.pop();
+        }
+        None => {}
     }
 }
 
-/// Whether a statement sets one of the variables.
-fn sets_one_of(shape: &Shape, around: &Around) -> bool
-    ensures { result ≡ sets_one (variables around.now) (shape_tree shape.now) }
+/// Whether a name is no INTEGER variable.
+fn is_no_counter(roles: &Roles, name: &[u8]) -> bool
+    ensures { result ≡ is_no_counter_by (roles_at roles.now) name.now }
 {
-    match target_of(shape) {
-        Some(name) => is_among(name, around),
-        None => false,
+    match type_of_name(roles, name) {
+        Some(DataType::Integer) => !is_other_name(roles, name),
+        Some(DataType::Logical) => true,
+        None => true,
     }
 }
 
-/// The broken rule of a statement that sets one of the variables.
-fn reset_by(item: &Item, around: &Around) -> Option<Broken>
-    ensures { result ≡ least (reset_at (variables around.now) (item_tree item.now)) }
+/// Whether the variable of an implied DO in a list is none.
+#[tactic(auto, using(rule_passes::proofs::Missing::any_both))]
+fn has_no_counter(roles: &Roles, items: &ListItems) -> bool
+    ensures { result ≡ list_any (is_no_counter_by (roles_at roles.now)) (loop_variables (list_items_tree items.now)) }
 {
-    broken_if(sets_one_of(&item.form.shape, around), item.line, Rule::K9)
-}
-
-/// The least line of a list at which a statement sets one of the variables, or that of a DO of the list around it.
-#[cycle(resets)]
-fn reset_among<'a>(members: &'a [Member], around: &'a Around<'a>) -> Option<Broken>
-    ensures { result ≡ least (reset_variables (variables around.now) (members_tree members.now)) }
-{
-    let mut best = None;
-    for member in members {
-        let broken = match member {
-            Member::Plain(item) => reset_by(item, around),
-            Member::Loop(outer) => {
-                let head = reset_by(&outer.head, around);
-                let range = match target_of(&outer.head.form.shape) {
-                    Some(variable) => {
-                        reset_among(&outer.range, &Around::Inside(variable, around))
-                    }
-                    None => reset_among(&outer.range, around),
-                };
-                lesser(head, range)
+    match items {
+        ListItems::Empty => false,
+        ListItems::More(item, rest) => match item {
+            ListItem::Value(_) => has_no_counter(roles, rest),
+            ListItem::Loop {
+                items: inner,
+                variable,
+                ..
+            } => {
+                is_no_counter(roles, variable)
+                    || has_no_counter(roles, inner)
+                    || has_no_counter(roles, rest)
             }
-            Member::Block(block) => {
-                lesser(
-                    reset_in_arms(&block.arms, around),
-                    reset_by(&block.end, around),
-                )
-            }
-        };
-        best = lesser(best, broken);
+        },
     }
-    best
 }
 
-/// The least such line of arms.
-#[cycle(resets)]
-fn reset_in_arms<'a>(arms: &'a [Arm], around: &'a Around<'a>) -> Option<Broken>
-    ensures { result ≡ least (reset_in_all_arms (variables around.now) (arms_tree arms.now)) }
+/// Whether the variable of a DO statement or of an implied DO is none.
+pub fn counts_by_none(roles: &Roles, shape: &Shape) -> bool
+    ensures { result ≡ list_any (is_no_counter_by (roles_at roles.now)) (controlled_by (shape_tree shape.now)) }
 {
-    let mut best = None;
-    for arm in arms {
-        let broken = lesser(reset_by(&arm.head, around), reset_among(&arm.body, around));
-        best = lesser(best, broken);
+    match shape {
+        Shape::Do { variable, .. } => is_no_counter(roles, variable),
+        Shape::Write { control: _, list } => has_no_counter(roles, list),
+        Shape::Print { list, .. } => has_no_counter(roles, list),
+        Shape::LogicalIf(_, statement) => counts_by_none(roles, statement),
+        _ => false,
     }
-    best
-}
-
-/// K9: the least line at which the variable of a DO around it is set.
-pub fn reset_variable(tree: &Tree) -> Option<Broken>
-    ensures { result ≡ least (reset_variables [] (nested tree.now).body) }
-{
-    reset_among(&tree.body, &Around::Nothing)
 }

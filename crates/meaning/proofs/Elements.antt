@@ -37,7 +37,7 @@ above-same : (d : Dimension) (s t : ℤ) (k : ℕ) → above d s ≡ Some k → 
 above-same d s t k p q =
     sub-same s t d.lower k (within-is (extent d) (s -ℤ d.lower) k p).0 (within-is (extent d) (t -ℤ d.lower) k q).0
 
-above-at : (d : Dimension) (k : ℕ) → k < extent d → above d (d.lower +ℤ pos k) ≡ Some k
+pub above-at : (d : Dimension) (k : ℕ) → k < extent d → above d (d.lower +ℤ pos k) ≡ Some k
 above-at d k lt = ap (within (extent d)) (add-sub d.lower k) ∙ within-pos (extent d) k lt
 
 -- ---- a place in the first dimension and one in the others

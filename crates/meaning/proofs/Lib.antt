@@ -11,5 +11,9 @@ pub mod Maps
 pub mod Elements
 pub mod Groups
 pub mod Readers
+pub mod RuleExamples
+mod NameExamples
+mod DataExamples
 pub mod Doubled
 pub mod Repeats
+pub mod FirstBroken

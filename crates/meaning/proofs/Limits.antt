@@ -1,16 +1,17 @@
 -- Turns: no more are used than are given, and a run that didn't meet the limit is the same with more of them.
-use Rattle.std.proofs.Common.{◌≡◌, ℕ, zero, suc, ℤ, ◌+◌, ◌-◌, ◌+ℤ◌, ◌≤◌, false, List, [], ◌∷◌, ◌++◌, Result, Ok, Err, refl, sym, ap, ◌∙◌, arith}
+use Rattle.std.proofs.Common.{◌≡◌, ℕ, zero, suc, ℤ, ◌+◌, ◌-◌, ◌+ℤ◌, ◌≤◌, false, List, [], ◌∷◌, ◌++◌, Option, None, Some, Result, Ok, Err, refl, sym, ap, ◌∙◌, arith}
 use mathlib.Core.Path.{fun_ext}
 use Rattle.meaning.specs.declared.ending.FaultKind.{FaultKind}
 use Rattle.meaning.specs.declared.ending.Value.{Value}
-use Rattle.meaning.specs.Syntax.{ShapeTree, ListItemsTree, FormatTree, assignment, writing, printing, doing, continuing, ItemTree}
-use Rattle.meaning.specs.Rules.{arrays_of, values_in}
+use Rattle.meaning.specs.Syntax.{ShapeTree, ExprTree, ExprsTree, ListItemsTree, FormatTree, assignment, writing, printing, doing, continuing, ItemTree}
+use Rattle.meaning.specs.Scopes.{scope_of, Definition, defined_by}
+use Rattle.meaning.specs.Lists.{Listing, listed, list_limit}
 use Rattle.meaning.specs.Trees.{Members, none, plain, loop, block}
 use Rattle.meaning.specs.Trips.{span_of, trips}
 use Rattle.meaning.specs.Maps.{Map, put}
-use Rattle.meaning.specs.Values.{Arrays, value, values_of, subscripts, dimensions_in, as_integer, integer}
+use Rattle.meaning.specs.Values.{Scope, value, subscripts, dimensions_in, as_integer, integer}
 use Rattle.meaning.specs.Records.{edited}
-use Rattle.meaning.specs.Execution.{Outcome, normal, fault, Ran, more, ended, turn, with_ok, parts_for, output, Meaning, Follow, goes_on, goes_on_by, step, added, fold_trips, trips_from, looped, pass_over, fuelled, exec}
+use Rattle.meaning.specs.Execution.{Outcome, normal, fault, Ran, more, ended, turn, with_ok, parts_for, output, assigned, unless_defined, Meaning, Follow, goes_on, goes_on_by, step, added, fold_trips, trips_from, looped, pass_over, fuelled, exec}
 use Rattle.meaning.specs.Turns.{met_limit}
 use Rattle.meaning.proofs.Running.{more-more, more-none, exec-fuelled}
 
@@ -50,13 +51,21 @@ module _ (program : List ItemTree) where
   output-used : (source : FormatTree) (list : ListItemsTree) (line : ℕ) (m : Map) (t : ℕ) (go : Follow) → Spares go → (output program source list line m t go).used ≤ t
   output-used source list line m t go h =
       let records : List Value → Result (List ℕ) FaultKind = λ vs. edited (parts_for program source) vs in
-      turn-used line m t (λ u. with_ok (values_of (arrays_of program) (values_in list) m) line m (λ vs. with_ok (records vs) line m (λ r. more (r ∷ []) 0 (go m u)))) (λ u. with_ok-used (values_of (arrays_of program) (values_in list) m) line m u (λ vs. with_ok (records vs) line m (λ r. more (r ∷ []) 0 (go m u))) (λ vs. with_ok-used (records vs) line m u (λ r. more (r ∷ []) 0 (go m u)) (λ r. more-used (r ∷ []) 0 (go m u) u (let k = h m u in omega arith))))
+      turn-used line m t (λ u. with_ok (listed (scope_of program) list m list_limit) line m (λ l. with_ok (records l.values) line m (λ r. more (r ∷ []) 0 (go l.map u)))) (λ u. with_ok-used (listed (scope_of program) list m list_limit) line m u (λ l. with_ok (records l.values) line m (λ r. more (r ∷ []) 0 (go l.map u))) (λ l. with_ok-used (records l.values) line m u (λ r. more (r ∷ []) 0 (go l.map u)) (λ r. more-used (r ∷ []) 0 (go l.map u) u (let k = h l.map u in omega arith))))
+
+  assigned-used : (s : Scope) (target : List ℕ) (es : ExprsTree) (e : ExprTree) (line : ℕ) (m : Map) (t : ℕ) (go : Follow) → Spares go → (assigned s target es e line m t go).used ≤ t
+  assigned-used s target es e line m t go h =
+      let here = subscripts s (dimensions_in (s.arrays target)) es m in
+      let right = value s e m in
+      turn-used line m t (λ u. with_ok here line m (λ ss. with_ok right line m (λ v. go (put m target ss (as_integer v)) u))) (λ u. with_ok-used here line m u (λ ss. with_ok right line m (λ v. go (put m target ss (as_integer v)) u)) (λ ss. with_ok-used right line m u (λ v. go (put m target ss (as_integer v)) u) (λ v. h (put m target ss (as_integer v)) u)))
+
+  unless_defined-used : (o : Option Definition) (r passed : Ran) (t : ℕ) → r.used ≤ t → passed.used ≤ t → (unless_defined o r passed).used ≤ t
+  unless_defined-used None r passed t le over = le
+  unless_defined-used (Some d) r passed t le over = over
 
   step-used : (s : ShapeTree) (line : ℕ) (m : Map) (t : ℕ) (go : Follow) → Spares go → (step program s line m t go).used ≤ t
   step-used (assignment target es e) line m t go h =
-      let here = subscripts (arrays_of program) (dimensions_in (arrays_of program target)) es m in
-      let right = value (arrays_of program) e m in
-      turn-used line m t (λ u. with_ok here line m (λ ss. with_ok right line m (λ v. go (put m target ss (as_integer v)) u))) (λ u. with_ok-used here line m u (λ ss. with_ok right line m (λ v. go (put m target ss (as_integer v)) u)) (λ ss. with_ok-used right line m u (λ v. go (put m target ss (as_integer v)) u) (λ v. h (put m target ss (as_integer v)) u)))
+      unless_defined-used (defined_by (scope_of program).arrays (assignment target es e)) (assigned (scope_of program) target es e line m t go) (go m t) t (assigned-used (scope_of program) target es e line m t go h) (h m t)
   step-used (writing control list) line m t go h = output-used control.source list line m t go h
   step-used (printing source list) line m t go h = output-used source list line m t go h
   step-used continuing line m t go h = turn-used line m t (λ u. go m u) (λ u. h m u)
@@ -68,11 +77,11 @@ fold_trips-used f line variable by range all_spared [] m t = omega arith
 fold_trips-used f line variable by range all_spared (i ∷ is) m t =
     goes_on-used (f range range m t) t (λ n u. added line variable by n (λ k. fold_trips f line variable by range is k u)) (all_spared range range m t) (λ n u. with_ok-used (integer (n variable [] +ℤ by)) line n u (λ v. fold_trips f line variable by range is (put n variable [] (as_integer v)) u) (λ v. fold_trips-used f line variable by range all_spared is (put n variable [] (as_integer v)) u))
 
-looped-used : (arrays : Arrays) (f : Meaning) → SparesAll f → (s : ShapeTree) (line : ℕ) (range : Members) (m : Map) (t : ℕ) (go : Follow) → Spares go → (looped arrays f s line range m t go).used ≤ t
+looped-used : (scope : Scope) (f : Meaning) → SparesAll f → (s : ShapeTree) (line : ℕ) (range : Members) (m : Map) (t : ℕ) (go : Follow) → Spares go → (looped scope f s line range m t go).used ≤ t
 unfolding looped
-looped-used arrays f all_spared (doing label comma variable limits) line range m t go h =
-    turn-used line m t (λ u. with_ok (span_of arrays limits m) line m (λ s. goes_on (trips_from f line variable range m u s) u go)) (λ u. with_ok-used (span_of arrays limits m) line m u (λ s. goes_on (trips_from f line variable range m u s) u go) (λ s. goes_on-used (trips_from f line variable range m u s) u go (fold_trips-used f line variable s.step range all_spared (trips s.first s.last s.step) (put m variable [] s.first) u) h))
-looped-used arrays f all_spared s line range m t go h = h m t
+looped-used scope f all_spared (doing label comma variable limits) line range m t go h =
+    turn-used line m t (λ u. with_ok (span_of scope limits m) line m (λ s. goes_on (trips_from f line variable range m u s) u go)) (λ u. with_ok-used (span_of scope limits m) line m u (λ s. goes_on (trips_from f line variable range m u s) u go) (λ s. goes_on-used (trips_from f line variable range m u s) u go (fold_trips-used f line variable s.step range all_spared (trips s.first s.last s.step) (put m variable [] s.first) u) h))
+looped-used scope f all_spared s line range m t go h = h m t
 
 pass_over-used : (program : List ItemTree) (f : Meaning) → SparesAll f → (all rest : Members) (m : Map) (t : ℕ) → (pass_over program f all rest m t).used ≤ t
 unfolding pass_over
@@ -80,7 +89,7 @@ pass_over-used program f all_spared all none m t = omega arith
 pass_over-used program f all_spared all (plain x ms) m t =
     step-used program x.shape x.line m t (λ n u. pass_over program f all ms n u) (λ n u. pass_over-used program f all_spared all ms n u)
 pass_over-used program f all_spared all (loop x range ms) m t =
-    looped-used (arrays_of program) f all_spared x.shape x.line range m t (λ n u. pass_over program f all ms n u) (λ n u. pass_over-used program f all_spared all ms n u)
+    looped-used (scope_of program) f all_spared x.shape x.line range m t (λ n u. pass_over program f all ms n u) (λ n u. pass_over-used program f all_spared all ms n u)
 pass_over-used program f all_spared all (block arms x ms) m t = pass_over-used program f all_spared all ms m t
 
 fuelled-used : (program : List ItemTree) (n : ℕ) → SparesAll (fuelled program n)
@@ -150,13 +159,21 @@ module _ (program : List ItemTree) where
   output-steady : (source : FormatTree) (list : ListItemsTree) (line : ℕ) (m : Map) (go : Follow) → SteadyFollow go → Steady (λ t. output program source list line m t go)
   output-steady source list line m go h =
       let records : List Value → Result (List ℕ) FaultKind = λ vs. edited (parts_for program source) vs in
-      turn-steady line m (λ u. with_ok (values_of (arrays_of program) (values_in list) m) line m (λ vs. with_ok (records vs) line m (λ r. more (r ∷ []) 0 (go m u)))) (with_ok-steady (values_of (arrays_of program) (values_in list) m) line m (λ vs u. with_ok (records vs) line m (λ r. more (r ∷ []) 0 (go m u))) (λ vs. with_ok-steady (records vs) line m (λ r u. more (r ∷ []) 0 (go m u)) (λ r. more-steady (r ∷ []) 0 (λ u. go m u) (h m))))
+      turn-steady line m (λ u. with_ok (listed (scope_of program) list m list_limit) line m (λ l. with_ok (records l.values) line m (λ r. more (r ∷ []) 0 (go l.map u)))) (with_ok-steady (listed (scope_of program) list m list_limit) line m (λ l u. with_ok (records l.values) line m (λ r. more (r ∷ []) 0 (go l.map u))) (λ l. with_ok-steady (records l.values) line m (λ r u. more (r ∷ []) 0 (go l.map u)) (λ r. more-steady (r ∷ []) 0 (λ u. go l.map u) (h l.map))))
+
+  assigned-steady : (s : Scope) (target : List ℕ) (es : ExprsTree) (e : ExprTree) (line : ℕ) (m : Map) (go : Follow) → SteadyFollow go → Steady (λ t. assigned s target es e line m t go)
+  assigned-steady s target es e line m go h =
+      let here = subscripts s (dimensions_in (s.arrays target)) es m in
+      let right = value s e m in
+      turn-steady line m (λ u. with_ok here line m (λ ss. with_ok right line m (λ v. go (put m target ss (as_integer v)) u))) (with_ok-steady here line m (λ ss u. with_ok right line m (λ v. go (put m target ss (as_integer v)) u)) (λ ss. with_ok-steady right line m (λ v u. go (put m target ss (as_integer v)) u) (λ v. h (put m target ss (as_integer v)))))
+
+  unless_defined-steady : (o : Option Definition) (run passed : ℕ → Ran) → Steady run → Steady passed → Steady (λ t. unless_defined o (run t) (passed t))
+  unless_defined-steady None run passed steady over = steady
+  unless_defined-steady (Some d) run passed steady over = over
 
   step-steady : (s : ShapeTree) (line : ℕ) (m : Map) (go : Follow) → SteadyFollow go → Steady (λ t. step program s line m t go)
   step-steady (assignment target es e) line m go h =
-      let here = subscripts (arrays_of program) (dimensions_in (arrays_of program target)) es m in
-      let right = value (arrays_of program) e m in
-      turn-steady line m (λ u. with_ok here line m (λ ss. with_ok right line m (λ v. go (put m target ss (as_integer v)) u))) (with_ok-steady here line m (λ ss u. with_ok right line m (λ v. go (put m target ss (as_integer v)) u)) (λ ss. with_ok-steady right line m (λ v u. go (put m target ss (as_integer v)) u) (λ v. h (put m target ss (as_integer v)))))
+      unless_defined-steady (defined_by (scope_of program).arrays (assignment target es e)) (λ t. assigned (scope_of program) target es e line m t go) (λ t. go m t) (assigned-steady (scope_of program) target es e line m go h) (h m)
   step-steady (writing control list) line m go h = output-steady control.source list line m go h
   step-steady (printing source list) line m go h = output-steady source list line m go h
   step-steady continuing line m go h = turn-steady line m (λ u. go m u) (h m)
@@ -168,11 +185,11 @@ fold_trips-steady f line variable by range steady [] m t u le h = refl
 fold_trips-steady f line variable by range steady (i ∷ is) m t u le h =
     run_on-steady (λ t. f range range m t) (λ n u. added line variable by n (λ k. fold_trips f line variable by range is k u)) (steady range range m) (λ n. with_ok-steady (integer (n variable [] +ℤ by)) line n (λ v u. fold_trips f line variable by range is (put n variable [] (as_integer v)) u) (λ v. fold_trips-steady f line variable by range steady is (put n variable [] (as_integer v)))) t u le h
 
-looped-steady : (arrays : Arrays) (f : Meaning) → SteadyMeaning f → (s : ShapeTree) (line : ℕ) (range : Members) (m : Map) (go : Follow) → SteadyFollow go → Steady (λ t. looped arrays f s line range m t go)
+looped-steady : (scope : Scope) (f : Meaning) → SteadyMeaning f → (s : ShapeTree) (line : ℕ) (range : Members) (m : Map) (go : Follow) → SteadyFollow go → Steady (λ t. looped scope f s line range m t go)
 unfolding looped
-looped-steady arrays f steady (doing label comma variable limits) line range m go h =
-    turn-steady line m (λ u. with_ok (span_of arrays limits m) line m (λ s. goes_on (trips_from f line variable range m u s) u go)) (with_ok-steady (span_of arrays limits m) line m (λ s u. goes_on (trips_from f line variable range m u s) u go) (λ s. run_on-steady (λ u. trips_from f line variable range m u s) go (fold_trips-steady f line variable s.step range steady (trips s.first s.last s.step) (put m variable [] s.first)) h))
-looped-steady arrays f steady s line range m go h = h m
+looped-steady scope f steady (doing label comma variable limits) line range m go h =
+    turn-steady line m (λ u. with_ok (span_of scope limits m) line m (λ s. goes_on (trips_from f line variable range m u s) u go)) (with_ok-steady (span_of scope limits m) line m (λ s u. goes_on (trips_from f line variable range m u s) u go) (λ s. run_on-steady (λ u. trips_from f line variable range m u s) go (fold_trips-steady f line variable s.step range steady (trips s.first s.last s.step) (put m variable [] s.first)) h))
+looped-steady scope f steady s line range m go h = h m
 
 pass_over-steady : (program : List ItemTree) (f : Meaning) → SteadyMeaning f → SteadyMeaning (pass_over program f)
 unfolding pass_over
@@ -180,7 +197,7 @@ pass_over-steady program f steady all none m t u le h = refl
 pass_over-steady program f steady all (plain x ms) m t u le h =
     step-steady program x.shape x.line m (λ n u. pass_over program f all ms n u) (λ n. pass_over-steady program f steady all ms n) t u le h
 pass_over-steady program f steady all (loop x range ms) m t u le h =
-    looped-steady (arrays_of program) f steady x.shape x.line range m (λ n u. pass_over program f all ms n u) (λ n. pass_over-steady program f steady all ms n) t u le h
+    looped-steady (scope_of program) f steady x.shape x.line range m (λ n u. pass_over program f all ms n u) (λ n. pass_over-steady program f steady all ms n) t u le h
 pass_over-steady program f steady all (block arms x ms) m t u le h = pass_over-steady program f steady all ms m t u le h
 
 fuelled-steady : (program : List ItemTree) (n : ℕ) → SteadyMeaning (fuelled program n)

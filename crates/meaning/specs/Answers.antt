@@ -13,7 +13,8 @@ use Rattle.meaning.specs.Nesting.{nest}
 use Rattle.meaning.specs.Trees.{Nested, flatten}
 use Rattle.meaning.specs.Unrun.{run_whole}
 use Rattle.meaning.specs.Rules.{checked}
-use Rattle.meaning.specs.Maps.{start}
+use Rattle.meaning.specs.Uses.{roles_of}
+use Rattle.meaning.specs.Initial.{start_of}
 use Rattle.meaning.specs.Execution.{Outcome, normal, fault, Ran, exec}
 
 -- a form in its place, or the broken rule at its line
@@ -34,7 +35,7 @@ program_of source =
 
 -- what a program unit does from the start
 unfoldable pub run_of : Nested → ℕ → Ran
-run_of t limit = exec (flatten t) t.body t.body start limit
+run_of t limit = exec (flatten t) t.body t.body (start_of (roles_of (flatten t)) (flatten t)) limit
 
 abbrev pub ending_of : Outcome → Ending
 ending_of normal = endings.Ended

@@ -1,5 +1,6 @@
 -- Arrays (ANSI X3.9-1978, 5.1 to 5.4): their dimensions, and the places of their elements among the cells of a program.
-use Rattle.std.specs.Prelude.{◌≡◌, ◌<◌, ℕ, ◌+◌, ◌*◌, ℤ, pos, negsuc, ◌+ℤ◌, ◌-ℤ◌, List, [], ◌∷◌, nat_lt, if◌then◌else◌, Option, Some, None, option_map}
+use Rattle.std.specs.Prelude.{◌≡◌, ◌<◌, ℕ, ◌+◌, ◌*◌, ℤ, pos, negsuc, ◌+ℤ◌, ◌-ℤ◌, List, [], ◌∷◌, nat_lt, map, flat_map, if◌then◌else◌, Option, Some, None, option_map}
+use Rattle.std.specs.List.{range_with_len}
 use Rattle.std.specs.Str.{bytes_eq}
 use Rattle.meaning.specs.Characters.{at_least_zero}
 
@@ -40,6 +41,14 @@ place [] [] = Some 0
 place [] (s ∷ ss) = None
 place (d ∷ ds) [] = None
 place (d ∷ ds) (s ∷ ss) = combined (extent d) (above d s) (place ds ss)
+
+-- the subscripts of the elements in that order
+abbrev pub values_between : Dimension → List ℤ
+values_between d = map (λ k. d.lower +ℤ pos k) (range_with_len 0 (extent d))
+
+unfoldable pub elements : List Dimension → List (List ℤ)
+elements [] = [] ∷ []
+elements (d ∷ ds) = flat_map (λ rest. map (λ s. s ∷ rest) (values_between d)) (elements ds)
 
 -- ---- cells
 

@@ -3,14 +3,16 @@ use Rattle.std.specs.Prelude.{unwrap_or, ℕ, zero, suc, ◌+◌, ◌-◌, ℤ, 
 use Rattle.meaning.specs.declared.ending.FaultKind.{FaultKind}
 use Rattle.meaning.specs.declared.ending.FaultKind.TheVariants.{F4}
 use Rattle.meaning.specs.Characters.{number_of}
-use Rattle.meaning.specs.Syntax.{ShapeTree, assignment, writing, printing, format, doing, continuing, ItemTree, ListItemsTree, FormatTree, format_label, format_constant}
+use Rattle.meaning.specs.Syntax.{ShapeTree, assignment, writing, printing, format, doing, continuing, ExprTree, ExprsTree, ItemTree, ListItemsTree, FormatTree, format_label, format_constant}
 use Rattle.meaning.specs.Trees.{Members, none, plain, loop, block}
 use Rattle.meaning.specs.Trips.{Span, span_of, trips}
 use Rattle.meaning.specs.Formats.{Parts, no_parts, descriptors_of, format_in, undoubled}
 use Rattle.meaning.specs.Records.{edited}
-use Rattle.meaning.specs.Rules.{has_label, arrays_of, values_in}
+use Rattle.meaning.specs.LabelRules.{has_label}
+use Rattle.meaning.specs.Scopes.{scope_of, Definition, defined_by}
+use Rattle.meaning.specs.Lists.{listed, list_limit}
 use Rattle.meaning.specs.Maps.{Map, put}
-use Rattle.meaning.specs.Values.{Arrays, value, values_of, subscripts, dimensions_in, as_integer, integer}
+use Rattle.meaning.specs.Values.{Scope, value, subscripts, dimensions_in, as_integer, integer}
 
 -- how a run ends
 pub data Outcome : Type 0 where
@@ -87,11 +89,21 @@ goes_on r t go = goes_on_by r.outcome r t go
 -- the values of the whole list, then their records, then one piece (12.8 and 12.9.4.2)
 abbrev pub output : List ItemTree → FormatTree → ListItemsTree → ℕ → Map → ℕ → Follow → Ran
 output program source list line m t go =
-    turn line m t (λ u. with_ok (values_of (arrays_of program) (values_in list) m) line m (λ vs. with_ok (edited (parts_for program source) vs) line m (λ records. more (records ∷ []) 0 (go m u))))
+    turn line m t (λ u. with_ok (listed (scope_of program) list m list_limit) line m (λ l. with_ok (edited (parts_for program source) l.values) line m (λ records. more (records ∷ []) 0 (go l.map u))))
+
+-- the subscripts on the left, then the value, then the place has it (10.1, own)
+abbrev pub assigned : Scope → List ℕ → ExprsTree → ExprTree → ℕ → Map → ℕ → Follow → Ran
+assigned s target es e line m t go =
+    turn line m t (λ u. with_ok (subscripts s (dimensions_in (s.arrays target)) es m) line m (λ ss. with_ok (value s e m) line m (λ v. go (put m target ss (as_integer v)) u)))
+
+-- a statement function's statement isn't executable
+abbrev pub unless_defined : Option Definition → Ran → Ran → Ran
+unless_defined None r passed = r
+unless_defined (Some d) r passed = passed
 
 abbrev pub step : List ItemTree → ShapeTree → ℕ → Map → ℕ → Follow → Ran
 step program (assignment target es e) line m t go =
-    turn line m t (λ u. with_ok (subscripts (arrays_of program) (dimensions_in (arrays_of program target)) es m) line m (λ ss. with_ok (value (arrays_of program) e m) line m (λ v. go (put m target ss (as_integer v)) u)))
+    unless_defined (defined_by (scope_of program).arrays (assignment target es e)) (assigned (scope_of program) target es e line m t go) (go m t)
 step program (writing control list) line m t go = output program control.source list line m t go
 step program (printing source list) line m t go = output program source list line m t go
 step program continuing line m t go = turn line m t (λ u. go m u)
@@ -114,10 +126,10 @@ abbrev pub trips_from : Meaning → ℕ → List ℕ → Members → Map → ℕ
 trips_from rec line variable range m t s =
     fold_trips rec line variable s.step range (trips s.first s.last s.step) (put m variable [] s.first) t
 
-unfoldable pub looped : Arrays → Meaning → ShapeTree → ℕ → Members → Map → ℕ → Follow → Ran
-looped arrays rec (doing label comma variable limits) line range m t go =
-    turn line m t (λ u. with_ok (span_of arrays limits m) line m (λ s. goes_on (trips_from rec line variable range m u s) u go))
-looped arrays rec s line range m t go = go m t
+unfoldable pub looped : Scope → Meaning → ShapeTree → ℕ → Members → Map → ℕ → Follow → Ran
+looped scope rec (doing label comma variable limits) line range m t go =
+    turn line m t (λ u. with_ok (span_of scope limits m) line m (λ s. goes_on (trips_from rec line variable range m u s) u go))
+looped scope rec s line range m t go = go m t
 
 -- ---- lists
 
@@ -126,7 +138,7 @@ unfoldable pub pass_over : List ItemTree → Meaning → Meaning
 pass_over program rec all none m t = ended m
 pass_over program rec all (plain x ms) m t = step program x.shape x.line m t (λ n u. pass_over program rec all ms n u)
 pass_over program rec all (loop x range ms) m t =
-    looped (arrays_of program) rec x.shape x.line range m t (λ n u. pass_over program rec all ms n u)
+    looped (scope_of program) rec x.shape x.line range m t (λ n u. pass_over program rec all ms n u)
 pass_over program rec all (block arms x ms) m t = pass_over program rec all ms m t
 
 abbrev pub never : Meaning

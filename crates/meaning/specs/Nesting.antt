@@ -9,7 +9,7 @@ use Rattle.meaning.specs.Characters.{number_of}
 use Rattle.meaning.specs.Trees.{Members, none, plain, loop, block, Arms, no_arms, arm, Nested, flat, flatten}
 use Rattle.meaning.specs.Syntax.{ShapeTree, assignment, writing, printing, format, doing, continuing, typing, ending, naming, implying, logical_typing, dimensioning, parameter, definition, computed_going, logical_if, block_if, else_if, otherwise, end_if, ItemTree}
 use Rattle.meaning.specs.Refusals.{merge, unless, is_less}
-use Rattle.meaning.specs.Rules.{is_label_at, has_label}
+use Rattle.meaning.specs.LabelRules.{is_label_at, has_label}
 
 -- ---- what a statement is
 

@@ -9,7 +9,7 @@ use Rattle.meaning.specs.Ranks.{rank_of}
 use Rattle.meaning.specs.Refusals.{is_less}
 use Rattle.meaning.specs.Trees.{Members, flat}
 use Rattle.meaning.specs.Syntax.{ItemTree}
-use Rattle.meaning.specs.Rules.{has_label}
+use Rattle.meaning.specs.LabelRules.{has_label}
 use Rattle.meaning.specs.Nesting.{Effect, opens_range, opens_block, opens_arm, closes_block, closes_unit, effect_of, is_else, is_opening, named, may_end, is_misplaced, lacks_end, IsWell, IsViable, LacksEnd}
 
 -- ---- the innermost open thing

@@ -48,11 +48,13 @@ mutual
     paren : ExprTree → ExprTree
     element : List ℕ → ExprsTree → ExprTree
     call : List ℕ → ExprTree
+    deriving IsSet as ExprTree-set
 
   -- expressions, first to last
   pub data ExprsTree : Type 0 where
     no_exprs : ExprsTree
     exprs : ExprTree → ExprsTree → ExprsTree
+    deriving IsSet as ExprsTree-set
 
 abbrev pub listed : ExprsTree → List ExprTree
 listed no_exprs = []

@@ -8,7 +8,7 @@ use Rattle.meaning.specs.declared.ending.Value.TheVariants as values
 use Rattle.meaning.specs.Characters.{at_least_zero}
 use Rattle.meaning.specs.Syntax.{ExprTree, LimitsTree}
 use Rattle.meaning.specs.Maps.{Map}
-use Rattle.meaning.specs.Values.{Arrays, Valued, value, as_integer, and_then, ◌>>=◌}
+use Rattle.meaning.specs.Values.{Scope, Valued, value, as_integer, and_then, ◌>>=◌}
 
 -- MAX(INT((last-first+step)/step),0), in exact numbers
 abbrev pub trip_count : ℤ → ℤ → ℤ → ℕ
@@ -25,9 +25,9 @@ pub record Span : Type 0 where
   pub step : ℤ
 
 -- the step, which is 1 when not written
-abbrev pub step_value : Arrays → Option ExprTree → Map → Valued
-step_value arrays None m = Ok (values.Int (pos 1))
-step_value arrays (Some e) m = value arrays e m
+abbrev pub step_value : Scope → Option ExprTree → Map → Valued
+step_value s None m = Ok (values.Int (pos 1))
+step_value s (Some e) m = value s e m
 
 -- a step of zero is a fault (own)
 abbrev pub with_step : ℤ → ℤ → ℤ → Result Span FaultKind
@@ -35,7 +35,7 @@ with_step first last step =
     if int_eq step (pos 0) then Err F5 else Ok (record { first = first; last = last; step = step })
 
 -- the values of limits, from the left
-unfoldable pub span_of : Arrays → LimitsTree → Map → Result Span FaultKind
+unfoldable pub span_of : Scope → LimitsTree → Map → Result Span FaultKind
 unfolding and_then
-span_of arrays l m =
-    value arrays l.first m >>= λ a. value arrays l.last m >>= λ b. step_value arrays l.step m >>= λ c. with_step (as_integer a) (as_integer b) (as_integer c)
+span_of s l m =
+    value s l.first m >>= λ a. value s l.last m >>= λ b. step_value s l.step m >>= λ c. with_step (as_integer a) (as_integer b) (as_integer c)

@@ -1,6 +1,5 @@
 -- The value of an expression, or its leftmost fault (ANSI X3.9-1978, 5.4, 6.1 and 6.6). Results are exact; one outside the
--- range of INTEGER is the fault F2, a zero divisor F1, and a subscript outside its bounds F3 (own). A function reference without
--- arguments counts as 0; the rules leave none.
+-- range of INTEGER is the fault F2, a zero divisor F1, and a subscript outside its bounds F3 (own).
 use Rattle.std.specs.Prelude.{ℕ, suc, ◌^◌, ℤ, pos, negsuc, ◌+ℤ◌, ◌-ℤ◌, ◌*ℤ◌, neg_ℤ, int_div, Bool, true, false, not, ◌&&◌, ◌||◌, ◌==◌, List, [], ◌∷◌, nat_lt, if◌then◌else◌, Result, Ok, Err, Option, Some, None}
 use Rattle.std.specs.Int.{int_pow}
 use Rattle.std.specs.Int.Signed.{lt_z}
@@ -15,7 +14,10 @@ use Rattle.meaning.specs.declared.syntax.Operator.{Operator}
 use Rattle.meaning.specs.declared.syntax.Operator.TheVariants as operators
 use Rattle.meaning.specs.Characters.{number_of}
 use Rattle.meaning.specs.Syntax.{ExprTree, number, truth, name, signed, negated, binary, paren, element, call, ExprsTree, no_exprs, exprs}
+use Rattle.meaning.specs.declared.syntax.DataType.{DataType}
+use Rattle.meaning.specs.declared.syntax.DataType.TheVariants as types
 use Rattle.meaning.specs.Arrays.{Dimension, above}
+use Rattle.meaning.specs.Types.{Types}
 use Rattle.meaning.specs.Maps.{Map}
 
 -- the range of INTEGER, -2147483648 to 2147483647 (own)
@@ -101,6 +103,21 @@ unless_decided None r = r
 abbrev pub Arrays : Type 0
 Arrays = List ℕ → Option (List Dimension)
 
+-- the names whose values are known: constants, and the dummies of a statement function in its expression
+abbrev pub Known : Type 0
+Known = List ℕ → Option Value
+
+-- what the functions that may be called there do with the values of their arguments (15.2)
+abbrev pub Calls : Type 0
+Calls = List ℕ → Option (List Value → Map → Valued)
+
+-- what names stand for
+pub record Scope : Type 0 where
+  pub types : Types
+  pub arrays : Arrays
+  pub known : Known
+  pub calls : Calls
+
 abbrev pub dimensions_in : Option (List Dimension) → List Dimension
 dimensions_in None = []
 dimensions_in (Some ds) = ds
@@ -118,30 +135,54 @@ abbrev pub others : List Dimension → List Dimension
 others [] = []
 others (d ∷ ds) = ds
 
+-- what a variable or an element of this type has, kept as a number: a LOGICAL is true where it isn't 0
+abbrev pub typed : Option DataType → ℤ → Valued
+typed (Some types.Logical) z = logical (not (int_eq z (pos 0)))
+typed k z = integer z
+
+abbrev pub or_known : Option Value → Valued → Valued
+or_known (Some v) r = Ok v
+or_known None r = r
+
+-- an element of an array, or else what is no array's
+abbrev pub by_dimensions : Option (List Dimension) → (List Dimension → Valued) → Valued → Valued
+by_dimensions (Some ds) element_of r = element_of ds
+by_dimensions None element_of r = r
+
+-- the value of a function; the rules leave no other name with arguments
+abbrev pub called : Option (List Value → Map → Valued) → List Value → Map → Valued
+called (Some f) vs m = f vs m
+called None vs m = Ok (values.Int (pos 0))
+
 unfoldable mutual
   unfolding and_then
 
-  pub value : Arrays → ExprTree → Map → Valued
-  value arrays (number digits) m = integer (pos (number_of digits))
-  value arrays (truth b) m = logical b
-  value arrays (name letters) m = integer (m letters [])
-  value arrays (signed sign e) m = value arrays e m >>= λ x. integer (with_sign sign (as_integer x))
-  value arrays (negated e) m = value arrays e m >>= λ x. logical (not (as_logical x))
-  value arrays (binary operator a b) m =
-      value arrays a m >>= λ x. unless_decided (decided operator x) (value arrays b m >>= λ y. operated operator x y)
-  value arrays (paren e) m = value arrays e m
-  value arrays (element letters es) m =
-      subscripts arrays (dimensions_in (arrays letters)) es m >>= λ ss. integer (m letters ss)
-  value arrays (call letters) m = Ok (values.Int (pos 0))
+  pub value : Scope → ExprTree → Map → Valued
+  value s (number digits) m = integer (pos (number_of digits))
+  value s (truth b) m = logical b
+  value s (name letters) m = or_known (s.known letters) (typed (s.types letters) (m letters []))
+  value s (signed sign e) m = value s e m >>= λ x. integer (with_sign sign (as_integer x))
+  value s (negated e) m = value s e m >>= λ x. logical (not (as_logical x))
+  value s (binary operator a b) m =
+      value s a m >>= λ x. unless_decided (decided operator x) (value s b m >>= λ y. operated operator x y)
+  value s (paren e) m = value s e m
+  value s (element letters es) m =
+      by_dimensions (s.arrays letters) (λ ds. subscripts s ds es m >>= λ ss. typed (s.types letters) (m letters ss)) (arguments s es m >>= λ vs. called (s.calls letters) vs m)
+  value s (call letters) m = called (s.calls letters) [] m
 
   -- the values of subscripts, each checked against its bounds as soon as it has its value
-  pub subscripts : Arrays → List Dimension → ExprsTree → Map → Result (List ℤ) FaultKind
-  subscripts arrays ds no_exprs m = Ok []
-  subscripts arrays ds (exprs e es) m =
-      value arrays e m >>= λ x. in_first ds (as_integer x) >>= λ s. subscripts arrays (others ds) es m >>= λ ss. Ok (s ∷ ss)
+  pub subscripts : Scope → List Dimension → ExprsTree → Map → Result (List ℤ) FaultKind
+  subscripts s ds no_exprs m = Ok []
+  subscripts s ds (exprs e es) m =
+      value s e m >>= λ x. in_first ds (as_integer x) >>= λ i. subscripts s (others ds) es m >>= λ is. Ok (i ∷ is)
+
+  -- the values of arguments, first to last
+  pub arguments : Scope → ExprsTree → Map → Result (List Value) FaultKind
+  arguments s no_exprs m = Ok []
+  arguments s (exprs e es) m = value s e m >>= λ x. arguments s es m >>= λ xs. Ok (x ∷ xs)
 
 -- the values of a list, first to last
-unfoldable pub values_of : Arrays → List ExprTree → Map → Result (List Value) FaultKind
+unfoldable pub values_of : Scope → List ExprTree → Map → Result (List Value) FaultKind
 unfolding and_then
-values_of arrays [] m = Ok []
-values_of arrays (e ∷ es) m = value arrays e m >>= λ x. values_of arrays es m >>= λ xs. Ok (x ∷ xs)
+values_of s [] m = Ok []
+values_of s (e ∷ es) m = value s e m >>= λ x. values_of s es m >>= λ xs. Ok (x ∷ xs)

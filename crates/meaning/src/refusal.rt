@@ -46,10 +46,14 @@ pub enum Rule {
     K0,
     /// A statement label that an earlier statement has.
     K1,
+    /// A transfer to a label that no statement has, or that none may be reached by.
+    K2,
     /// A variable of type REAL.
     K3,
     /// A name that is given a type or bounds twice, or that is a variable and a function.
     K4,
+    /// An expression of the wrong type.
+    K5,
     /// An integer constant outside the range of INTEGER.
     K6,
     /// Too many dimensions or elements, or a lower bound above the upper one.
@@ -58,6 +62,8 @@ pub enum Rule {
     K8,
     /// A statement that sets the variable of a DO around it.
     K9,
+    /// A DATA statement whose items and values don't fit.
+    K10,
     /// A unit, a format label or a format that isn't allowed.
     K11,
     /// An assignment to an element of what is no array.
@@ -74,14 +80,15 @@ impl Rule {
         match self {
             Rule::K0 => 0,
             Rule::C1 | Rule::G1 | Rule::N1 | Rule::K1 => 1,
-            Rule::C2 | Rule::G2 | Rule::N2 => 2,
+            Rule::C2 | Rule::G2 | Rule::N2 | Rule::K2 => 2,
             Rule::C3 | Rule::G3 | Rule::N3 | Rule::K3 => 3,
             Rule::C4 | Rule::N4 | Rule::K4 => 4,
-            Rule::C5 | Rule::N5 => 5,
+            Rule::C5 | Rule::N5 | Rule::K5 => 5,
             Rule::C6 | Rule::K6 => 6,
             Rule::C7 | Rule::K7 => 7,
             Rule::K8 => 8,
             Rule::K9 => 9,
+            Rule::K10 => 10,
             Rule::K11 => 11,
             Rule::K12 => 12,
             Rule::K13 => 13,
@@ -109,12 +116,15 @@ impl fmt::Display for Rule {
             Rule::N5 => "N5",
             Rule::K0 => "K0",
             Rule::K1 => "K1",
+            Rule::K2 => "K2",
             Rule::K3 => "K3",
             Rule::K4 => "K4",
+            Rule::K5 => "K5",
             Rule::K6 => "K6",
             Rule::K7 => "K7",
             Rule::K8 => "K8",
             Rule::K9 => "K9",
+            Rule::K10 => "K10",
             Rule::K11 => "K11",
             Rule::K12 => "K12",
             Rule::K13 => "K13",

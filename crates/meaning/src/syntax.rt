@@ -316,19 +316,36 @@ pub enum Shape {
 }
 
 /// A form: what a statement says, no longer than a statement can be.
-#[derive(Drop)]
 pub struct Form {
     pub shape: Shape,
     /// Twenty lines of 66 columns at most.
     ghost short: { length (spell (shape_tree shape)) ≤ 1320 },
 }
 
+/// Written out, so that the crates above call it and don't prove again how each part of a form is dropped.
+impl Drop for Form {
+    fn drop(self) {
+        let Form { shape } = self;
+        drop(shape);
+    }
+}
+
 /// A form in its place: the initial line and the label of its statement.
-#[derive(Drop)]
 pub struct Item {
     pub line: u32,
     pub label: Option<u32>,
     pub form: Form,
+}
+
+impl Drop for Item {
+    fn drop(self) {
+        let Item {
+            line: _,
+            label: _,
+            form,
+        } = self;
+        drop(form);
+    }
 }
 
 /// A member of a list of statements: a statement, a DO statement with its range, or a block IF.
@@ -366,9 +383,15 @@ pub struct Arm {
 }
 
 /// A program unit: its statements, the last of which is END.
-#[derive(Drop)]
 pub struct Tree {
     pub body: Vec<Member>,
+}
+
+impl Drop for Tree {
+    fn drop(self) {
+        let Tree { body } = self;
+        drop(body);
+    }
 }
 
 /// Which statement a bare text can be.

@@ -4,7 +4,7 @@ use Rattle.meaning.specs.Syntax.{ItemTree}
 use Rattle.meaning.specs.Nesting.{Unfinished, start, behind, past, breaks, first_broken}
 use Rattle.nesting.specs.declared.order.Order.{Order}
 use Rattle.nesting.specs.Places.{IsOrderOf}
-use Rattle.nesting.proofs.Ordered.{goes_first}
+use Rattle.meaning.proofs.FirstBroken.{goes_first}
 
 -- the same is read and told as of all
 pub record IsSoFar (all : List ItemTree) (o : Order) (z : Unfinished) (rest : List ItemTree) : Type 0 where

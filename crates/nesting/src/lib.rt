@@ -2,10 +2,8 @@
 #![tactic(auto)]
 
 mod effect;
-mod laws;
 mod nesting;
 mod order;
 mod unfinished;
 
-pub use laws::{nests_exactly, one_nesting, refuses_exactly, rule_told};
 pub use nesting::tree;

@@ -2,7 +2,7 @@
 
 ghost use Rattle.std.specs.Prelude.{◌≡◌, nat_le, length, IfOk};
 ghost use Rattle.meaning.specs.Nesting.{levels, innermost, is_stray as stray, is_named as named_by, is_hidden as hidden_by, is_end_in_range as ends_in_range, is_crossing, is_too_deep, breaks_nesting, is_ended as ended_by, add as added, next_arm as next_arm_of, close_block as close_block_of, with_arm as with_arm_of, range, branch, past as past_of, ended, joined, effect_of};
-ghost use Rattle.meaning.specs.Rules.{is_label_at};
+ghost use Rattle.meaning.specs.LabelRules.{is_label_at};
 ghost use Rattle.meaning.specs.Trees.{item_tree, member_before, members_tree, arms_tree, none, plain, loop, block, no_arms};
 ghost use Rattle.nesting.specs.Open.{unfinished, effect};
 

@@ -5,7 +5,6 @@ mod control;
 mod declarators;
 mod expression;
 mod initial_values;
-mod laws;
 mod left_out;
 mod list;
 mod output;
@@ -14,5 +13,4 @@ mod specification;
 mod statement;
 mod token;
 
-pub use laws::{one_kind, one_reading, one_spelling};
 pub use statement::form;

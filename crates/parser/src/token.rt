@@ -12,7 +12,7 @@ use meaning::syntax::{Operator, Sign};
 use std::alloc::Global;
 
 /// What stands behind a word at the front.
-#[tactic(auto, using(crate::proofs::Words::behind_is))]
+#[tactic(auto, using(form_laws::proofs::Words::behind_is))]
 pub fn behind<'t>(word: &[u8], text: &'t [u8]) -> Option<&'t [u8]>
     ensures { option_map (λ x. x.now) result ≡ after word.now text.now }
 {
@@ -63,7 +63,7 @@ fn alphanumerics_len(text: &[u8]) -> usize
 }
 
 /// The longest front of digits, and what stands behind.
-#[tactic(auto, using(crate::proofs::Words::runs))]
+#[tactic(auto, using(form_laws::proofs::Words::runs))]
 pub fn split_digits(text: &[u8]) -> (&[u8], &[u8])
     ensures { (result.0.now, result.1.now) ≡ run digit_test text.now }
 {
@@ -71,7 +71,7 @@ pub fn split_digits(text: &[u8]) -> (&[u8], &[u8])
 }
 
 /// The longest front of letters and digits, and what stands behind.
-#[tactic(auto, using(crate::proofs::Words::runs))]
+#[tactic(auto, using(form_laws::proofs::Words::runs))]
 pub fn split_alphanumerics(text: &[u8]) -> (&[u8], &[u8])
     ensures { (result.0.now, result.1.now) ≡ run alphanumeric_test text.now }
 {
@@ -119,7 +119,7 @@ pub fn is_symbolic_name(text: &[u8]) -> bool
 }
 
 /// Whether digits are a statement label: one to five, not all zero (ANSI X3.9-1978, 3.4).
-#[tactic(auto, using(crate::proofs::Words::positive_is))]
+#[tactic(auto, using(form_laws::proofs::Words::positive_is))]
 fn is_statement_label(digits: &[u8]) -> bool
     ensures { result ≡ is_label digits.now }
 {

@@ -3,7 +3,8 @@
 use crate::programs::items_in;
 use meaning::refusal::{Refusal, Rule};
 use meaning::syntax::{Item, Member, Shape};
-use nesting::{nests_exactly, one_nesting, refuses_exactly, tree};
+use nesting::tree;
+use nesting_laws::{nests_exactly, one_nesting, refuses_exactly, rule_told};
 use std::alloc::Global;
 use std::process::Abort;
 
@@ -611,4 +612,5 @@ fn laws_can_be_called() {
     one_nesting();
     nests_exactly();
     refuses_exactly();
+    rule_told();
 }

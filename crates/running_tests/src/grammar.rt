@@ -22,7 +22,7 @@ fn source_of(alloc: Global, lines: &[&str]) -> Result<Vec<u8>, AllocError> {
 fn ends(rt: &impl Abort, alloc: Global, lines: &[&str], want: Ending) {
     let source = source_of(alloc, lines).expect(rt, "memory");
     let (ending, _) = outcome(alloc, &source, MANY);
-    assert_eq!(rt; ending, want, "{lines:?}");
+    assert!(rt; ending == want, "{lines:?}");
 }
 
 /// Statements that are run, and their records.
@@ -138,8 +138,8 @@ fn statements_that_are_run(rt: HostRuntime) {
     for &(lines, records) in RUN {
         let source = source_of(rt.alloc(), lines).expect(&rt, "memory");
         let (ending, bytes) = outcome(rt.alloc(), &source, MANY);
-        assert_eq!(rt; ending, Ending::Ended, "{lines:?}");
-        assert_eq!(rt; bytes.as_slice(), records.as_bytes(), "{lines:?}");
+        assert!(rt; ending == Ending::Ended, "{lines:?}");
+        assert!(rt; bytes.as_slice() == records.as_bytes(), "{lines:?}");
     }
 }
 
@@ -177,19 +177,8 @@ fn operators_and_formats_that_fault(rt: HostRuntime) {
     }
 }
 
-/// Statements that are read and not run yet: those before an executable statement, and those behind one.
-const SPECIFICATIONS: &[&str] = &[
-    "      PROGRAM TEST",
-    "      IMPLICIT INTEGER (A-C,X), LOGICAL (L)",
-    "      LOGICAL L,M(3)",
-    "      DIMENSION A(3),B(0:2,2)",
-    "      PARAMETER (N=3,M=N+1)",
-    "      DATA I,A(2)/3,-4/(B(K),K=1,3)/3*.TRUE./",
-    "      INTEGER A(-.TRUE.)",
-];
-
-const EXECUTABLE: &[&str] = &[
-    "      F()=1",
+/// Statements that are read and not run yet.
+const UNRUN: &[&str] = &[
     "      GO TO 10",
     "      GO TO (10,20) I",
     "      GO TO (10),I+1",
@@ -200,25 +189,13 @@ const EXECUTABLE: &[&str] = &[
     "      STOP 77",
     "      STOP 'It''s done'",
     "      PRINT 10,I,(K,K=1,2)",
-    "      DATA I/1/",
     "      WRITE (6,10) (K,K=1,2)",
     "      WRITE (6,10) I,((A(K,J),K=1,2),J=1,3,2)",
-    "      WRITE (6,10) .TRUE.",
-    "      I=F()",
-    "      L=.NOT.L",
-    "      L=I.LT.2",
-    "      L=M.AND..FALSE.",
-    "      A(I.EQ.J)=1",
-    "      DO 10 K=1,-F(.TRUE.)",
 ];
 
 #[test]
 fn statements_that_are_not_run_yet(rt: HostRuntime) {
-    for &statement in SPECIFICATIONS {
-        let lines = [statement, "      I=1"];
-        ends(&rt, rt.alloc(), &lines, Ending::Refused(Rule::K0, 1));
-    }
-    for &statement in EXECUTABLE {
+    for &statement in UNRUN {
         let lines = ["      I=1", statement, "   10 CONTINUE"];
         ends(&rt, rt.alloc(), &lines, Ending::Refused(Rule::K0, 2));
     }
@@ -296,7 +273,7 @@ fn cut_everywhere(rt: &impl Abort, alloc: Global, statement: &str) {
     let whole = cut_at(alloc, statement, usize::MAX).expect(rt, "memory");
     for place in 7..statement.len() {
         let cut = cut_at(alloc, statement, place).expect(rt, "memory");
-        assert_eq!(rt; cut, whole, "{statement} at {place}");
+        assert!(rt; cut == whole, "{statement} at {place}");
     }
 }
 
@@ -308,6 +285,42 @@ const SIMPLE: &[&str] = &[
     "      DO 10, NUMBER = 123, 4567, 89",
     "      INTEGER NUMBER,TOTAL(-12:345,67)",
     "      CONTINUE",
+];
+
+/// Statements that aren't executable.
+const SPECIFICATIONS: &[&str] = &[
+    "      PROGRAM TEST",
+    "      IMPLICIT INTEGER (A-C,X), LOGICAL (L)",
+    "      LOGICAL L,M(3)",
+    "      DIMENSION A(3),B(0:2,2)",
+    "      PARAMETER (N=3,M=N+1)",
+    "      DATA I,A(2)/3,-4/(B(K),K=1,3)/3*.TRUE./",
+    "      INTEGER A(-.TRUE.)",
+];
+
+/// Executable statements.
+const EXECUTABLE: &[&str] = &[
+    "      F()=1",
+    "      GO TO 10",
+    "      GO TO (10,20) I",
+    "      GO TO (10),I+1",
+    "      IF (I) 10,20,30",
+    "      IF (I.EQ.1) J=2",
+    "      IF(I.EQ.1)IF(2)=3",
+    "      STOP",
+    "      STOP 77",
+    "      STOP 'It''s done'",
+    "      PRINT 10,I,(K,K=1,2)",
+    "      DATA I/1/",
+    "      WRITE (6,10) (K,K=1,2)",
+    "      WRITE (6,10) I,((A(K,J),K=1,2),J=1,3,2)",
+    "      WRITE (6,10) .TRUE.",
+    "      I=F()",
+    "      L=.NOT.L",
+    "      L=I.LT.2",
+    "      L=M.AND..FALSE.",
+    "      A(I.EQ.J)=1",
+    "      DO 10 K=1,-F(.TRUE.)",
 ];
 
 /// Cuts each of a table that has no apostrophes.

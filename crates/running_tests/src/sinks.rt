@@ -27,10 +27,10 @@ fn runs(rt: &impl Abort, alloc: Global, step: usize, room: usize, errs: bool) {
     } else {
         Ending::WriteRefused
     };
-    assert_eq!(rt; ending, want, "room {room}");
-    assert_eq!(rt; sink.refused(), !fits, "room {room}");
+    assert!(rt; ending == want, "room {room}");
+    assert!(rt; sink.refused() == !fits, "room {room}");
     let Meter { bytes, .. } = sink.into_inner();
-    assert_eq!(rt; bytes.len(), room.min(15), "room {room}");
+    assert!(rt; bytes.len() == room.min(15), "room {room}");
     assert!(rt; BOTH.as_bytes().starts_with(&bytes), "room {room}");
 }
 
@@ -49,9 +49,9 @@ fn a_record_broken_off(rt: HostRuntime) {
     let source = b"      WRITE (6,10)\n   10 FORMAT ('ABCDEFGHIJ')\n      END\n";
     let mut sink = Out::new(make_meter(rt.alloc(), usize::MAX, 3, true));
     let ending = run(rt.alloc(), source.as_slice(), MANY, &mut sink);
-    assert_eq!(rt; ending, Ending::WriteRefused);
+    assert!(rt; ending == Ending::WriteRefused);
     let Meter { bytes, .. } = sink.into_inner();
-    assert_eq!(rt; bytes.as_slice(), b"ABC".as_slice());
+    assert!(rt; bytes.as_slice() == b"ABC".as_slice());
 }
 
 /// How many bytes a piece has.
@@ -74,10 +74,10 @@ fn puts_once(rt: &impl Abort, piece: &[u8], meter: Meter) {
     let mut sink = Out::new(meter);
     let told = sink.put(piece);
     let want = if refuses { Err(Refused) } else { Ok(taken) };
-    assert_eq!(rt; told, want, "of {}", piece.len());
-    assert_eq!(rt; sink.refused(), refuses, "of {}", piece.len());
+    assert!(rt; told == want, "of {}", piece.len());
+    assert!(rt; sink.refused() == refuses, "of {}", piece.len());
     let Meter { bytes, .. } = sink.into_inner();
-    assert_eq!(rt; bytes.len(), taken, "of {}", piece.len());
+    assert!(rt; bytes.len() == taken, "of {}", piece.len());
     assert!(rt; piece.starts_with(&bytes), "of {}", piece.len());
 }
 
@@ -87,10 +87,10 @@ fn puts_whole(rt: &impl Abort, piece: &[u8], meter: Meter) {
     let refuses = kept < piece.len();
     let mut sink = Out::new(meter);
     let told = put_all(&mut sink, piece);
-    assert_eq!(rt; told.is_err(), refuses, "of {}", piece.len());
-    assert_eq!(rt; sink.refused(), refuses, "of {}", piece.len());
+    assert!(rt; told.is_err() == refuses, "of {}", piece.len());
+    assert!(rt; sink.refused() == refuses, "of {}", piece.len());
     let Meter { bytes, .. } = sink.into_inner();
-    assert_eq!(rt; bytes.len(), kept, "of {}", piece.len());
+    assert!(rt; bytes.len() == kept, "of {}", piece.len());
     assert!(rt; piece.starts_with(&bytes), "of {}", piece.len());
 }
 

@@ -1,7 +1,1 @@
-pub mod Exact
-pub mod Powers
-pub mod Lists
-pub mod Naturals
-pub mod Places
-pub mod Reading
-pub mod Spares
+pub mod Leading

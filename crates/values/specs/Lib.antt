@@ -1,3 +1,1 @@
-pub mod Listed
-pub mod Places
-pub mod Dimensions
+pub mod Programs

@@ -2,7 +2,8 @@ use Rattle.std.proofs.Common.{◌≡◌, [], ap, ◌∙◌, to_z, of_z}
 use Rattle.std.specs.Int.{w32}
 use Rattle.std.proofs.lemmas.Int.{to_z-of_z}
 use Rattle.meaning.specs.Maps.{put}
-use Rattle.evaluator.specs.Cells.{map_at, map_in}
+use Rattle.checker.specs.Starts.{map_of}
+use Rattle.values.specs.Programs.{map_at}
 use Rattle.evaluator.proofs.Wholes.{does_whole}
 use Rattle.evaluator.proofs.whole.set_whole.Goals as goal
 
@@ -10,4 +11,4 @@ pub returns-in-Ok-clause-set : goal.returns-in-Ok-clause-set
 returns-in-Ok-clause-set c =
     let p = c.args.program.now in
     let n = c.args.name.now in
-    does_whole c.args.cells.now c.set_variable.new.store (λ m k. map_at p k ≡ put (map_at p m) n [] (to_z w32 (of_z w32 c.args.x))) c.in-Ok.ensures.does ∙ ap (put (map_in p c.args.cells.now) n []) (to_z-of_z w32 c.args.x c.ranges.x)
+    does_whole c.args.cells.now c.set_variable.new.store (λ m k. map_at p k ≡ put (map_at p m) n [] (to_z w32 (of_z w32 c.args.x))) c.in-Ok.ensures.does ∙ ap (put (map_of p c.args.cells.now) n []) (to_z-of_z w32 c.args.x c.ranges.x)

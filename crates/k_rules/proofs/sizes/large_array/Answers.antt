@@ -1,25 +1,21 @@
-use Rattle.std.proofs.Common.{◌+◌, sum_by, ap, sym, ◌∙◌}
+use Rattle.std.proofs.Common.{◌≡◌, [], map, sym, ap, subst}
+use Rattle.std.specs.Prelude.{IfOk}
 use Rattle.meaning.specs.declared.refusal.Rule.TheVariants.{K7}
+use Rattle.meaning.specs.NumberRules.{has_large_array}
+use Rattle.meaning.specs.NameRules.{told}
 use Rattle.meaning.specs.Refusals.{least}
-use Rattle.meaning.specs.Rules.{elements_of, have_too_large}
-use Rattle.meaning.specs.Statements.{broken_if}
-use Rattle.values.specs.Places.{capped}
-use Rattle.k_rules.proofs.Sizing.{elements_behind, large_end, large_more, statement_more}
+use Rattle.roles.specs.RolesAt.{roles_at}
+use Rattle.k_rules.specs.CappedSizes.{capped}
+use Rattle.rule_passes.specs.Listed.{tree_at}
+use Rattle.k_rules.proofs.Sizing.{elements_none}
 use Rattle.k_rules.proofs.sizes.large_array.Goals as goal
-
-pub loop-member-preserved : goal.loop-member-preserved
-loop-member-preserved c =
-    let ms = c.args.members.now in
-    let i = c.loop-member.member-index in
-    let m = c.member-item.result in
-    let lt = c.loop-member-test.true in
-    let n = elements_behind ms i in
-    let test = c.have_too_large.ensures n c.loop-member.invariant.1 ∙ ap (have_too_large n) c.declarators_in-declarators.ensures in
-    let here = c.broken_if-broken.ensures ∙ ap (λ t. least (broken_if t m.now.line K7)) test in (
-      large_more ms i m c.loop-member.best c.broken_if-broken.result c.lesser-best.result _ lt c.member-item.is here c.lesser-best.ensures c.loop-member.invariant.0,
-      c.with_elements-elements.ensures n c.loop-member.invariant.1 ∙ ap (λ ds. capped (n + sum_by elements_of ds)) c.declarators_in-declarators.ensures ∙ ap capped (sym (statement_more ms i m lt c.member-item.is)),
-    )
 
 pub returns : goal.returns
 returns c =
-    large_end c.args.members.now c.loop-member.member-index _ c.loop-member.best _ c.loop-member-test.false c.loop-member.invariant.0
+    subst (λ r. IfOk c.least_told.result (λ b. b ≡ least (told (has_large_array (roles_at r)) K7 [] (map tree_at c.args.items.now)))) c.table_of.ensures.roles c.least_told.ensures
+
+pub least_told-requires : goal.least_told-requires
+least_told-requires c = record {
+  table = c.table_of.ensures.behind;
+  elements = ap capped (sym (elements_none (roles_at c.table_of.result.roles.now)));
+}

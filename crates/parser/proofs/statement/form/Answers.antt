@@ -1,6 +1,6 @@
 use Rattle.std.proofs.Common.{◌≤◌, length, arith}
 use Rattle.meaning.specs.Syntax.{shape_tree}
-use Rattle.parser.proofs.Readings.{no_longer}
+use Rattle.form_laws.proofs.Readings.{no_longer}
 use Rattle.parser.proofs.statement.form.Goals as goal
 
 pub invariant_of-result : goal.invariant_of-result

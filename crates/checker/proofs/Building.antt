@@ -1,0 +1,191 @@
+-- What is kept of names agrees with what the statements say.
+use Rattle.std.proofs.Common.{◌≡◌, ℕ, ◌+◌, ◌-◌, ◌<◌, ◌≤◌, ◌^◌, ℤ, pos, Bool, true, false, List, [], ◌∷◌, length, map, replicate, Option, Some, None, option_map, unwrap_or, Ok, refl, sym, ap, ap₂, subst, ◌∙◌, arith}
+use Rattle.std.specs.Prelude.{if◌then◌else◌, flat_map, slice_get}
+use Rattle.std.specs.Global.{Vec}
+use Rattle.std.specs.List.{fold, list_any}
+use Rattle.std.specs.Option.{option_or}
+use Rattle.std.specs.Str.{bytes_eq}
+use Rattle.std.proofs.Math.Path.{fun_ext}
+use Rattle.std.proofs.lemmas.List.{length-replicate}
+use Rattle.indexmap.specs.IndexMap.{IndexMap}
+use Rattle.meaning.specs.declared.ending.Value.{Value}
+use Rattle.meaning.specs.declared.syntax.DataType.{DataType}
+use Rattle.meaning.specs.declared.syntax.Tree.{Tree}
+use Rattle.meaning.specs.Arrays.{Dimension, Named, cell_of, cells_of, place, size}
+use Rattle.meaning.specs.Initial.{Start, starts_from}
+use Rattle.meaning.specs.Maps.{Map, start}
+use Rattle.meaning.specs.Rules.{checked}
+use Rattle.meaning.specs.Scopes.{arrays_of, known_of}
+use Rattle.meaning.specs.Syntax.{ItemTree}
+use Rattle.meaning.specs.Trees.{flatten, nested}
+use Rattle.meaning.specs.Types.{declared_by, types_of}
+use Rattle.meaning.specs.Uses.{roles_of}
+use Rattle.meaning.specs.Values.{Arrays, Known, dimensions_in}
+use Rattle.roles.specs.declared.names.Roles.{Roles}
+use Rattle.roles.specs.Keeping.{kept_at}
+use Rattle.roles.specs.Listed.{trees_at}
+use Rattle.roles.specs.RolesAt.{roles_at}
+use Rattle.roles.specs.TypedNames.{implicit_parts, letter_type, typed_names}
+use Rattle.k_rules.specs.declared.verdict.Facts.{Facts}
+use Rattle.k_rules.specs.DataSets.{given_by}
+use Rattle.k_rules.specs.Judged.{arrays_in, constant_in, starts_in}
+use Rattle.checker.specs.declared.parts.Entry.{Entry}
+use Rattle.checker.specs.declared.parts.Storage.{Storage}
+use Rattle.checker.specs.declared.rules.Names.{Names}
+use Rattle.checker.specs.Built.{AreNames, count_at, variables_at}
+use Rattle.checker.specs.Checked.{count_in, items_in, names_in}
+use Rattle.checker.specs.Entries.{IsSaid, Placed, Said, described, first_of, if_among, names_given, place_from, placed, said, said_at, stored, stored_in}
+use Rattle.checker.specs.Given.{AreGiven, first_placed, first_said, firsts_in}
+use Rattle.checker.specs.Kept.{AreCells, HasNone, IsStored, IsTyped, StartsWithByte, array_of, by_first, storage_kept, type_if, value_kept}
+use Rattle.checker.specs.Numbered.{named, variables_of}
+use Rattle.checker.specs.Starts.{map_of, start_in}
+use Rattle.checker.specs.Whereabouts.{Whereabouts, where_in}
+use Rattle.checker.proofs.Absent.{bounded, no_array, unknown, untyped}
+use Rattle.checker.proofs.CellsOf.{first_cells, first_leads, no_first}
+use Rattle.checker.proofs.Starting.{all_given, all_placed, given_to, zeros_start}
+
+-- ---- what is said of a name, by its first cell and by whether statements give it something
+
+module _ (f : Facts) (r : Roles) (n : List ℕ) where
+  abbrev Says : Option ℕ → Bool → Option Said
+  Says first given = option_or (option_map (λ c. stored f r c n) first) (if given then Some (described f r n) else None)
+
+  module _ (o : Option Entry) where
+    value_is : (first : Option ℕ) (given : Bool) → option_map said o ≡ Says first given → (given ≡ false → constant_in f n ≡ None) → value_kept o ≡ constant_in f n
+    value_is first given is none = by o first given is none
+      where
+        by : (p : Option Entry) (first : Option ℕ) (given : Bool) → option_map said p ≡ Says first given → (given ≡ false → constant_in f n ≡ None) → value_kept p ≡ constant_in f n
+        by None (Some c) given is none = absurd cc
+        by None None true is none = absurd cc
+        by None None false is none = sym (none refl)
+        by (Some e) (Some c) given is none = ap (λ p. (unwrap_or p (said e)).value) is
+        by (Some e) None true is none = ap (λ p. (unwrap_or p (said e)).value) is
+        by (Some e) None false is none = absurd cc
+
+    type_is : (first : Option ℕ) (given : Bool) → option_map said o ≡ Says first given → IsTyped ((roles_at r).names.types n) o
+    type_is first given is = by o first given is
+      where
+        by : (p : Option Entry) (first : Option ℕ) (given : Bool) → option_map said p ≡ Says first given → IsTyped ((roles_at r).names.types n) p
+        by None first given is = tt
+        by (Some e) (Some c) given is = ap (λ p. (unwrap_or p (said e)).data_type) is
+        by (Some e) None true is = ap (λ p. (unwrap_or p (said e)).data_type) is
+        by (Some e) None false is = absurd cc
+
+    not_given : (first : Option ℕ) (given : Bool) → option_map said o ≡ Says first given → o ≡ None → given ≡ false
+    not_given first given is none = by first given (sym (ap (option_map said) none) ∙ is)
+      where
+        by : (first : Option ℕ) (given : Bool) → None ≡ Says first given → given ≡ false
+        by (Some c) given is = absurd cc
+        by None true is = absurd cc
+        by None false is = refl
+
+    storage_is : (first : Option ℕ) (given : Bool) → option_map said o ≡ Says first given → option_map placed (storage_kept o) ≡ option_map (place_from (dimensions_in (arrays_in f n))) first
+    storage_is first given is = by o first given is
+      where
+        by : (p : Option Entry) (first : Option ℕ) (given : Bool) → option_map said p ≡ Says first given → option_map placed (storage_kept p) ≡ option_map (place_from (dimensions_in (arrays_in f n))) first
+        by None (Some c) given is = absurd cc
+        by None None given is = refl
+        by (Some e) (Some c) given is = ap (λ p. (unwrap_or p (said e)).storage) is
+        by (Some e) None true is = ap (λ p. (unwrap_or p (said e)).storage) is
+        by (Some e) None false is = absurd cc
+
+    first_is : (first : Option ℕ) (given : Bool) → option_map said o ≡ Says first given → first_said (option_map said o) ≡ first
+    first_is first given is = ap first_said is ∙ by first given
+      where
+        by : (first : Option ℕ) (given : Bool) → first_said (Says first given) ≡ first
+        by (Some c) given = refl
+        by None true = refl
+        by None false = refl
+
+-- ---- the cells of a name
+
+module _ (arrays : Arrays) (vs : List (List ℕ)) (n : List ℕ) (some : array_of (dimensions_in (arrays n)) ≡ arrays n) (absent : list_any (bytes_eq n) vs ≡ false → arrays n ≡ None) where
+  abbrev there : Whereabouts
+  there = record { array = arrays n; cells = cell_of (named arrays vs) n; count = cells_of (named arrays vs) }
+
+  stored_is : (o : Option Storage) (first : Option ℕ) → first_of (named arrays vs) n ≡ first → option_map placed o ≡ option_map (place_from (dimensions_in (arrays n))) first → IsStored there o
+  stored_is None None at is =
+      let none = no_first arrays n vs at in record { array = absent none.0; cells = none.1 }
+  stored_is None (Some c) at is = absurd cc
+  stored_is (Some s) None at is = absurd cc
+  stored_is (Some s) (Some c) at is =
+      let p : placed s ≡ place_from (dimensions_in (arrays n)) c = ap (λ p. unwrap_or p (placed s)) is in
+      let led = first_leads arrays n vs c at in
+      record {
+        array = ap (λ (x : Placed). array_of x.dimensions) p ∙ some;
+        cells = λ ss. ap (λ (x : Placed). option_map (λ i. x.first + i) (place x.dimensions ss)) p ∙ led.cells ss;
+        room = subst (λ (x : Placed). x.first + size x.dimensions ≤ cells_of (named arrays vs)) (sym p) led.room;
+      }
+
+below : (n : ℕ) → n < 2 ^ 64 - 1 → n < 2 ^ 64
+below n lt = omega arith
+
+-- ---- all of it
+
+pub record Naming (t : Tree) (k : Names) : Type 0 where
+  pub valued : (n : List ℕ) → value_kept (kept_at k.entries n) ≡ (names_in t).known n
+  pub typed : (n : List ℕ) → IsTyped ((names_in t).types n) (kept_at k.entries n)
+  pub lettered : (n : List ℕ) → StartsWithByte n → kept_at k.entries n ≡ None → by_first k.letters.items n ≡ (names_in t).types n
+  pub stored : (n : List ℕ) → IsStored (where_in t n) (storage_kept (kept_at k.entries n))
+  pub few : count_in t < 2 ^ 64
+  pub many : length k.starts.items ≡ count_in t
+  pub started : (n : List ℕ) (ss : List ℤ) → map_of t k.starts.items n ss ≡ start_in t n ss
+
+module _ (t : Tree) (f : Facts) (r : Roles) (k : Names) (items : trees_at r.items.now ≡ items_in t) (constants : (n : List ℕ) → constant_in f n ≡ (names_in t).known n) (arrays : (n : List ℕ) → arrays_in f n ≡ arrays_of (items_in t) n) (starts : starts_in f ≡ map (given_by (roles_of (items_in t)).names) (starts_from (roles_of (items_in t)) [] (items_in t))) (names : AreNames f r k) where
+  abbrev all : List ItemTree
+  all = items_in t
+
+  abbrev vs : List (List ℕ)
+  vs = variables_of all
+
+  variables : variables_at r ≡ vs
+  variables = ap variables_of items
+
+  own_arrays : arrays_in f ≡ arrays_of all
+  own_arrays = fun_ext arrays
+
+  abbrev first_at : List ℕ → Option ℕ
+  first_at n = first_of (named (arrays_in f) (variables_at r)) n
+
+  abbrev given_at : List ℕ → Bool
+  given_at n = list_any (bytes_eq n) (flat_map (λ x. names_given x.shape) (trees_at r.items.now))
+
+  given_in : (n : List ℕ) → given_at n ≡ false → list_any (bytes_eq n) (flat_map (λ x. names_given x.shape) all) ≡ false
+  given_in n h = ap (λ xs. list_any (bytes_eq n) (flat_map (λ x. names_given x.shape) xs)) (sym items) ∙ h
+
+  firsts : (n : List ℕ) → first_at n ≡ first_of (named (arrays_of all) vs) n
+  firsts n = ap₂ (λ a ns. first_of (named a ns) n) own_arrays variables
+
+  counted : count_at f r ≡ count_in t
+  counted = ap₂ (λ a ns. cells_of (named a ns)) own_arrays variables
+
+  types_are : (n : List ℕ) → (roles_at r).names.types n ≡ (names_in t).types n
+  types_are n = ap (λ xs. types_of xs n) items
+
+  started_all : (length k.starts.items ≡ count_in t) × (map_of t k.starts.items ≡ start_in t)
+  started_all =
+      let rs = roles_of all in
+      let given : AreGiven (firsts_in k.entries) (map (given_by rs.names) (starts_from rs [] all)) (replicate (count_in t) (pos 0)) k.starts.items =
+      subst (λ c. AreGiven (firsts_in k.entries) (map (given_by rs.names) (starts_from rs [] all)) (replicate c (pos 0)) k.starts.items) counted
+      (subst (λ gs. AreGiven (firsts_in k.entries) gs (replicate (count_at f r) (pos 0)) k.starts.items) starts names.given) in
+      let so = all_given (arrays_of all) vs rs.names refl (firsts_in k.entries) (λ n c is. first_cells (arrays_of all) n vs c (sym (firsts n) ∙ sym (first_is f r n (kept_at k.entries n) (first_at n) (given_at n) (names.said n)) ∙ is)) (starts_from rs [] all) (all_placed rs [] all) (replicate (count_in t) (pos 0)) k.starts.items (length-replicate (count_in t) (pos 0)) given in
+      (so.0, so.1 ∙ ap (λ m. fold given_to m (starts_from rs [] all)) (zeros_start (cell_of (named (arrays_of all) vs)) (count_in t)))
+
+  pub naming : Naming t k
+  naming = record {
+    valued = λ n. value_is f r n (kept_at k.entries n) (first_at n) (given_at n) (names.said n) (λ h. constants n ∙ unknown (types_of all) all n (given_in n h)) ∙ constants n;
+    typed = λ n. subst (λ o. IsTyped o (kept_at k.entries n)) (types_are n) (type_is f r n (kept_at k.entries n) (first_at n) (given_at n) (names.said n));
+    lettered = λ n byte none. by_letters n byte (untyped all n (given_in n (not_given f r n (kept_at k.entries n) (first_at n) (given_at n) (names.said n) none)));
+    stored = λ n.
+        stored_is (arrays_of all) vs n (bounded all n) (no_array all n) (storage_kept (kept_at k.entries n)) (first_at n) (sym (firsts n))
+        (storage_is f r n (kept_at k.entries n) (first_at n) (given_at n) (names.said n) ∙ ap (λ a. option_map (place_from (dimensions_in (a n))) (first_at n)) own_arrays);
+    few = below (count_in t) (subst (λ c. c < 2 ^ 64 - 1) counted names.few);
+    many = started_all.0;
+    started = λ n ss. ap (λ m. m n ss) started_all.1;
+  }
+    where
+      by_letters : (n : List ℕ) → StartsWithByte n → declared_by (typed_names all) n ≡ None → by_first k.letters.items n ≡ types_of all n
+      by_letters [] byte none = sym (ap (λ o. option_or o None) none)
+      by_letters (c ∷ cs) byte none =
+          ap type_if (names.letters c byte) ∙ ap (λ xs. letter_type (implicit_parts xs) c) items
+          ∙ sym (ap (λ o. option_or o (letter_type (implicit_parts all) c)) none)

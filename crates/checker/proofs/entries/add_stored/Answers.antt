@@ -1,0 +1,18 @@
+use Rattle.std.proofs.Common.{◌+◌, map, ap, ◌∙◌}
+use Rattle.std.specs.Option.{option_or}
+use Rattle.meaning.specs.Arrays.{size}
+use Rattle.expressions.specs.Dimensions.{dimension}
+use Rattle.checker.specs.Entries.{if_name, said_at}
+use Rattle.checker.proofs.Entering.{with_same}
+use Rattle.checker.proofs.entries.add_stored.Goals as goal
+
+pub returns-clause-next : goal.returns-clause-next
+returns-clause-next c =
+    let first = c.args.storing.now.next in
+    c.in_ok-next.ensures ∙ ap (λ k. first + k) (c.in_ok-cells.ensures ∙ ap (λ ds. size (map dimension ds)) c.deref.ensures.value ∙ ap size c.in_ok-dimensions.ensures)
+
+pub returns-clause-entries : goal.returns-clause-entries
+returns-clause-entries c = λ n.
+    let first = c.args.storing.now.next in
+    c.in_ok-add_entry.ensures n
+    ∙ ap (λ s. option_or (said_at c.args.storing.now.entries n) (if_name c.args.name.now s n)) (with_same first _ _ _ _ _ _ c.constant_named.ensures c.type_of_name.ensures c.in_ok-dimensions.ensures)

@@ -1,0 +1,32 @@
+use Rattle.std.proofs.Common.{[], ◌+◌, refl, ap, sym, subst, ◌∙◌}
+use Rattle.std.specs.Prelude.{option_map}
+use Rattle.std.specs.Map.{lookup}
+use Rattle.std.specs.Str.{bytes_eq}
+use Rattle.meaning.specs.Arrays.{size}
+use Rattle.meaning.specs.Values.{dimensions_in}
+use Rattle.k_rules.specs.Judged.{arrays_in}
+use Rattle.checker.specs.Entries.{AddsOne, said, stored}
+use Rattle.checker.proofs.Entering.{next_more, stored_more}
+use Rattle.checker.proofs.entries.store_names.Goals as goal
+
+pub loop-name-init : goal.loop-name-init
+loop-name-init c = record {
+  next = refl;
+  entries = λ n. ap (λ es. option_map said (lookup (λ k. bytes_eq n k.items) es)) c.new.ensures.empty;
+}
+
+pub loop-name-preserved : goal.loop-name-preserved
+loop-name-preserved c =
+    let f = c.args.facts.now in
+    let r = c.args.roles.now in
+    let names = c.args.names.now in
+    let i = c.loop-name.name-index in
+    let x = c.name-item.result in
+    let so_far = c.loop-name.invariant in
+    let now = c.loop-name.storing.next in
+    let old = c.loop-name.storing.entries in
+    let new = c.add_stored.new.storing.entries in
+    record {
+      next = next_more f r names i x c.loop-name-test.true c.name-item.is _ _ so_far.next (c.in_ok-add_stored.ensures.next ∙ ap (λ n. now + size (dimensions_in (arrays_in f n))) c.deref.ensures.value);
+      entries = stored_more f r names i x c.loop-name-test.true c.name-item.is old new now so_far.next so_far.entries (subst (λ n. AddsOne old new n (stored f r now n)) c.deref.ensures.value c.in_ok-add_stored.ensures.entries);
+    }

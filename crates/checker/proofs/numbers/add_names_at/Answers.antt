@@ -1,0 +1,14 @@
+use Rattle.std.proofs.Common.{map, ap, ◌∙◌}
+use Rattle.meaning.specs.Trees.{item_tree}
+use Rattle.roles.specs.NameSets.{texts}
+use Rattle.roles.specs.RolesAt.{roles_at}
+use Rattle.roles.specs.UsesAt.{uses_at}
+use Rattle.checker.specs.Numbered.{with_variables}
+use Rattle.checker.proofs.Appearance.{item_names}
+use Rattle.checker.proofs.numbers.add_names_at.Goals as goal
+
+pub returns : goal.returns
+returns c = λ before behind.
+    let r = roles_at c.args.roles.now in
+    let x = item_tree c.args.item.now in
+    item_names r before x _ _ _ _ _ _ c.declarators_in.ensures (c.is_defining.ensures before behind) c.in_ok-uses.ensures c.in_ok-add_declared.ensures (c.in_ok-add_used.ensures ∙ ap (λ us. with_variables r (texts c.add_declared.new.names.keys) (map (λ u. u.name) (uses_at us))) c.deref.ensures.value)

@@ -1,0 +1,56 @@
+-- What is made of a program unit that keeps the rules.
+use Rattle.std.specs.Prelude.{◌≡◌, ◌<◌, ◌-◌, ◌^◌, ℕ, pos, List, [], map, Ok, Some, replicate, slice_get}
+use Rattle.meaning.specs.declared.syntax.Tree.{Tree}
+use Rattle.meaning.specs.Arrays.{cells_of}
+use Rattle.roles.specs.declared.names.Roles.{Roles}
+use Rattle.roles.specs.Listed.{trees_at}
+use Rattle.roles.specs.RolesAt.{roles_at}
+use Rattle.roles.specs.TypedNames.{implicit_parts, letter_type}
+use Rattle.k_rules.specs.declared.verdict.Facts.{Facts}
+use Rattle.k_rules.specs.Judged.{arrays_in, constant_in, starts_in}
+use Rattle.k_rules.specs.DataSets.{given_by}
+use Rattle.meaning.specs.Initial.{starts_from}
+use Rattle.meaning.specs.Rules.{checked}
+use Rattle.meaning.specs.Trees.{nested}
+use Rattle.meaning.specs.Uses.{roles_of}
+use Rattle.checker.specs.Checked.{items_in, names_in}
+use Rattle.checker.specs.declared.parts.Parts.{Parts}
+use Rattle.checker.specs.declared.rules.Names.{Names}
+use Rattle.checker.specs.declared.rules.Kept.{Kept}
+use Rattle.checker.specs.Entries.{IsSaid, said_at}
+use Rattle.checker.specs.Given.{AreGiven, firsts_in}
+use Rattle.checker.specs.Numbered.{named, variables_by}
+
+abbrev pub variables_at : Roles → List (List ℕ)
+variables_at r = variables_by (roles_at r) (trees_at r.items.now)
+
+abbrev pub count_at : Facts → Roles → ℕ
+count_at f r = cells_of (named (arrays_in f) (variables_at r))
+
+-- what is kept of names
+pub record AreNames (f : Facts) (r : Roles) (k : Names) : Type 0 where
+  pub said : (n : List ℕ) → IsSaid f r (variables_at r) n (said_at k.entries n)
+  pub given : AreGiven (firsts_in k.entries) (starts_in f) (replicate (count_at f r) (pos 0)) k.starts.items
+  pub few : count_at f r < 2 ^ 64 - 1
+  pub letters : (c : ℕ) → c < 256 → slice_get k.letters.items c ≡ Some (letter_type (implicit_parts (trees_at r.items.now)) c)
+
+-- a tree with what is kept beside it
+abbrev pub parts_by : Tree → Kept → Parts
+parts_by t k = record {
+  tree = t;
+  entries = k.names.entries;
+  letters = k.names.letters;
+  functions = k.functions;
+  function_count = k.function_count;
+  no_dummies = k.no_dummies;
+  starts = k.names.starts;
+  formats = k.formats.by_label;
+  texts = k.formats.texts;
+}
+
+-- what is known of a program unit that breaks no rule
+pub record IsJudged (t : Tree) (f : Facts) : Type 0 where
+  pub accepted : checked (nested t) ≡ Ok (nested t)
+  pub constants : (n : List ℕ) → constant_in f n ≡ (names_in t).known n
+  pub arrays : (n : List ℕ) → arrays_in f n ≡ (names_in t).arrays n
+  pub starts : starts_in f ≡ map (given_by (roles_of (items_in t)).names) (starts_from (roles_of (items_in t)) [] (items_in t))

@@ -1,0 +1,88 @@
+-- What entries say of names, and what they say when names are put behind others.
+use Rattle.std.specs.Prelude.{◌≡◌, ℕ, ◌+◌, List, [], ◌∷◌, ◌++◌, map, flat_map, Option, Some, None, option_map, if◌then◌else◌}
+use Rattle.std.specs.Global.{Vec}
+use Rattle.std.specs.List.{list_any}
+use Rattle.std.specs.Option.{option_or}
+use Rattle.std.specs.Str.{bytes_eq}
+use Rattle.indexmap.specs.IndexMap.{IndexMap}
+use Rattle.meaning.specs.declared.ending.Value.{Value}
+use Rattle.meaning.specs.declared.syntax.DataType.{DataType}
+use Rattle.meaning.specs.Arrays.{Dimension, Named, size}
+use Rattle.meaning.specs.Scopes.{declarators_in, constants_in}
+use Rattle.meaning.specs.Syntax.{ShapeTree}
+use Rattle.meaning.specs.Values.{dimensions_in}
+use Rattle.roles.specs.declared.names.Roles.{Roles}
+use Rattle.roles.specs.Keeping.{kept_at}
+use Rattle.roles.specs.Listed.{trees_at}
+use Rattle.roles.specs.RolesAt.{roles_at}
+use Rattle.k_rules.specs.declared.verdict.Facts.{Facts}
+use Rattle.k_rules.specs.Judged.{arrays_in, constant_in}
+use Rattle.checker.specs.declared.parts.Entry.{Entry}
+use Rattle.checker.specs.declared.parts.Storage.{Storage}
+use Rattle.checker.specs.Kept.{dimensions_kept}
+use Rattle.checker.specs.Numbered.{named}
+
+-- the first cell of a name and its dimensions
+pub record Placed : Type 0 where
+  pub first : ℕ
+  pub dimensions : List Dimension
+
+abbrev pub place_from : List Dimension → ℕ → Placed
+place_from ds c = record { first = c; dimensions = ds }
+
+abbrev pub placed : Storage → Placed
+placed s = record { first = s.first; dimensions = dimensions_kept s }
+
+-- what an entry says
+pub record Said : Type 0 where
+  pub value : Option Value
+  pub data_type : Option DataType
+  pub storage : Option Placed
+
+abbrev pub said : Entry → Said
+said e = record { value = e.value; data_type = e.data_type; storage = option_map placed e.storage }
+
+abbrev pub said_at : {S : Type 0} → IndexMap (Vec ℕ) Entry S → List ℕ → Option Said
+said_at m n = option_map said (kept_at m n)
+
+-- one more name, unless something is said of it
+abbrev pub if_name : List ℕ → Said → List ℕ → Option Said
+if_name name s n = if bytes_eq n name then Some s else None
+
+abbrev pub AddsOne : {S : Type 0} → IndexMap (Vec ℕ) Entry S → IndexMap (Vec ℕ) Entry S → List ℕ → Said → Type 0
+AddsOne m new name s = (n : List ℕ) → said_at new n ≡ option_or (said_at m n) (if_name name s n)
+
+-- further names, of which this is said
+abbrev pub if_among : (List ℕ → Said) → List (List ℕ) → List ℕ → Option Said
+if_among f names n = if list_any (bytes_eq n) names then Some (f n) else None
+
+abbrev pub Adds : {S : Type 0} → IndexMap (Vec ℕ) Entry S → IndexMap (Vec ℕ) Entry S → (List ℕ → Said) → List (List ℕ) → Type 0
+Adds m new f names = (n : List ℕ) → said_at new n ≡ option_or (said_at m n) (if_among f names n)
+
+-- what is said of a name that has no cells, and of one that has
+abbrev pub described : Facts → Roles → List ℕ → Said
+described f r n = record { value = constant_in f n; data_type = (roles_at r).names.types n; storage = None }
+
+abbrev pub stored : Facts → Roles → ℕ → List ℕ → Said
+stored f r c n = record {
+  value = constant_in f n;
+  data_type = (roles_at r).names.types n;
+  storage = Some (place_from (dimensions_in (arrays_in f n)) c);
+}
+
+-- the first cell of a name, one name's cells behind another's
+abbrev pub first_of : List Named → List ℕ → Option ℕ
+first_of [] n = None
+first_of (x ∷ xs) n = if bytes_eq n x.name then Some 0 else option_map (λ c. size x.dimensions + c) (first_of xs n)
+
+abbrev pub stored_in : Facts → Roles → List Named → List ℕ → Option Said
+stored_in f r names n = option_map (λ c. stored f r c n) (first_of names n)
+
+-- the names that a statement declares, and the constants that it defines
+abbrev pub names_given : ShapeTree → List (List ℕ)
+names_given s = map (λ d. d.name) (declarators_in s) ++ map (λ c. c.name) (constants_in s)
+
+-- what is said of a name where these are variables and arrays
+abbrev pub IsSaid : Facts → Roles → List (List ℕ) → List ℕ → Option Said → Type 0
+IsSaid f r names n o =
+    o ≡ option_or (stored_in f r (named (arrays_in f) names) n) (if_among (described f r) (flat_map (λ x. names_given x.shape) (trees_at r.items.now)) n)

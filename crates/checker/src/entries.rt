@@ -1,0 +1,253 @@
+//! What is kept of names (ANSI X3.9-1978, 2.12, 4.1.2, 5.4 and 8.6).
+
+ghost use Rattle.std.specs.Prelude.{◌≡◌, ◌+◌, ◌*◌, ◌∷◌, [], ℕ, List, flat_map, map, option_map, IfOk, OnOk};
+ghost use Rattle.meaning.specs.Arrays.{cells_of, size};
+ghost use Rattle.meaning.specs.Scopes.{constants_in};
+ghost use Rattle.meaning.specs.Syntax.{constant_tree, declarator_tree, shape_tree};
+ghost use Rattle.meaning.specs.Values.{dimensions_in};
+ghost use Rattle.expressions.specs.Dimensions.{dimension};
+ghost use Rattle.roles.specs.Listed.{trees_at};
+ghost use Rattle.roles.specs.NameSets.{texts};
+ghost use Rattle.k_rules.specs.Judged.{arrays_in, constant_in};
+ghost use Rattle.checker.specs.Entries.{Adds, AddsOne, IsSaid, described, names_given, said, said_at, stored, stored_in};
+ghost use Rattle.checker.specs.Numbered.{named};
+
+use crate::parts::{Entry, Storage};
+use expressions::Dimension;
+use indexmap::IndexMap;
+use k_rules::Facts;
+use meaning::ending::Value;
+use meaning::syntax::{Declarator, Item, NamedConstant, Shape};
+use roles::{Roles, declarators_in, type_of_name};
+use std::alloc::{AllocError, Global};
+
+/// The value of a name, if it is a constant's.
+fn constant_named(facts: &Facts, name: &[u8]) -> Option<Value>
+    ensures { result ≡ constant_in facts.now name.now }
+{
+    match facts.constants.get(name) {
+        Some(value) => *value,
+        None => None,
+    }
+}
+
+/// The dimensions of a name, none where it is no array's.
+fn dimensions_named(alloc: Global, facts: &Facts, name: &[u8]) -> Result<Vec<Dimension>, AllocError>
+    ensures { IfOk result (λ v. map dimension v.items ≡ dimensions_in (arrays_in facts.now name.now)) }
+{
+    match facts.arrays.get(name) {
+        Some(dimensions) => Vec::from_slice(alloc, dimensions),
+        None => Ok(Vec::new(alloc)),
+    }
+}
+
+/// A sum. The `AllocError` comes where it is 2^64 or more. No number of cells gets there: in a program unit that keeps the rules
+/// all arrays have 1,048,576 elements at most together, and beside these each variable has one cell, and its name stands in the
+/// unit's tree.
+pub(crate) fn plus(a: usize, b: usize) -> Result<usize, AllocError>
+    ensures { IfOk result (λ k. k ≡ a + b) }
+{
+    match a.checked_add(b) {
+        Some(sum) => Ok(sum),
+        None => Err(AllocError),
+    }
+}
+
+/// A product. The `AllocError` comes where it is 2^64 or more.
+fn times(a: usize, b: usize) -> Result<usize, AllocError>
+    ensures { IfOk result (λ k. k ≡ a * b) }
+{
+    match a.checked_mul(b) {
+        Some(product) => Ok(product),
+        None => Err(AllocError),
+    }
+}
+
+/// How many cells dimensions take. The `AllocError` comes where there are 2^64 or more; in a program unit that keeps the rules no
+/// extent is below 1, and there are 1,048,576 at most.
+fn cells_in(dimensions: &[Dimension]) -> Result<usize, AllocError>
+    ensures { IfOk result (λ k. k ≡ size (map dimension dimensions.now)) }
+{
+    let mut found: usize = 1;
+    for one in dimensions {
+        found = times(found, one.extent() as usize)?;
+    }
+    Ok(found)
+}
+
+/// Keeps what is so of a name, unless something is kept of it.
+fn add_entry(
+    entries: &mut IndexMap<Vec<u8>, Entry>,
+    alloc: Global,
+    name: &[u8],
+    entry: Entry,
+) -> Result<(), AllocError>
+    ensures { OnOk result (AddsOne entries.old entries.new name.now (said entry)) }
+{
+    if entries.contains_key(name) {
+        drop(entry);
+        return Ok(());
+    }
+    let own = Vec::from_slice(alloc, name)?;
+    entries.insert(own, entry)?;
+    Ok(())
+}
+
+/// What is kept of names, and the number of the next cell.
+#[derive(Drop)]
+pub(crate) struct Storing {
+    pub entries: IndexMap<Vec<u8>, Entry>,
+    pub next: usize,
+}
+
+/// Gives a variable or an array the next cells.
+fn add_stored(
+    storing: &mut Storing,
+    alloc: Global,
+    roles: &Roles,
+    facts: &Facts,
+    name: &[u8],
+) -> Result<(), AllocError>
+    ensures next { OnOk result (storing.new.next ≡ storing.old.next + size (dimensions_in (arrays_in facts.now name.now))) }
+    ensures entries { OnOk result (AddsOne storing.old.entries storing.new.entries name.now (stored facts.now roles.now storing.old.next name.now)) }
+{
+    let dimensions = dimensions_named(alloc, facts, name)?;
+    let first = storing.next;
+    let cells = cells_in(&dimensions)?;
+    let next = plus(first, cells)?;
+    let entry = Entry {
+        value: constant_named(facts, name),
+        data_type: type_of_name(roles, name),
+        storage: Some(Storage { first, dimensions }),
+    };
+    storing.next = next;
+    add_entry(&mut storing.entries, alloc, name, entry)?;
+    Ok(())
+}
+
+/// Gives variables and arrays their cells, one behind another.
+fn store_names(
+    alloc: Global,
+    roles: &Roles,
+    facts: &Facts,
+    names: &[Vec<u8>],
+) -> Result<Storing, AllocError>
+    ensures next { IfOk result (λ s. s.next ≡ cells_of (named (arrays_in facts.now) (texts names.now))) }
+    ensures entries { IfOk result (λ s. (n : List ℕ) → said_at s.entries n ≡ stored_in facts.now roles.now (named (arrays_in facts.now) (texts names.now)) n) }
+{
+    let mut storing = Storing {
+        entries: IndexMap::new(alloc),
+        next: 0,
+    };
+    for name in names {
+        add_stored(&mut storing, alloc, roles, facts, name)?;
+    }
+    Ok(storing)
+}
+
+/// Keeps the value and the type of a name, unless something is kept of it.
+fn add_described(
+    entries: &mut IndexMap<Vec<u8>, Entry>,
+    alloc: Global,
+    roles: &Roles,
+    facts: &Facts,
+    name: &[u8],
+) -> Result<(), AllocError>
+    ensures { OnOk result (Adds entries.old entries.new (described facts.now roles.now) (name.now ∷ [])) }
+{
+    let entry = Entry {
+        value: constant_named(facts, name),
+        data_type: type_of_name(roles, name),
+        storage: None,
+    };
+    add_entry(entries, alloc, name, entry)?;
+    Ok(())
+}
+
+/// Keeps the values and the types of the names in declarators.
+fn add_declared(
+    entries: &mut IndexMap<Vec<u8>, Entry>,
+    alloc: Global,
+    roles: &Roles,
+    facts: &Facts,
+    declarators: &[Declarator],
+) -> Result<(), AllocError>
+    ensures { OnOk result (Adds entries.old entries.new (described facts.now roles.now) (map (λ d. d.name) (map declarator_tree declarators.now))) }
+{
+    for declarator in declarators {
+        add_described(entries, alloc, roles, facts, &declarator.name)?;
+    }
+    Ok(())
+}
+
+/// Keeps the values and the types of constants.
+fn add_constants(
+    entries: &mut IndexMap<Vec<u8>, Entry>,
+    alloc: Global,
+    roles: &Roles,
+    facts: &Facts,
+    constants: &[NamedConstant],
+) -> Result<(), AllocError>
+    ensures { OnOk result (Adds entries.old entries.new (described facts.now roles.now) (map (λ c. c.name) (map constant_tree constants.now))) }
+{
+    for constant in constants {
+        add_described(entries, alloc, roles, facts, &constant.name)?;
+    }
+    Ok(())
+}
+
+/// The constants that a statement defines.
+fn constants_of(shape: &Shape) -> &[NamedConstant]
+    ensures { map constant_tree result.now ≡ constants_in (shape_tree shape.now) }
+{
+    match shape {
+        Shape::Parameter(constants) => constants,
+        _ => &[],
+    }
+}
+
+/// Keeps the values and the types of the names that a statement declares and of the constants that it defines.
+fn add_given(
+    entries: &mut IndexMap<Vec<u8>, Entry>,
+    alloc: Global,
+    roles: &Roles,
+    facts: &Facts,
+    shape: &Shape,
+) -> Result<(), AllocError>
+    ensures { OnOk result (Adds entries.old entries.new (described facts.now roles.now) (names_given (shape_tree shape.now))) }
+{
+    add_declared(entries, alloc, roles, facts, declarators_in(shape))?;
+    add_constants(entries, alloc, roles, facts, constants_of(shape))?;
+    Ok(())
+}
+
+/// Keeps the values and the types of the names that statements declare and of the constants that they define.
+fn add_all_given(
+    entries: &mut IndexMap<Vec<u8>, Entry>,
+    alloc: Global,
+    roles: &Roles,
+    facts: &Facts,
+    items: &[&Item],
+) -> Result<(), AllocError>
+    ensures { OnOk result (Adds entries.old entries.new (described facts.now roles.now) (flat_map (λ x. names_given x.shape) (trees_at items.now))) }
+{
+    for item in items {
+        add_given(entries, alloc, roles, facts, &item.form.shape)?;
+    }
+    Ok(())
+}
+
+/// What is kept of the names of a program unit, of which these are variables and arrays, and how many cells they take.
+pub(crate) fn entries_of(
+    alloc: Global,
+    roles: &Roles,
+    facts: &Facts,
+    names: &[Vec<u8>],
+) -> Result<Storing, AllocError>
+    ensures next { IfOk result (λ s. s.next ≡ cells_of (named (arrays_in facts.now) (texts names.now))) }
+    ensures entries { IfOk result (λ s. (n : List ℕ) → IsSaid facts.now roles.now (texts names.now) n (said_at s.entries n)) }
+{
+    let mut storing = store_names(alloc, roles, facts, names)?;
+    add_all_given(&mut storing.entries, alloc, roles, facts, roles.items)?;
+    Ok(storing)
+}

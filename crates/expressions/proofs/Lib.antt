@@ -1,0 +1,11 @@
+pub mod Capped
+pub mod Exact
+pub mod Items
+pub mod Ordered
+pub mod Powers
+pub mod Naturals
+pub mod Places
+pub mod Called
+pub mod Calls
+pub mod Reading
+pub mod Spares

@@ -1,0 +1,113 @@
+//! Places: what a name and the subscripts that are known lead to (ANSI X3.9-1978, 5.4).
+
+ghost use Rattle.std.specs.Prelude.{◌≡◌, ◌+◌, ◌*◌, ◌<◌, ◌≤◌, ◌^◌, IfSome, ℕ, ℤ, List, [], None, Some, map, option_map};
+ghost use Rattle.meaning.specs.Arrays.{place as place_in, size};
+ghost use Rattle.expressions.specs.Dimensions.{dimension};
+ghost use Rattle.expressions.specs.Places.{capped, left, from_cell, behind, limit, Steps};
+
+use crate::Dimension;
+use meaning::cell::Cell;
+
+/// What a name and the subscripts that are known lead to: the cells by the subscripts that are left.
+#[derive(Clone, Copy)]
+pub struct Place<'a> {
+    cell: Option<usize>,
+    stride: usize,
+    left: &'a [Dimension],
+}
+
+impl<'a> Place<'a> {
+    /// The place of a variable, or of an array of which no subscript is known yet: its first cell, and its dimensions.
+    pub fn new(first: usize, dimensions: &'a [Dimension]) -> Place<'a>
+        ensures left { left result ≡ map dimension dimensions.now }
+        ensures behind { (ss : List ℤ) → behind result ss ≡ option_map (λ i. first + i) (place_in (map dimension dimensions.now) ss) }
+        ensures limited { limit result ≤ first + size (map dimension dimensions.now) }
+    {
+        Place {
+            cell: Some(first),
+            stride: 1,
+            left: dimensions,
+        }
+    }
+
+    /// The place of what has no cells.
+    pub fn nowhere() -> Place<'a>
+        ensures left { left result ≡ [] }
+        ensures behind { (ss : List ℤ) → behind result ss ≡ None }
+        ensures limited { limit result ≡ 0 }
+    {
+        Place {
+            cell: None,
+            stride: 1,
+            left: &[],
+        }
+    }
+
+    /// One subscript more; `None` where it is outside its bounds. Where there are no further dimensions, no cell is left.
+    pub fn next(self, subscript: i32) -> Option<Place<'a>>
+        requires { limit self < 2 ^ 64 }
+        ensures { Steps self.entry subscript result }
+    {
+        match self.left.split_first() {
+            None => Some(Place {
+                cell: None,
+                stride: self.stride,
+                left: self.left,
+            }),
+            Some((first, rest)) => match first.above(subscript) {
+                None => None,
+                Some(above) => Some(Place {
+                    cell: moved(self.cell, self.stride, above),
+                    stride: self.stride.saturating_mul(first.extent() as usize),
+                    left: rest,
+                }),
+            },
+        }
+    }
+
+    /// How many elements it has by the subscripts that are left, or 2^64-1 where there are more.
+    pub fn size(self) -> usize
+        ensures { result ≡ capped (size (left self.entry)) }
+    {
+        let mut found: usize = 1;
+        for one in self.left {
+            found = found.saturating_mul(one.extent() as usize);
+        }
+        found
+    }
+
+    /// The cell of the element with a number, counted from 0.
+    pub fn element(self, at: usize) -> Option<Cell>
+        requires within { at < size (left self) }
+        requires few { limit self < 2 ^ 64 }
+        ensures cell { option_map (λ c. c.0) result ≡ from_cell self.entry.cell self.entry.stride (Some at) }
+        ensures small { IfSome result (λ c. c.0 < limit self.entry) }
+    {
+        match self.cell {
+            Some(first) => Some(Cell(first + self.stride * at)),
+            None => None,
+        }
+    }
+
+    /// The cell that it leads to without further subscripts.
+    pub fn cell(self) -> Option<Cell>
+        ensures cell { option_map (λ c. c.0) result ≡ behind self.entry [] }
+        ensures small { IfSome result (λ c. c.0 < limit self.entry) }
+    {
+        if self.left.is_empty() {
+            self.cell.map(Cell)
+        } else {
+            None
+        }
+    }
+}
+
+/// A cell moved by so many strides.
+fn moved(cell: Option<usize>, stride: usize, by: u64) -> Option<usize>
+    ensures { result ≡ option_map (λ c. capped (c + capped (stride * by))) cell }
+{
+    match cell {
+        Some(cell) => Some(cell.saturating_add(stride.saturating_mul(by as usize))),
+        None => None,
+    }
+}

@@ -1,0 +1,14 @@
+pub mod Words
+pub mod Joined
+pub mod SoundExpressions
+pub mod SoundLists
+pub mod SoundStatements
+pub mod SoundData
+pub mod Sound
+pub mod Marks
+pub mod CompleteExpressions
+pub mod CompleteLists
+pub mod CompleteStatements
+pub mod CompleteData
+pub mod Complete
+pub mod Readings

@@ -1,0 +1,4 @@
+pub mod Putting
+pub mod Twice
+pub mod Measuring
+pub mod Describing

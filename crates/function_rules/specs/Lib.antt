@@ -1,0 +1,4 @@
+pub mod Measured
+pub mod Earlier
+pub mod Numbers
+pub mod Behind

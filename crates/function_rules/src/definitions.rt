@@ -1,0 +1,259 @@
+//! Statement functions (ANSI X3.9-1978, 15.4).
+
+ghost use Rattle.std.specs.Prelude.{◌≡◌, ◌||◌, ◌&&◌, flat_map, length, nat_lt, IfOk, OnOk};
+ghost use Rattle.std.specs.List.{list_any};
+ghost use Rattle.meaning.specs.NameRules.{breaks_function_rules, dummy_name, has_bad_dummies as has_bad_dummies_by, is_no_name, sets_no_array as sets_no_array_by};
+ghost use Rattle.meaning.specs.Refusals.{least};
+ghost use Rattle.meaning.specs.Scopes.{listed};
+ghost use Rattle.meaning.specs.Syntax.{exprs_tree, shape_tree};
+ghost use Rattle.meaning.specs.Uses.{is_one_of};
+ghost use Rattle.roles.specs.Functions.{definition_at, dummies_at};
+ghost use Rattle.roles.specs.RolesAt.{roles_at};
+ghost use Rattle.function_rules.specs.Earlier.{is_dummy_use, is_later_use, stands_twice};
+ghost use Rattle.function_rules.specs.Measured.{is_kept};
+ghost use Rattle.rule_passes.specs.Telling.{IsLeast};
+ghost use Rattle.function_rules.specs.Behind.{DescribesAt, IsHere, KeepsLevel, KeepsNodes, is_bad as is_bad_behind, is_ill as is_ill_behind};
+
+use crate::measures::{Measure, keep_measure, measure_of};
+use indexmap::IndexMap;
+use meaning::refusal::{Broken, Rule};
+use meaning::syntax::{Expr, Exprs, Item, Shape};
+use roles::{
+    Function, NameUse, Roles, Sought, Stage, add_uses, defined_by, has_passing, is_function_name,
+};
+use rule_passes::{Behind, is_bare, least_told};
+use std::alloc::{AllocError, Global};
+
+/// Whether there are more expressions than a number.
+fn is_longer(expressions: &Exprs, number: u32) -> bool
+    ensures { result ≡ nat_lt number (length (listed (exprs_tree expressions.now))) }
+{
+    match expressions {
+        Exprs::Empty => false,
+        Exprs::More(_, rest) => number == 0 || is_longer(rest, number - 1),
+    }
+}
+
+/// Whether one of the dummies is no name.
+fn has_no_name(dummies: &Exprs) -> bool
+    ensures { result ≡ list_any is_no_name (listed (exprs_tree dummies.now)) }
+{
+    match dummies {
+        Exprs::Empty => false,
+        Exprs::More(dummy, rest) => match dummy {
+            Expr::Name(_) => has_no_name(rest),
+            _ => true,
+        },
+    }
+}
+
+/// Whether a name is one of the dummies.
+fn is_dummy(dummies: &Exprs, name: &[u8]) -> bool
+    ensures { result ≡ is_one_of (flat_map dummy_name (listed (exprs_tree dummies.now))) name.now }
+{
+    match dummies {
+        Exprs::Empty => false,
+        Exprs::More(dummy, rest) => match dummy {
+            Expr::Name(own) => name == own.as_slice() || is_dummy(rest, name),
+            _ => is_dummy(rest, name),
+        },
+    }
+}
+
+/// Whether two of the dummies are one name.
+fn has_same(dummies: &Exprs) -> bool
+    ensures { result ≡ stands_twice (flat_map dummy_name (listed (exprs_tree dummies.now))) }
+{
+    match dummies {
+        Exprs::Empty => false,
+        Exprs::More(dummy, rest) => match dummy {
+            Expr::Name(own) => is_dummy(rest, own) || has_same(rest),
+            _ => has_same(rest),
+        },
+    }
+}
+
+/// Whether there are more than 16 dummies, one is no name or two are one name.
+#[tactic(auto, using(crate::proofs::Twice::twice_is))]
+fn has_bad_dummies(function: Function) -> bool
+    ensures { result ≡ has_bad_dummies_by (definition_at function.entry) }
+{
+    match function.dummies {
+        Some(dummies) => is_longer(dummies, 16) || has_no_name(dummies) || has_same(dummies),
+        None => false,
+    }
+}
+
+/// A reference to a function that is a dummy.
+#[derive(Clone, Copy)]
+struct DummyReference<'a> {
+    dummies: Option<&'a Exprs>,
+}
+
+impl Sought for DummyReference<'_> {
+    ghost is_use = { λ s u. is_dummy_use (dummies_at s.dummies) u };
+
+    fn is(&self, one: &NameUse) -> bool {
+        if is_bare(one.arguments) {
+            return false;
+        }
+        match self.dummies {
+            Some(dummies) => is_dummy(dummies, one.name),
+            None => false,
+        }
+    }
+}
+
+/// A reference to a statement function that none of those that are kept is.
+#[derive(Clone, Copy)]
+struct LaterReference<'a> {
+    roles: &'a Roles<'a>,
+    kept: &'a IndexMap<Vec<u8>, Measure>,
+}
+
+impl Sought for LaterReference<'_> {
+    ghost is_use = { λ s u. is_later_use (roles_at s.roles.now) (is_kept s.kept.now) u };
+
+    fn is(&self, one: &NameUse) -> bool {
+        !is_bare(one.arguments)
+            && is_function_name(self.roles, one.name)
+            && !self.kept.contains_key(one.name)
+    }
+}
+
+/// Whether a statement function calls too deep, or its expression becomes too large.
+fn is_too_deep(measure: Measure) -> bool
+    ensures { result ≡ (nat_lt 32 measure.level || nat_lt 65536 measure.nodes) }
+{
+    measure.level > 32 || measure.nodes > 65536
+}
+
+/// Whether the expression of a statement function breaks the rule, by the uses in it.
+fn has_bad_body(
+    roles: &Roles,
+    kept: &IndexMap<Vec<u8>, Measure>,
+    function: Function,
+    uses: &[NameUse],
+) -> bool
+    ensures { result ≡ is_ill_behind roles.now kept.now function.entry uses.now }
+{
+    let dummy = DummyReference {
+        dummies: function.dummies,
+    };
+    let later = LaterReference { roles, kept };
+    has_passing(uses, &dummy)
+        || has_passing(uses, &later)
+        || is_too_deep(measure_of(kept, function.body, uses))
+}
+
+/// Whether a statement function breaks the rule, by the measures of those before it.
+fn is_bad(
+    alloc: Global,
+    roles: &Roles,
+    kept: &IndexMap<Vec<u8>, Measure>,
+    function: Function,
+) -> Result<bool, AllocError>
+    ensures { IfOk result (λ b. b ≡ is_bad_behind roles.now kept.now function.entry) }
+{
+    if has_bad_dummies(function) {
+        return Ok(true);
+    }
+    let mut uses = Vec::new(alloc);
+    add_uses(&mut uses, function.body)?;
+    Ok(has_bad_body(roles, kept, function, &uses))
+}
+
+/// Whether a statement under a logical IF assigns to what is no array and has parentheses.
+fn sets_no_array(roles: &Roles, shape: &Shape) -> bool
+    ensures { result ≡ sets_no_array_by (roles_at roles.now) (shape_tree shape.now) }
+{
+    match shape {
+        Shape::LogicalIf(_, statement) => defined_by(&roles.ranks, statement).is_some(),
+        _ => false,
+    }
+}
+
+/// The statement function that a statement defines.
+fn function_here<'a>(roles: &Roles, stage: &Stage, item: &'a Item) -> Option<Function<'a>>
+    ensures { IsHere roles.now stage.now item.now result }
+{
+    if stage.is_before_executables {
+        defined_by(&roles.ranks, &item.form.shape)
+    } else {
+        None
+    }
+}
+
+/// Keeps the measure of a statement function, if there is one.
+fn keep_function(
+    kept: &mut IndexMap<Vec<u8>, Measure>,
+    alloc: Global,
+    function: Option<Function>,
+) -> Result<(), AllocError>
+    ensures levels { OnOk result (KeepsLevel kept.old kept.new function.entry) }
+    ensures nodes { OnOk result (KeepsNodes kept.old kept.new function.entry) }
+{
+    match function {
+        Some(function) => {
+            let mut uses = Vec::new(alloc);
+            add_uses(&mut uses, function.body)?;
+            let measure = measure_of(kept, function.body, &uses);
+            keep_measure(kept, alloc, function.name, measure)
+        }
+        None => Ok(()),
+    }
+}
+
+/// The rule on statement functions.
+#[derive(Drop)]
+struct Definitions<'a> {
+    alloc: Global,
+    roles: &'a Roles<'a>,
+    stage: Stage,
+    /// The measures of the statement functions that were passed.
+    kept: IndexMap<Vec<u8>, Measure>,
+}
+
+impl Behind for Definitions<'_> {
+    ghost breaks = { λ s before x. breaks_function_rules (roles_at s.roles.now) before x };
+
+    ghost knows = { λ s before. DescribesAt s.roles.now s.stage s.kept before };
+
+    fn is_broken(&self, item: &Item) -> Result<bool, AllocError> {
+        let shape = &item.form.shape;
+        match defined_by(&self.roles.ranks, shape) {
+            Some(function) => {
+                if self.stage.is_before_executables {
+                    is_bad(self.alloc, self.roles, &self.kept, function)
+                } else {
+                    Ok(true)
+                }
+            }
+            None => Ok(sets_no_array(self.roles, shape)),
+        }
+    }
+
+    fn pass(&mut self, item: &Item) -> Result<(), AllocError> {
+        let function = function_here(self.roles, &self.stage, item);
+        keep_function(&mut self.kept, self.alloc, function)?;
+        self.stage.pass(self.roles, item);
+        Ok(())
+    }
+}
+
+/// K12: the least line at which a statement function breaks the rule on them.
+pub fn misdefined_function(
+    alloc: Global,
+    roles: &Roles,
+    items: &[&Item],
+) -> Result<Option<Broken>, AllocError>
+    ensures { IfOk result (IsLeast (breaks_function_rules (roles_at roles.now)) Rule.K12 items.now) }
+{
+    let mut definitions = Definitions {
+        alloc,
+        roles,
+        stage: Stage::new(),
+        kept: IndexMap::new(alloc),
+    };
+    least_told(&mut definitions, Rule::K12, items)
+}

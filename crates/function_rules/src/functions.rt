@@ -1,0 +1,76 @@
+//! References to functions (ANSI X3.9-1978, 15.2 and 15.3).
+
+ghost use Rattle.std.specs.Prelude.{IfOk};
+ghost use Rattle.meaning.specs.NameRules.{has_unknown_function, is_unknown_function};
+ghost use Rattle.meaning.specs.Refusals.{least};
+ghost use Rattle.roles.specs.RolesAt.{roles_at};
+ghost use Rattle.roles.specs.Stages.{IsBehind};
+ghost use Rattle.rule_passes.specs.Telling.{IsLeast};
+
+use meaning::refusal::{Broken, Rule};
+use meaning::syntax::Item;
+use roles::{NameUse, Roles, Sought, Stage, add_reads, has_passing, is_intrinsic};
+use rule_passes::{Behind, is_function_use, least_told};
+use std::alloc::{AllocError, Global};
+
+/// A reference to a function that isn't known.
+#[derive(Clone, Copy)]
+struct Unknown<'a> {
+    roles: &'a Roles<'a>,
+}
+
+impl Sought for Unknown<'_> {
+    ghost is_use = { λ s. is_unknown_function (roles_at s.roles.now) };
+
+    fn is(&self, one: &NameUse) -> bool {
+        is_function_use(self.roles, one) && !is_intrinsic(one.name)
+    }
+}
+
+/// The rule on references to functions.
+#[derive(Drop)]
+struct UnknownFunctions<'a> {
+    alloc: Global,
+    roles: &'a Roles<'a>,
+    stage: Stage,
+}
+
+impl Behind for UnknownFunctions<'_> {
+    ghost breaks = { λ s before x. has_unknown_function (roles_at s.roles.now) before x };
+
+    ghost knows = { λ s before. IsBehind s.roles.now s.stage before };
+
+    fn is_broken(&self, item: &Item) -> Result<bool, AllocError> {
+        let defines = self.stage.is_defining(self.roles, item);
+        let mut reads = Vec::new(self.alloc);
+        add_reads(
+            &mut reads,
+            self.alloc,
+            self.roles,
+            defines,
+            &item.form.shape,
+        )?;
+        Ok(has_passing(&reads, &Unknown { roles: self.roles }))
+    }
+
+    fn pass(&mut self, item: &Item) -> Result<(), AllocError> {
+        self.stage.pass(self.roles, item);
+        Ok(())
+    }
+}
+
+/// K13: the least line at which a function that isn't known is referred to.
+pub fn unknown_function(
+    alloc: Global,
+    roles: &Roles,
+    items: &[&Item],
+) -> Result<Option<Broken>, AllocError>
+    ensures { IfOk result (IsLeast (has_unknown_function (roles_at roles.now)) Rule.K13 items.now) }
+{
+    let mut unknown = UnknownFunctions {
+        alloc,
+        roles,
+        stage: Stage::new(),
+    };
+    least_told(&mut unknown, Rule::K13, items)
+}

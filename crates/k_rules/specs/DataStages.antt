@@ -1,0 +1,68 @@
+-- What DATA statements give, one variable or element after another (ANSI X3.9-1978, 9.1).
+use Rattle.std.specs.Prelude.{ℕ, Bool, true, false, ◌&&◌, ◌||◌, ◌==◌, List, [], ◌∷◌, ◌++◌, if◌then◌else◌, Option, Some, None}
+use Rattle.std.specs.Str.{bytes_eq}
+use Rattle.meaning.specs.declared.ending.Value.{Value}
+use Rattle.meaning.specs.Arrays.{place}
+use Rattle.meaning.specs.Types.{Types}
+use Rattle.meaning.specs.Typing.{Names, clash}
+use Rattle.meaning.specs.Values.{dimensions_in}
+use Rattle.meaning.specs.Initial.{Target, and_also, value_type}
+
+-- a name, a place among its elements, 0 for a variable, and the value that it is given
+pub record Given : Type 0 where
+  pub name : List ℕ
+  pub place : ℕ
+  pub value : Value
+
+-- the places of names that were given values
+abbrev pub Marks : Type 0
+Marks = List ℕ → ℕ → Bool
+
+abbrev pub with_mark : List ℕ → ℕ → Marks → Marks
+with_mark name i marked = λ n k. marked n k || (bytes_eq n name && (i == k))
+
+-- what was given so far, and the values that are left, one of which may be none
+pub record Stage : Type 0 where
+  pub marked : Marks
+  pub given : List Given
+  pub values : List (Option Value)
+
+abbrev pub first_of : List (Option Value) → Option Value
+first_of [] = None
+first_of (o ∷ os) = o
+
+abbrev pub behind_first : List (Option Value) → List (Option Value)
+behind_first [] = []
+behind_first (o ∷ os) = os
+
+abbrev pub is_empty_list : List (Option Value) → Bool
+is_empty_list [] = true
+is_empty_list (o ∷ os) = false
+
+-- the next value for a place
+abbrev pub with_given : List ℕ → ℕ → Value → Stage → Stage
+with_given n i v s =
+    record { marked = with_mark n i s.marked; given = s.given ++ record { name = n; place = i; value = v } ∷ []; values = behind_first s.values }
+
+abbrev pub give_value : Types → List ℕ → ℕ → Stage → Option Value → Option Stage
+give_value types n i s None = None
+give_value types n i s (Some v) = if clash (types n) (value_type v) || s.marked n i then None else Some (with_given n i v s)
+
+abbrev pub give : Types → List ℕ → ℕ → Stage → Option Stage
+give types n i s = give_value types n i s (first_of s.values)
+
+-- one place after another
+abbrev pub give_places : Types → List ℕ → List ℕ → Stage → Option Stage
+give_places types n [] s = Some s
+give_places types n (i ∷ is) s = and_also (give types n i s) (give_places types n is)
+
+abbrev pub give_target : Names → Target → Stage → Option Stage
+give_target ns t s = and_also (place (dimensions_in (ns.arrays t.name)) t.subscripts) (λ i. give ns.types t.name i s)
+
+abbrev pub give_all : Names → List Target → Stage → Option Stage
+give_all ns [] s = Some s
+give_all ns (t ∷ ts) s = and_also (give_target ns t s) (give_all ns ts)
+
+-- the values for the targets of a list, if it has some
+abbrev pub filled : Names → Option (List Target) → Stage → Option Stage
+filled ns o s = and_also o (λ ts. give_all ns ts s)

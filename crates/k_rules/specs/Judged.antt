@@ -1,0 +1,62 @@
+-- What is known of a program unit, and the rules around that on DATA statements.
+use Rattle.std.specs.Prelude.{◌≡◌, ℕ, List, [], ◌++◌, map, Option, Result}
+use Rattle.meaning.specs.declared.ending.Value.{Value}
+use Rattle.meaning.specs.declared.refusal.Broken.{Broken}
+use Rattle.meaning.specs.declared.refusal.Refusal.{Refusal}
+use Rattle.meaning.specs.declared.refusal.Rule.TheVariants.{K1, K2, K6, K7, K9, K10, K11}
+use Rattle.meaning.specs.Arrays.{Dimension}
+use Rattle.meaning.specs.Initial.{has_bad_data, starts_from}
+use Rattle.meaning.specs.LabelRules.{has_repeated_label, breaks_transfers, has_bad_output}
+use Rattle.meaning.specs.LoopRules.{breaks_loops}
+use Rattle.meaning.specs.NameRules.{told, broken_names}
+use Rattle.meaning.specs.NumberRules.{has_bad_number, has_large_array}
+use Rattle.meaning.specs.Refusals.{least, merge, unless}
+use Rattle.meaning.specs.Reports.{Gives}
+use Rattle.meaning.specs.Scopes.{arrays_of, known_of}
+use Rattle.meaning.specs.Surroundings.{in_body, told_in}
+use Rattle.meaning.specs.Syntax.{ItemTree}
+use Rattle.meaning.specs.Trees.{Members}
+use Rattle.meaning.specs.Types.{types_of}
+use Rattle.meaning.specs.Uses.{Roles, roles_of}
+use Rattle.k_rules.specs.declared.verdict.Facts.{Facts}
+use Rattle.k_rules.specs.ArraysKept.{arrays_kept}
+use Rattle.k_rules.specs.DataSets.{given_by}
+use Rattle.k_rules.specs.DataStages.{Given}
+use Rattle.k_rules.specs.KnownNames.{known_in}
+use Rattle.k_rules.specs.Marked.{given_at}
+
+abbrev pub constant_in : Facts → List ℕ → Option Value
+constant_in f = known_in f.constants
+
+abbrev pub arrays_in : Facts → List ℕ → Option (List Dimension)
+arrays_in f n = arrays_kept f.arrays n
+
+abbrev pub starts_in : Facts → List Given
+starts_in f = map given_at f.starts.items
+
+-- the rules in front of that on DATA statements, and those behind it
+abbrev pub rules_first : Roles → List ItemTree → List Broken
+rules_first r all =
+    told has_repeated_label K1 [] all ++ (broken_names r all ++ (told (has_bad_number r) K6 [] all ++ told (has_large_array r) K7 [] all))
+
+abbrev pub rules_last : Roles → List ItemTree → Members → List Broken
+rules_last r all ms =
+    told (has_bad_output r all) K11 [] all ++ (told_in (breaks_transfers r all) K2 (in_body ms) ms ++ told_in (breaks_loops r) K9 (in_body ms) ms)
+
+-- the least pair of others and of the rule on DATA statements
+abbrev pub with_data : List ItemTree → Option Broken → Option Broken
+with_data all others = merge others (least (told (has_bad_data (roles_of all)) K10 [] all))
+
+-- facts where there is no pair, otherwise that pair, unless memory was refused
+abbrev pub IsDecided : Option Broken → Result Facts Refusal → Type 0
+IsDecided o result = Gives {A = Unit {0}} (λ f. tt) result (unless o tt)
+
+-- what the statements of a program unit say of its names
+abbrev pub HasConstants : List ItemTree → Facts → Type 0
+HasConstants all f = (n : List ℕ) → constant_in f n ≡ known_of (types_of all) all n
+
+abbrev pub HasArrays : List ItemTree → Facts → Type 0
+HasArrays all f = (n : List ℕ) → arrays_in f n ≡ arrays_of all n
+
+abbrev pub HasStarts : List ItemTree → Facts → Type 0
+HasStarts all f = starts_in f ≡ map (given_by (roles_of all).names) (starts_from (roles_of all) [] all)

@@ -1,0 +1,168 @@
+//! The rules on a whole program unit, and what is known of one that breaks none (ANSI X3.9-1978, chapters 2 to 15).
+
+ghost use Rattle.std.specs.Prelude.{◌≡◌, [], ℕ, List, map, IfOk};
+ghost use Rattle.meaning.specs.Initial.{starts_from};
+ghost use Rattle.meaning.specs.NameRules.{broken_names as broken_names_by};
+ghost use Rattle.meaning.specs.Refusals.{least};
+ghost use Rattle.meaning.specs.Reports.{Gives};
+ghost use Rattle.meaning.specs.Rules.{checked};
+ghost use Rattle.meaning.specs.Scopes.{arrays_of, known_of};
+ghost use Rattle.meaning.specs.Trees.{flatten, members_tree, nested};
+ghost use Rattle.meaning.specs.Types.{types_of};
+ghost use Rattle.meaning.specs.Uses.{roles_of};
+ghost use Rattle.roles.specs.RolesAt.{roles_at};
+ghost use Rattle.k_rules.specs.DataSets.{given_by};
+ghost use Rattle.k_rules.specs.Judged.{HasArrays, HasConstants, HasStarts, IsDecided, arrays_in, constant_in, rules_first, rules_last, starts_in, with_data};
+ghost use Rattle.rule_passes.specs.Listed.{tree_at};
+
+use crate::arrays::{Declared, declared_in};
+use crate::control::misused_variable;
+use crate::filling::{Filling, Start};
+use crate::formats::bad_output;
+use crate::labels::repeated_label;
+use crate::numbers::bad_number;
+use crate::sizes::large_array;
+use crate::starting::{Passed, given_by_data};
+use crate::transfers::missed_label;
+use expressions::Dimension;
+use function_rules::{misdefined_function, misused_name, unknown_function};
+use indexmap::IndexMap;
+use meaning::ending::Value;
+use meaning::refusal::{Broken, Refusal, lesser};
+use meaning::syntax::{Item, Member, Tree};
+use name_rules::{disputed_name, real_name, wrong_type};
+use roles::{Roles, items_of};
+use std::alloc::{AllocError, Global};
+
+/// What is known of a program unit that breaks no rule.
+#[derive(Drop)]
+pub struct Facts<'a> {
+    /// The constants by their names, with their values.
+    pub constants: IndexMap<Vec<u8>, Option<Value>>,
+    /// The arrays by their names, with their dimensions.
+    pub arrays: IndexMap<Vec<u8>, Vec<Dimension>>,
+    /// What DATA statements give.
+    pub starts: Vec<Start<'a>>,
+}
+
+/// The least pair of the rules on names.
+fn broken_names(alloc: Global, roles: &Roles, items: &[&Item]) -> Result<Option<Broken>, AllocError>
+    ensures { IfOk result (λ b. b ≡ least (broken_names_by (roles_at roles.now) (map tree_at items.now))) }
+{
+    let real = real_name(alloc, roles, items)?;
+    let disputed = disputed_name(alloc, roles, items)?;
+    let wrong = wrong_type(roles, items)?;
+    let misused = misused_name(alloc, roles, items)?;
+    let misdefined = misdefined_function(alloc, roles, items)?;
+    let unknown = unknown_function(alloc, roles, items)?;
+    let last = lesser(misdefined, unknown);
+    let fourth = lesser(misused, last);
+    let third = lesser(wrong, fourth);
+    let second = lesser(disputed, third);
+    Ok(lesser(real, second))
+}
+
+/// The least pair of the rules on the statements in their order that stand before that on DATA statements.
+fn broken_first(alloc: Global, roles: &Roles, items: &[&Item]) -> Result<Option<Broken>, AllocError>
+    ensures { IfOk result (λ b. b ≡ least (rules_first (roles_at roles.now) (map tree_at items.now))) }
+{
+    let repeated = repeated_label(alloc, items)?;
+    let names = broken_names(alloc, roles, items)?;
+    let number = bad_number(alloc, roles, items)?;
+    let large = large_array(alloc, roles, items)?;
+    let last = lesser(number, large);
+    let second = lesser(names, last);
+    Ok(lesser(repeated, second))
+}
+
+/// The least pair of the rules that stand behind it.
+fn broken_last(
+    alloc: Global,
+    roles: &Roles,
+    members: &[Member],
+) -> Result<Option<Broken>, AllocError>
+    ensures { IfOk result (λ b. b ≡ least (rules_last (roles_at roles.now) (map tree_at roles.now.items.now) (members_tree members.now))) }
+{
+    let output = bad_output(alloc, roles)?;
+    let missed = missed_label(alloc, roles, roles.items, members)?;
+    let misused = misused_variable(alloc, roles, members)?;
+    let last = lesser(missed, misused);
+    Ok(lesser(output, last))
+}
+
+/// What is known of statements, or the least of these pairs and of those of the rule on DATA statements.
+fn facts_of<'a>(
+    alloc: Global,
+    roles: &Roles,
+    items: &[&'a Item],
+    others: Option<Broken>,
+) -> Result<Facts<'a>, Refusal>
+    requires { map tree_at roles.now.items.now ≡ map tree_at items.now }
+    ensures exact { IsDecided (with_data (map tree_at items.now) others) result }
+    ensures constants { IfOk result (HasConstants (map tree_at items.now)) }
+    ensures arrays { IfOk result (HasArrays (map tree_at items.now)) }
+    ensures starts { IfOk result (HasStarts (map tree_at items.now)) }
+{
+    let declared = declared_in(alloc, roles)?;
+    match given_by_data(alloc, roles, &declared.arrays, items, others) {
+        Ok(passed) => {
+            let Passed { broken, filling } = passed;
+            match broken {
+                Some(least) => {
+                    drop(filling);
+                    drop(declared);
+                    Err(Refusal::Rule {
+                        rule: least.rule,
+                        line: least.line,
+                    })
+                }
+                None => match filling {
+                    Some(filling) => {
+                        let Filling { marks, starts } = filling;
+                        drop(marks);
+                        let Declared { table, arrays } = declared;
+                        Ok(Facts {
+                            constants: table.values,
+                            arrays,
+                            starts,
+                        })
+                    }
+                    None => {
+                        drop(declared);
+                        Err(Refusal::Memory)
+                    }
+                },
+            }
+        }
+        Err(_) => {
+            drop(declared);
+            Err(Refusal::Memory)
+        }
+    }
+}
+
+/// What is known of a program unit whose statements are these, or the least pair of the rules that it breaks.
+fn judge_items<'a>(alloc: Global, tree: &Tree, items: &[&'a Item]) -> Result<Facts<'a>, Refusal>
+    requires { map tree_at items.now ≡ flatten (nested tree.now) }
+    ensures exact { Gives (λ _. nested tree.now) result (checked (nested tree.now)) }
+    ensures constants { IfOk result (HasConstants (flatten (nested tree.now))) }
+    ensures arrays { IfOk result (HasArrays (flatten (nested tree.now))) }
+    ensures starts { IfOk result (HasStarts (flatten (nested tree.now))) }
+{
+    let roles = Roles::new(alloc, &*items)?;
+    let first = broken_first(alloc, &roles, items)?;
+    let last = broken_last(alloc, &roles, &tree.body)?;
+    let others = lesser(first, last);
+    facts_of(alloc, &roles, items, others)
+}
+
+/// What is known of a program unit, or the least pair of the rules that it breaks.
+pub fn judge(alloc: Global, tree: &Tree) -> Result<Facts<'_>, Refusal>
+    ensures exact { Gives (λ _. nested tree.now) result (checked (nested tree.now)) }
+    ensures constants { IfOk result (HasConstants (flatten (nested tree.now))) }
+    ensures arrays { IfOk result (HasArrays (flatten (nested tree.now))) }
+    ensures starts { IfOk result (HasStarts (flatten (nested tree.now))) }
+{
+    let items = items_of(alloc, tree)?;
+    judge_items(alloc, tree, &items)
+}

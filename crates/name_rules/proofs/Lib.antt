@@ -1,0 +1,3 @@
+pub mod Parting
+pub mod Lettering
+pub mod GivenMore

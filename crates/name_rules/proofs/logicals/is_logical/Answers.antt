@@ -1,0 +1,14 @@
+use Rattle.std.proofs.Common.{◌||◌, ap, ◌∙◌}
+use Rattle.std.specs.List.{list_any}
+use Rattle.meaning.specs.Uses.{is_one_of}
+use Rattle.roles.specs.NameSets.{texts}
+use Rattle.rule_passes.specs.Held.{names_at}
+use Rattle.name_rules.proofs.Parting.{held_same}
+use Rattle.name_rules.proofs.logicals.is_logical.Goals as goal
+
+pub returns : goal.returns
+returns c =
+    let s = c.args.known.now in
+    let ns = names_at c.args.names.now in
+    let fs = names_at c.args.functions.now in
+    c.is_either.ensures ∙ ap (λ b. (list_any (is_one_of (texts s.intrinsics.keys)) ns || b) || list_any (is_one_of (texts s.logicals.keys)) fs) (held_same c.in_ok-here.here.keys fs ns c.in_ok-here.ensures)

@@ -1,0 +1,28 @@
+use Rattle.std.proofs.Common.{◌≡◌, Bool, List, [], ap, ◌∙◌}
+use Rattle.meaning.specs.NameRules.{is_function_use, is_variable_use, names_used}
+use Rattle.meaning.specs.Syntax.{ItemTree, shape_tree}
+use Rattle.meaning.specs.Trees.{item_tree}
+use Rattle.meaning.specs.Uses.{parts_at, parts_from}
+use Rattle.roles.specs.RolesAt.{roles_at}
+use Rattle.rule_passes.specs.Held.{names_at}
+use Rattle.rule_passes.specs.UsesIn.{reads_in, uses_in}
+use Rattle.rule_passes.proofs.Answering.{ok_then}
+use Rattle.name_rules.specs.Disputed.{is_used_twofold}
+use Rattle.name_rules.specs.HeldNames.{IsTwofold, KnowsUsed}
+use Rattle.name_rules.proofs.Parting.{both_is}
+use Rattle.name_rules.proofs.twofold.TwofoldBehind.is_broken.Goals as goal
+
+pub returns : goal.returns
+returns c = ok_then
+    (IsTwofold c.args.self.now c.deref.result.now c.deref-2.result.now)
+    (λ (b : Bool). (before : List ItemTree) → KnowsUsed c.args.self.now before → b ≡ is_used_twofold (roles_at c.args.self.now.roles.now) before (item_tree c.args.item.now))
+    c.is_both.result c.is_both.ensures
+    (λ b both before known.
+    let s = c.args.self.now in
+    let roles = roles_at s.roles.now in
+    let shape = shape_tree c.args.item.now.form.shape in
+    let x = item_tree c.args.item.now in
+    let defines = c.is_defining-defines.ensures before known.stage in
+    let variables = c.in_ok-variables.ensures ∙ ap (λ b. names_used (is_variable_use roles) (uses_in roles b shape)) defines in
+    let functions = c.in_ok-functions.ensures ∙ ap (λ b. names_used (is_function_use roles) (reads_in roles b shape)) defines in
+    both ∙ both_is roles (parts_from roles [] before) (parts_at roles before x) s.variables.keys s.functions.keys (names_at c.deref.result.now) (names_at c.deref-2.result.now) known.variables_held known.functions_held (ap names_at c.deref.ensures.value ∙ variables) (ap names_at c.deref-2.ensures.value ∙ functions))

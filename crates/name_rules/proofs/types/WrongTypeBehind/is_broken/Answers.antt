@@ -1,0 +1,9 @@
+use Rattle.std.proofs.Common.{ap, ◌∙◌}
+use Rattle.meaning.specs.Syntax.{shape_tree}
+use Rattle.meaning.specs.Typing.{has_wrong_type}
+use Rattle.roles.specs.RolesAt.{roles_at}
+use Rattle.name_rules.proofs.types.WrongTypeBehind.is_broken.Goals as goal
+
+pub returns : goal.returns
+returns c = λ before known.
+    c.has_wrong_type.ensures ∙ ap (λ d. has_wrong_type (roles_at c.args.self.now.roles.now).names d (shape_tree c.args.item.now.form.shape)) (c.is_defining-defines.ensures before known)

@@ -1,0 +1,5 @@
+pub mod HeldNames
+pub mod GivenAt
+pub mod Lettered
+pub mod Disputed
+pub mod NamesIn

@@ -1,0 +1,178 @@
+//! Names that are used as variables and as functions (ANSI X3.9-1978, 18.2).
+
+ghost use Rattle.std.specs.Prelude.{◌≡◌, IfOk, OnOk};
+ghost use Rattle.meaning.specs.NameRules.{is_function_use as is_function_use_by, is_variable_use as is_variable_use_by};
+ghost use Rattle.meaning.specs.Refusals.{least};
+ghost use Rattle.roles.specs.NameSets.{texts};
+ghost use Rattle.roles.specs.RolesAt.{roles_at};
+ghost use Rattle.name_rules.specs.Disputed.{is_used_twofold};
+ghost use Rattle.rule_passes.specs.Held.{AreNames, Joins};
+ghost use Rattle.rule_passes.specs.Telling.{IsLeast};
+ghost use Rattle.name_rules.specs.HeldNames.{IsTwofold, KnowsUsed, functions_at, is_twofold, variables_at};
+
+use indexmap::IndexSet;
+use meaning::refusal::{Broken, Rule};
+use meaning::syntax::{Item, Shape};
+use roles::{NameUse, Roles, Sought, Stage, is_other_name};
+use rule_passes::{
+    Behind, add_names, has_seen, is_bare, is_function_use, least_told, names_passing, reads_of,
+    set_of, uses_of,
+};
+use std::alloc::{AllocError, Global};
+
+/// A use as a variable.
+#[derive(Clone, Copy)]
+struct VariableUse<'a> {
+    roles: &'a Roles<'a>,
+}
+
+impl Sought for VariableUse<'_> {
+    ghost is_use = { λ s u. is_variable_use_by (roles_at s.roles.now) u };
+
+    fn is(&self, one: &NameUse) -> bool {
+        is_other_name(self.roles, one.name) && is_bare(one.arguments)
+    }
+}
+
+/// A use as a function.
+#[derive(Clone, Copy)]
+struct FunctionUse<'a> {
+    roles: &'a Roles<'a>,
+}
+
+impl Sought for FunctionUse<'_> {
+    ghost is_use = { λ s u. is_function_use_by (roles_at s.roles.now) u };
+
+    fn is(&self, one: &NameUse) -> bool {
+        is_function_use(self.roles, one)
+    }
+}
+
+/// The names that a statement uses as variables.
+fn variables_in<'a>(
+    alloc: Global,
+    roles: &Roles,
+    defines: bool,
+    shape: &'a Shape,
+) -> Result<Vec<&'a [u8]>, AllocError>
+    ensures { IfOk result (AreNames (variables_at roles.now defines shape.now)) }
+{
+    let uses = uses_of(alloc, roles, defines, shape)?;
+    names_passing(alloc, &uses, &VariableUse { roles })
+}
+
+/// Those that it uses as functions.
+fn functions_in<'a>(
+    alloc: Global,
+    roles: &Roles,
+    defines: bool,
+    shape: &'a Shape,
+) -> Result<Vec<&'a [u8]>, AllocError>
+    ensures { IfOk result (AreNames (functions_at roles.now defines shape.now)) }
+{
+    let reads = reads_of(alloc, roles, defines, shape)?;
+    names_passing(alloc, &reads, &FunctionUse { roles })
+}
+
+/// Puts the names that a statement uses as variables to those that were seen.
+fn add_variables(
+    seen: &mut IndexSet<Vec<u8>>,
+    alloc: Global,
+    roles: &Roles,
+    defines: bool,
+    shape: &Shape,
+) -> Result<(), AllocError>
+    ensures { OnOk result (Joins seen.old seen.new (variables_at roles.now defines shape.now)) }
+{
+    let names = variables_in(alloc, roles, defines, shape)?;
+    add_names(seen, alloc, &names)
+}
+
+/// Puts those that it uses as functions to them.
+fn add_functions(
+    seen: &mut IndexSet<Vec<u8>>,
+    alloc: Global,
+    roles: &Roles,
+    defines: bool,
+    shape: &Shape,
+) -> Result<(), AllocError>
+    ensures { OnOk result (Joins seen.old seen.new (functions_at roles.now defines shape.now)) }
+{
+    let names = functions_in(alloc, roles, defines, shape)?;
+    add_names(seen, alloc, &names)
+}
+
+/// Whether a name is used as a variable and as a function, one of them here.
+fn is_either(
+    known: &Twofold,
+    here: &IndexSet<Vec<u8>>,
+    variables: &[&[u8]],
+    functions: &[&[u8]],
+) -> bool
+    ensures { result ≡ is_twofold known.now (texts here.now.keys) variables.now functions.now }
+{
+    has_seen(&known.functions, variables)
+        || has_seen(here, variables)
+        || has_seen(&known.variables, functions)
+}
+
+/// Whether a name is used as a variable and as a function: in a statement, or in it and in those before.
+fn is_both(known: &Twofold, variables: &[&[u8]], functions: &[&[u8]]) -> Result<bool, AllocError>
+    ensures { IfOk result (IsTwofold known.now variables.now functions.now) }
+{
+    let here = set_of(known.alloc, functions)?;
+    Ok(is_either(known, &here, variables, functions))
+}
+
+/// The rule on such names.
+#[derive(Drop)]
+pub struct Twofold<'a> {
+    alloc: Global,
+    roles: &'a Roles<'a>,
+    stage: Stage,
+    /// The names that are used as variables.
+    variables: IndexSet<Vec<u8>>,
+    /// Those that are used as functions.
+    functions: IndexSet<Vec<u8>>,
+}
+
+impl Behind for Twofold<'_> {
+    ghost breaks = { λ s before x. is_used_twofold (roles_at s.roles.now) before x };
+
+    ghost knows = { λ s before. KnowsUsed s before };
+
+    fn is_broken(&self, item: &Item) -> Result<bool, AllocError> {
+        let defines = self.stage.is_defining(self.roles, item);
+        let shape = &item.form.shape;
+        let variables = variables_in(self.alloc, self.roles, defines, shape)?;
+        let functions = functions_in(self.alloc, self.roles, defines, shape)?;
+        is_both(self, &variables, &functions)
+    }
+
+    fn pass(&mut self, item: &Item) -> Result<(), AllocError> {
+        let defines = self.stage.is_defining(self.roles, item);
+        let shape = &item.form.shape;
+        add_variables(&mut self.variables, self.alloc, self.roles, defines, shape)?;
+        add_functions(&mut self.functions, self.alloc, self.roles, defines, shape)?;
+        self.stage.pass(self.roles, item);
+        Ok(())
+    }
+}
+
+/// The least line at which a name is used in both ways.
+pub fn used_twofold(
+    alloc: Global,
+    roles: &Roles,
+    items: &[&Item],
+) -> Result<Option<Broken>, AllocError>
+    ensures { IfOk result (IsLeast (is_used_twofold (roles_at roles.now)) Rule.K4 items.now) }
+{
+    let mut twofold = Twofold {
+        alloc,
+        roles,
+        stage: Stage::new(),
+        variables: IndexSet::new(alloc),
+        functions: IndexSet::new(alloc),
+    };
+    least_told(&mut twofold, Rule::K4, items)
+}

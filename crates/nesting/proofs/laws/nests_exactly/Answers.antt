@@ -1,6 +1,0 @@
-use Rattle.nesting.proofs.Read.{read_nests}
-use Rattle.nesting.proofs.Complete.{nests_read}
-use Rattle.nesting.proofs.laws.nests_exactly.Goals as goal
-
-pub returns : goal.returns
-returns c = λ items t. (read_nests items t, nests_read items t)

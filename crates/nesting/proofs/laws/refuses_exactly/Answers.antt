@@ -1,5 +1,0 @@
-use Rattle.nesting.proofs.Refused.{refused_of, refused_is}
-use Rattle.nesting.proofs.laws.refuses_exactly.Goals as goal
-
-pub returns : goal.returns
-returns c = λ items b. (refused_of items b, refused_is items b)

@@ -1,5 +1,0 @@
-use Rattle.nesting.proofs.RuleTold.{told_of, told_is}
-use Rattle.nesting.proofs.laws.rule_told.Goals as goal
-
-pub returns : goal.returns
-returns c = λ items b. (told_of items b, told_is items b)

@@ -1,0 +1,16 @@
+pub mod Joined
+pub mod Names
+pub mod Clear
+pub mod Sound
+pub mod Passed
+pub mod Ordered
+pub mod Read
+pub mod Fits
+pub mod Goes
+pub mod Complete
+pub mod Viable
+pub mod Least
+pub mod Refused
+pub mod Balance
+pub mod Behind
+pub mod RuleTold

@@ -1,0 +1,11 @@
+pub mod Flattened
+pub mod Passes
+pub mod Firsts
+pub mod Ranking
+pub mod Defining
+pub mod NameSets
+pub mod Valued
+pub mod Naming
+pub mod Reading
+pub mod Staging
+pub mod Mistyping

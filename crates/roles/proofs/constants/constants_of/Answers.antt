@@ -1,0 +1,11 @@
+use Rattle.std.proofs.Common.{[], map}
+use Rattle.meaning.specs.Scopes.{constants_in}
+use Rattle.meaning.specs.Uses.{defined_constants}
+use Rattle.roles.specs.Listed.{tree_at, trees_at}
+use Rattle.roles.proofs.Valued.{constants_law}
+use Rattle.roles.proofs.NameSets.{names_more}
+use Rattle.roles.proofs.constants.constants_of.Goals as goal
+
+pub loop-item-preserved : goal.loop-item-preserved
+loop-item-preserved c =
+    names_more (λ ms. defined_constants (trees_at ms)) (λ m. map (λ x. x.name) (constants_in (tree_at m).shape)) constants_law c.args.items.now c.loop-item.item-index c.item-item.result [] _ _ c.loop-item-test.true c.item-item.is c.loop-item.invariant c.in_ok-add_constants_in.ensures

@@ -1,0 +1,10 @@
+use Rattle.std.proofs.Common.{None}
+use Rattle.meaning.specs.Types.{declared_by, typed_in}
+use Rattle.roles.specs.TypedNames.{typed_names}
+use Rattle.roles.specs.Listed.{tree_at, trees_at}
+use Rattle.roles.proofs.Firsts.{first_more, typed_names_law}
+use Rattle.roles.proofs.declared.types_declared.Goals as goal
+
+pub loop-item-preserved : goal.loop-item-preserved
+loop-item-preserved c =
+    λ n. first_more (λ ms. declared_by (typed_names (trees_at ms)) n) (λ m. declared_by (typed_in (tree_at m).shape) n) (typed_names_law n) c.args.items.now c.loop-item.item-index c.item-item.result None _ _ c.loop-item-test.true c.item-item.is (c.loop-item.invariant n) (c.in_ok-add_types_in.ensures n)

@@ -1,0 +1,13 @@
+use Rattle.std.proofs.Common.{[], ap, ◌∙◌}
+use Rattle.std.specs.List.{list_any}
+use Rattle.std.specs.Str.{bytes_eq}
+use Rattle.meaning.specs.Uses.{defined_constants}
+use Rattle.roles.specs.Listed.{trees_at}
+use Rattle.roles.proofs.NameSets.{any_with_names}
+use Rattle.roles.proofs.names.is_constant_name.Goals as goal
+
+pub returns : goal.returns
+returns c =
+    let roles = c.args.roles.now in
+    c.has_name.ensures ∙ ap (list_any (bytes_eq c.args.name.now)) roles.valued
+    ∙ any_with_names [] (defined_constants (trees_at roles.items.now)) c.args.name.now

@@ -1,0 +1,36 @@
+//! What the statements of a program unit say of names (ANSI X3.9-1978, chapters 4, 5, 6, 8 and 15).
+#![tactic(auto)]
+
+mod arrays;
+mod constants;
+mod declared;
+mod functions;
+mod hiding;
+mod intrinsics;
+mod items;
+mod keeping;
+mod mistyped;
+mod names;
+mod sets;
+mod stage;
+mod statements;
+mod typing;
+mod uses;
+
+pub use arrays::{Ranks, declarators_in, has_rank, rank};
+pub use declared::{Types, data_type};
+pub use functions::{Function, defined_by, functions_of, is_specification};
+pub use hiding::{Outside, Shown};
+pub use intrinsics::is_intrinsic;
+pub use items::items_of;
+pub use keeping::add_first;
+pub use mistyped::has_wrong_type;
+pub use names::{
+    Roles, function_named, is_array_name, is_constant_name, is_function_name, is_other_name,
+    letter_types_of, rank_of_name, type_of_name,
+};
+pub use sets::{add_name, add_names_passing, has_name};
+pub use stage::Stage;
+pub use statements::{add_reads, set_by};
+pub use typing::{is_mistyped, type_of};
+pub use uses::{Arguments, NameUse, Sought, add_uses, has_passing};

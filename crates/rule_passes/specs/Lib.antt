@@ -1,0 +1,4 @@
+pub mod Listed
+pub mod Held
+pub mod Telling
+pub mod UsesIn

@@ -1,0 +1,5 @@
+      LOGICAL P,Q
+      PARAMETER (P=.TRUE..OR.1/0.EQ.1,Q=.FALSE..AND.2**31.EQ.0)
+      WRITE (6,10) P,Q
+   10 FORMAT (L1,L2)
+      END

@@ -1,0 +1,2 @@
+      DIMENSION X(3:2)
+      END

@@ -1,0 +1,3 @@
+      INTEGER A(3)
+      DIMENSION A(3:2)
+      END

@@ -1,0 +1,4 @@
+      INTEGER M
+      PARAMETER (N=M)
+      M=1
+      END

@@ -1,0 +1,2 @@
+      PARAMETER (N=M+1,M=1)
+      END

@@ -1,0 +1,2 @@
+      PARAMETER (N=N+1)
+      END

@@ -1,0 +1,2 @@
+      PARAMETER (N=IABS(-1))
+      END

@@ -1,0 +1,3 @@
+      INTEGER A(3)
+      PARAMETER (N=A(1))
+      END

@@ -1,0 +1,2 @@
+      PARAMETER (N=1/0)
+      END

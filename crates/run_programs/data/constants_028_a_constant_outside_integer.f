@@ -1,0 +1,2 @@
+      PARAMETER (N=2147483647+1)
+      END

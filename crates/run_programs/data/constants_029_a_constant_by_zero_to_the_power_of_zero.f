@@ -1,0 +1,3 @@
+      PARAMETER (K=0)
+      PARAMETER (N=K**K)
+      END

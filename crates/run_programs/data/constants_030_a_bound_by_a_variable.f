@@ -1,0 +1,3 @@
+      INTEGER A(N)
+      N=3
+      END

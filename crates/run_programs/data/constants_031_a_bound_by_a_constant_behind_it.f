@@ -1,0 +1,3 @@
+      INTEGER A(N)
+      PARAMETER (N=3)
+      END

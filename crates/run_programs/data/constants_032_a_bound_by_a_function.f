@@ -1,0 +1,2 @@
+      INTEGER A(MAX(1,2))
+      END

@@ -1,0 +1,2 @@
+      INTEGER A(J(1))
+      END

@@ -1,0 +1,3 @@
+      INTEGER B
+      DIMENSION B(2,1,1,1,1,1,1,2)
+      END

@@ -1,0 +1,2 @@
+      INTEGER A(3:2)
+      END

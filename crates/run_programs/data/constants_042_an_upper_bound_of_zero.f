@@ -1,0 +1,2 @@
+      INTEGER A(0)
+      END

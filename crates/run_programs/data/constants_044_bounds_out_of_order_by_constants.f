@@ -1,0 +1,3 @@
+      PARAMETER (N=3,M=N-1)
+      LOGICAL L(N:M)
+      END

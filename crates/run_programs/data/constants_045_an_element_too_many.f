@@ -1,0 +1,2 @@
+      INTEGER A(1048577)
+      END

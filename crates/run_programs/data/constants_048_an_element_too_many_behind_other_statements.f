@@ -1,0 +1,4 @@
+      INTEGER A(1048575)
+      LOGICAL L
+      DIMENSION L(2)
+      END

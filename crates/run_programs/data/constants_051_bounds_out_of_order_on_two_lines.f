@@ -1,0 +1,4 @@
+      PARAMETER (N=1)
+      INTEGER A(2:N)
+      INTEGER B(3:N)
+      END

@@ -1,0 +1,3 @@
+      INTEGER A(2:1)
+      I=J(1)
+      END

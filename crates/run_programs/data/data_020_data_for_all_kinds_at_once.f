@@ -1,0 +1,7 @@
+      LOGICAL L(2),NO
+      PARAMETER (N=2,NO=.FALSE.,MINUS=-N)
+      INTEGER A(N,N),B(MINUS:0)
+      DATA ((A(I,J),I=1,J),J=1,N),L/N*1,MINUS,NO,.TRUE./B/3*MINUS/,K/N/
+      WRITE (6,10) A,L,B,K
+   10 FORMAT (4I3,2L3,4I3)
+      END

@@ -1,0 +1,3 @@
+      PARAMETER (N=1)
+      DATA I/-N/
+      END

@@ -1,0 +1,2 @@
+      DATA X/.TRUE./
+      END

@@ -1,0 +1,3 @@
+      ISQ(N)=N*N
+      DATA ISQ/1/
+      END

@@ -1,0 +1,3 @@
+      INTEGER A(3)
+      DATA ((A(I),I=1,2),I=1,1)/2*1/
+      END

@@ -1,0 +1,3 @@
+      INTEGER A(1048576)
+      DATA A/1048575*7/
+      END

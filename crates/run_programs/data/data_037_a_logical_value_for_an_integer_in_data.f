@@ -1,0 +1,2 @@
+      DATA I/.TRUE./
+      END

@@ -1,0 +1,3 @@
+      LOGICAL L
+      DATA L/1/
+      END

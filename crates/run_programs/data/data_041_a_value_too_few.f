@@ -1,0 +1,2 @@
+      DATA I,J/1/
+      END

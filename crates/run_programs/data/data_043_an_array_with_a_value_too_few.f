@@ -1,0 +1,3 @@
+      INTEGER A(3)
+      DATA A/2*0/
+      END

@@ -1,0 +1,4 @@
+      LOGICAL YES
+      PARAMETER (YES=.TRUE.)
+      DATA I/YES*5/
+      END

@@ -1,0 +1,2 @@
+      DATA I/J*5/
+      END

@@ -1,0 +1,3 @@
+      DATA J/3/
+      DATA I/J/
+      END

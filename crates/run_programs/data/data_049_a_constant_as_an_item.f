@@ -1,0 +1,3 @@
+      PARAMETER (N=1)
+      DATA N/1/
+      END

@@ -1,0 +1,3 @@
+      INTEGER A(3)
+      DATA A(I)/1/
+      END

@@ -1,0 +1,3 @@
+      INTEGER A(3)
+      DATA A(2147483647+1)/1/
+      END

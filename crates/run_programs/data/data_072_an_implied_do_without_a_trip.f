@@ -1,0 +1,3 @@
+      INTEGER A(3)
+      DATA (A(I),I=2,1)/1/
+      END

@@ -1,0 +1,3 @@
+      INTEGER A(3)
+      DATA A(NEXT(1))/1/
+      END

@@ -1,0 +1,4 @@
+      INTEGER A(3)
+      DATA A/2*1/
+      DATA I/.TRUE./
+      END

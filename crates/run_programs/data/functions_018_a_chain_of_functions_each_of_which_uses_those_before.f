@@ -1,0 +1,9 @@
+      INTEGER PENTA,SQUARE
+      ITRI(N)=N*(N+1)/2
+      SQUARE(N)=ITRI(N)+ITRI(N-1)
+      PENTA(N)=SQUARE(N)+ITRI(N-1)
+      IHEX(N)=PENTA(N)+ITRI(N-1)
+      DO 10 I=1,5
+   10 WRITE (6,20) I,ITRI(I),SQUARE(I),PENTA(I),IHEX(I)
+   20 FORMAT (5I4)
+      END

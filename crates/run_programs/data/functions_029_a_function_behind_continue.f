@@ -1,0 +1,3 @@
+      CONTINUE
+      M(J)=J
+      END

@@ -1,0 +1,4 @@
+      WRITE (6,10)
+      M()=1
+   10 FORMAT ('A')
+      END

@@ -1,0 +1,2 @@
+      IFAC(N)=N*IFAC(N-1)
+      END

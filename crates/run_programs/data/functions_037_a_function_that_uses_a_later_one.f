@@ -1,0 +1,3 @@
+      ICUBE(N)=N*ISQ(N)
+      ISQ(N)=N*N
+      END

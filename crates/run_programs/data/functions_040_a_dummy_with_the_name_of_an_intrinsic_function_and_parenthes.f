@@ -1,0 +1,2 @@
+      M(MOD)=MOD(7,3)
+      END

@@ -1,0 +1,3 @@
+      INTEGER A(3)
+      M(A)=A(1)
+      END

@@ -1,0 +1,3 @@
+      WRITE (IABS(-6),10) 1
+   10 FORMAT (I3)
+      END

@@ -1,0 +1,3 @@
+      WRITE (6/0,10) 1
+   10 FORMAT (I3)
+      END

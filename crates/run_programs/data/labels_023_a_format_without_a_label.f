@@ -1,0 +1,2 @@
+      FORMAT (I3)
+      END

@@ -1,0 +1,2 @@
+   10 FORMAT (I0)
+      END

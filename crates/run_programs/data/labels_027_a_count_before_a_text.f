@@ -1,0 +1,2 @@
+   10 FORMAT (2'AB')
+      END

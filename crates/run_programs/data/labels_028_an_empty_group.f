@@ -1,0 +1,2 @@
+   10 FORMAT (I3,())
+      END

@@ -1,0 +1,2 @@
+      PRINT 'I3',1
+      END

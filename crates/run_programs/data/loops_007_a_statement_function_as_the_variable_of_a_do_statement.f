@@ -1,0 +1,4 @@
+      ISQ(N)=N*N
+      DO 10 ISQ=1,3
+   10 CONTINUE
+      END

@@ -1,0 +1,10 @@
+      IMPLICIT LOGICAL (A-H), INTEGER (X-Z)
+      INTEGER COUNT
+      LOGICAL K
+      COUNT=2
+      K=COUNT.EQ.2
+      FLAG=.NOT.K
+      X=COUNT+1
+      WRITE (6,10) COUNT,K,FLAG,X
+   10 FORMAT (I3,2L3,I3)
+      END

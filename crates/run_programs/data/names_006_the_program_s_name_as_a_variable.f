@@ -1,0 +1,5 @@
+      PROGRAM I
+      I=5
+      WRITE (6,10) I
+   10 FORMAT (I2)
+      END

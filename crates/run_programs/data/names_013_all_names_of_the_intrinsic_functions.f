@@ -1,0 +1,5 @@
+      I=ABS(-1)+IABS(-2)+MOD(7,4)+MAX(1,4)+MAX0(2,5)+MIN(6,9)+MIN0(7,9)
+      J=SIGN(8,1)+ISIGN(9,1)+DIM(12,2)+IDIM(12,1)
+      WRITE (6,10) I,J
+   10 FORMAT (2I5)
+      END

@@ -1,0 +1,3 @@
+      DIMENSION X(3)
+      X(1)=1
+      END

@@ -1,0 +1,3 @@
+      PARAMETER (PI=3)
+      I=PI
+      END

@@ -1,0 +1,2 @@
+      ISUM(A,B)=A+B
+      END

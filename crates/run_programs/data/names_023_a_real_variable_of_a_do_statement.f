@@ -1,0 +1,3 @@
+      DO 10 X=1,3
+   10 CONTINUE
+      END

@@ -1,0 +1,3 @@
+      INTEGER A
+      DATA A,B/1,2/
+      END

@@ -1,0 +1,4 @@
+      IMPLICIT LOGICAL (A-H)
+      LOGICAL O
+      P=.TRUE.
+      END

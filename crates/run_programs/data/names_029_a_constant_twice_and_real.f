@@ -1,0 +1,2 @@
+      PARAMETER (X=1,X=2)
+      END

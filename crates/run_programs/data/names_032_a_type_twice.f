@@ -1,0 +1,3 @@
+      INTEGER I,J,I
+      I=1
+      END

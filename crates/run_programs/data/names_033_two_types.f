@@ -1,0 +1,3 @@
+      INTEGER I
+      LOGICAL I
+      END

@@ -1,0 +1,3 @@
+      PARAMETER (N=3,M=4)
+      PARAMETER (L=5,N=3)
+      END

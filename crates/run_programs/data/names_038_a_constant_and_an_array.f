@@ -1,0 +1,3 @@
+      PARAMETER (N=3)
+      DIMENSION N(3)
+      END

@@ -1,0 +1,4 @@
+      PARAMETER (N=3)
+      N(I)=2*I
+      J=4
+      END

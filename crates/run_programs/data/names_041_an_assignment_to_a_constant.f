@@ -1,0 +1,3 @@
+      PARAMETER (N=3)
+      N=N+1
+      END

@@ -1,0 +1,3 @@
+      PARAMETER (N=3)
+      I=N(1)
+      END

@@ -1,0 +1,3 @@
+      ISQ(N)=N*N
+      ISQ=3
+      END

@@ -1,0 +1,3 @@
+      ISQ(N)=N*N
+      I=ISQ+1
+      END

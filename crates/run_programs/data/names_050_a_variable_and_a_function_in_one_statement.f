@@ -1,0 +1,2 @@
+      I=MOD(MOD,3)
+      END

@@ -1,0 +1,3 @@
+      LOGICAL MOD
+      I=MOD(5,3)
+      END

@@ -1,0 +1,3 @@
+      IMPLICIT INTEGER (A-C), LOGICAL (C-E)
+      I=1
+      END

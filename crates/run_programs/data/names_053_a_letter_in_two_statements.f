@@ -1,0 +1,4 @@
+      IMPLICIT INTEGER (A-C)
+      IMPLICIT LOGICAL (P,Q)
+      IMPLICIT INTEGER (B)
+      END

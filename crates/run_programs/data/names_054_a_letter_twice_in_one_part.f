@@ -1,0 +1,2 @@
+      IMPLICIT LOGICAL (L,P,L)
+      END

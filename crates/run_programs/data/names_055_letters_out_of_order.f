@@ -1,0 +1,2 @@
+      IMPLICIT INTEGER (Z-A)
+      END

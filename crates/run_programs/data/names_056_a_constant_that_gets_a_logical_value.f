@@ -1,0 +1,3 @@
+      PARAMETER (N=1)
+      N=.TRUE.
+      END

@@ -1,0 +1,4 @@
+      INTEGER A(3),B(2)
+      DIMENSION A(3),C(2147483648)
+      INTEGER C
+      END

@@ -1,0 +1,3 @@
+      INTEGER A(3),B(2147483648)
+      DIMENSION A(3)
+      END

@@ -1,0 +1,3 @@
+      INTEGER A(2,3)
+      I=A(1)
+      END

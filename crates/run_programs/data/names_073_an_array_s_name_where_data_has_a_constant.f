@@ -1,0 +1,3 @@
+      INTEGER A(3)
+      DATA I/A/
+      END

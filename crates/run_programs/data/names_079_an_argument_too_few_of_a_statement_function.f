@@ -1,0 +1,3 @@
+      IADD(M,N)=M+N
+      I=IADD(1)
+      END

@@ -1,0 +1,3 @@
+      NINE()=9
+      I=NINE(1)
+      END

@@ -1,0 +1,3 @@
+      IADD(M,N)=M+N
+      ITWO(N)=IADD(N,N,N)
+      END

@@ -1,0 +1,4 @@
+      INTEGER A(3)
+      I=A(1,2)
+      I=A()
+      END

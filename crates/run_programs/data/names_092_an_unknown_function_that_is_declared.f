@@ -1,0 +1,3 @@
+      INTEGER FOO
+      I=FOO(1)
+      END

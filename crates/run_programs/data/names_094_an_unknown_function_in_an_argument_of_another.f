@@ -1,0 +1,2 @@
+      I=MAX(1,LAST(3))
+      END

@@ -1,0 +1,2 @@
+      ITWO(N)=2*LAST(N)
+      END

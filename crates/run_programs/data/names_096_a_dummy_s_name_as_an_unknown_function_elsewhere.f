@@ -1,0 +1,3 @@
+      ISQ(J)=J*J
+      I=J(2)
+      END

@@ -1,0 +1,10 @@
+      LOGICAL P,Q
+      P=.TRUE.
+      Q=.FALSE.
+      WRITE (6,10) P.AND.P,P.AND.Q,Q.AND.P,Q.AND.Q
+      WRITE (6,10) P.OR.P,P.OR.Q,Q.OR.P,Q.OR.Q
+      WRITE (6,10) P.EQV.P,P.EQV.Q,Q.EQV.P,Q.EQV.Q
+      WRITE (6,10) P.NEQV.P,P.NEQV.Q,Q.NEQV.P,Q.NEQV.Q
+      WRITE (6,10) .NOT.P,.NOT.Q,.NOT.(.NOT.P),.NOT.P.OR.P
+   10 FORMAT (4L2)
+      END

@@ -1,0 +1,9 @@
+      LOGICAL P,Q
+      P=.TRUE.
+      Q=.FALSE.
+      WRITE (6,10) P.OR.P.AND.Q,(P.OR.P).AND.Q,.NOT.Q.AND.Q
+      WRITE (6,10) Q.EQV.Q.OR.P,(Q.EQV.Q).OR.P,P.EQV.Q.EQV.Q
+      WRITE (6,10) P.NEQV.P.NEQV.P,.NOT.(Q.AND.Q),.NOT.1.GT.2
+      WRITE (6,10) 1+1.EQ.2.AND.3.LT.2*2,Q.NEQV.P.AND.Q,P.OR.Q.EQV.Q
+   10 FORMAT (3L2)
+      END

@@ -1,0 +1,3 @@
+      WRITE (6,10) ABS(5),ABS(-5),IABS(0),IABS(-2147483647)
+   10 FORMAT (4I11)
+      END

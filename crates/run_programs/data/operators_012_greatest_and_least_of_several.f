@@ -1,0 +1,6 @@
+      I=4
+      WRITE (6,10) MAX(1,2),MAX0(2,1),MAX(-1,-2),MAX0(3,9,4),MAX(I,I,7)
+      WRITE (6,10) MIN(1,2),MIN0(2,1),MIN(-1,-2),MIN0(3,9,4),MIN(I,I,7)
+      WRITE (6,10) MAX0(1,2,3,4,5,6,7,8,9,10,11),MIN(MAX(I,5),MAX(I,6))
+   10 FORMAT (5I3)
+      END

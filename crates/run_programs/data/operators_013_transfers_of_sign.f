@@ -1,0 +1,4 @@
+      WRITE (6,10) SIGN(5,2),SIGN(5,-2),SIGN(-5,2),SIGN(-5,-2)
+      WRITE (6,10) ISIGN(5,0),ISIGN(-5,0),ISIGN(0,-3),ISIGN(-7,-1)
+   10 FORMAT (4I3)
+      END

@@ -1,0 +1,4 @@
+      WRITE (6,10) DIM(7,2),DIM(2,7),DIM(3,3),DIM(-2,-7),DIM(-7,-2)
+      WRITE (6,10) IDIM(5,-5),IDIM(-5,5),IDIM(0,0),IDIM(1,0),IDIM(0,1)
+   10 FORMAT (5I3)
+      END

@@ -1,0 +1,5 @@
+      INTEGER MOD,ABS,X
+      X=-13
+      WRITE (6,10) ABS(MOD(X,5)),MAX(ABS(X),MIN(X,0)),MOD(MOD(X,7),4)
+   10 FORMAT (3I4)
+      END

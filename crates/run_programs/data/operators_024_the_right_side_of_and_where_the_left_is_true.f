@@ -1,0 +1,3 @@
+      LOGICAL L
+      L=.TRUE..AND.1/K.EQ.1
+      END

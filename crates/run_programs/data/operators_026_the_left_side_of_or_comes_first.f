@@ -1,0 +1,3 @@
+      LOGICAL L
+      L=1/K.EQ.1.OR..TRUE.
+      END

@@ -1,0 +1,4 @@
+      INTEGER A(65537)
+      WRITE (6,10) A
+   10 FORMAT (L1)
+      END

@@ -1,0 +1,3 @@
+      INTEGER A(3,3)
+      I=A(9,1/K)
+      END

@@ -1,0 +1,3 @@
+      INTEGER A(3,3)
+      I=A(1/K,9)
+      END

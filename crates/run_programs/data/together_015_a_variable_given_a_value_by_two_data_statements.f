@@ -1,0 +1,3 @@
+      DATA I/1/
+      DATA I/2/
+      END

@@ -1,0 +1,3 @@
+      PARAMETER (X=1)
+      IMPLICIT INTEGER (Z-A)
+      END

@@ -1,0 +1,3 @@
+      LOGICAL L,MOD
+      L=MOD(5,3).EQ.2
+      END

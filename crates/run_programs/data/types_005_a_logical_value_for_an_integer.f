@@ -1,0 +1,2 @@
+      I=.TRUE.
+      END

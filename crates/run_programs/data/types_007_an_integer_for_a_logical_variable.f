@@ -1,0 +1,3 @@
+      LOGICAL L
+      L=1
+      END

@@ -1,0 +1,3 @@
+      LOGICAL L(3)
+      L(2)=0
+      END

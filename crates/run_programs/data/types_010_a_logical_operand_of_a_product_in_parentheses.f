@@ -1,0 +1,3 @@
+      LOGICAL L
+      I=2*(L)
+      END

@@ -1,0 +1,3 @@
+      LOGICAL L
+      I=-L
+      END

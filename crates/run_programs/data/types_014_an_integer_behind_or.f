@@ -1,0 +1,3 @@
+      LOGICAL L
+      L=.TRUE..OR.I
+      END

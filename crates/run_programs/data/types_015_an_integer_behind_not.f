@@ -1,0 +1,3 @@
+      LOGICAL L
+      L=.NOT.I
+      END

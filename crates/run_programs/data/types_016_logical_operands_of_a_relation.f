@@ -1,0 +1,3 @@
+      LOGICAL L,M
+      L=L.EQ.M
+      END

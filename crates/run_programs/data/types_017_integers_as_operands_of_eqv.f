@@ -1,0 +1,3 @@
+      LOGICAL L
+      L=I.EQV.J
+      END

@@ -1,0 +1,2 @@
+      I=MOD(.TRUE.,2)
+      END

@@ -1,0 +1,2 @@
+      INTEGER A(.TRUE.)
+      END

@@ -1,0 +1,2 @@
+      INTEGER A(1.EQ.1:3)
+      END

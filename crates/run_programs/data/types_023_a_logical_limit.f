@@ -1,0 +1,3 @@
+      DO 10 I=1,.TRUE.
+   10 CONTINUE
+      END

@@ -1,0 +1,2 @@
+      PARAMETER (N=.TRUE.)
+      END

@@ -1,0 +1,3 @@
+      LOGICAL T
+      PARAMETER (T=1)
+      END

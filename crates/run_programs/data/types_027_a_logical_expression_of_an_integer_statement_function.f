@@ -1,0 +1,2 @@
+      ISONE(N)=N.EQ.1
+      END

@@ -1,0 +1,3 @@
+      LOGICAL ODD
+      ODD(N)=MOD(N,2)
+      END

@@ -1,0 +1,3 @@
+      ISQ(N)=N*N
+      I=ISQ(.TRUE.)
+      END

@@ -1,0 +1,3 @@
+      LOGICAL P
+      ITWO(P)=2*P
+      END

@@ -1,0 +1,3 @@
+      WRITE (5+.TRUE.,10) 1
+   10 FORMAT (I3)
+      END

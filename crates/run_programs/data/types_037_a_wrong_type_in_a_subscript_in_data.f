@@ -1,0 +1,3 @@
+      INTEGER A(3)
+      DATA A(.TRUE.)/1/
+      END

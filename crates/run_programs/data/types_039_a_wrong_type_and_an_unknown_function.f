@@ -1,0 +1,2 @@
+      I=J(1).AND..TRUE.
+      END

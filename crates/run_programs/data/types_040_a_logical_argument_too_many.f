@@ -1,0 +1,2 @@
+      I=IABS(1,.TRUE.)
+      END

@@ -1,0 +1,4 @@
+      LOGICAL L
+      L=0
+      I=L
+      END

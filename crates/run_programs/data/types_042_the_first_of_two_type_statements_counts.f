@@ -1,0 +1,4 @@
+      PARAMETER (I=.TRUE.)
+      INTEGER I
+      LOGICAL I
+      END

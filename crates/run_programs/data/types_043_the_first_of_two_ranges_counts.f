@@ -1,0 +1,3 @@
+      PARAMETER (I=.TRUE.)
+      IMPLICIT INTEGER (I), LOGICAL (I)
+      END

@@ -1,0 +1,3 @@
+      LOGICAL L
+      L=IABS(1,2)
+      END

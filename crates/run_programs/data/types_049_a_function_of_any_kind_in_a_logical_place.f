@@ -1,0 +1,3 @@
+      LOGICAL L
+      L=J(1)
+      END

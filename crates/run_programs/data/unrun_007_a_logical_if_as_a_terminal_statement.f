@@ -1,0 +1,3 @@
+      DO 10 I=1,3
+   10 IF (I.EQ.2) J=I
+      END

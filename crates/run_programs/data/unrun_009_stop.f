@@ -1,0 +1,4 @@
+      WRITE (6,10)
+   10 FORMAT ('NOTHING')
+      STOP
+      END

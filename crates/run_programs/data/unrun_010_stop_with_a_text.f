@@ -1,0 +1,2 @@
+      STOP 'EARLY'
+      END

@@ -1,0 +1,4 @@
+      X=1
+      INTEG=J(1)
+      STOP
+      END

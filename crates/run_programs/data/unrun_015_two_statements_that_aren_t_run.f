@@ -1,0 +1,5 @@
+      I=1
+      STOP
+      GO TO 10
+   10 I=2
+      END

@@ -1,0 +1,3 @@
+      STOP
+      INTEGER A(3)
+      END
