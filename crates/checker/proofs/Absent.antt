@@ -10,7 +10,7 @@ use Rattle.std.proofs.lemmas.Slice.Eq.{bytes_eq-Decides}
 use Rattle.meaning.specs.declared.syntax.DataType.{DataType}
 use Rattle.meaning.specs.declared.syntax.DataType.TheVariants as kinds
 use Rattle.meaning.specs.Arrays.{Dimension}
-use Rattle.meaning.specs.Scopes.{arrays_from, arrays_of, constant_value, constants_in, declarators_in, dimension_of, dimensions_in as bounds_in, gives_bounds, known_behind, known_of, nothing_known, or_dimensions, with_constant}
+use Rattle.meaning.specs.Scopes.{arrays_from, arrays_of, constant_value, constants_in, declarators_in, dimension_of, dimensions_in as bounds_in, known_behind, known_of, nothing_known, or_dimensions, with_constant}
 use Rattle.meaning.specs.Syntax.{BoundsTree, ConstantTree, DeclaratorTree, ItemTree, ShapeTree, typing, logical_typing}
 use Rattle.meaning.specs.Types.{Types, types_of, declared_by, typed_as, typed_in}
 use Rattle.meaning.specs.Uses.{Roles, is_other, roles_of, uses_at}

@@ -1,5 +1,5 @@
 -- What is kept beside a tree agrees with what its statements say, part by part.
-use Rattle.std.proofs.Common.{◌≡◌, ◌≤◌, ◌^◌, ℕ, List, length, Option, None, Ok}
+use Rattle.std.proofs.Common.{◌≡◌, ◌≤◌, ◌^◌, ℕ, length, None, Ok}
 use Rattle.meaning.specs.declared.syntax.Tree.{Tree}
 use Rattle.meaning.specs.Execution.{format_found}
 use Rattle.meaning.specs.Rules.{checked}

@@ -1,26 +1,19 @@
 -- What is kept of names agrees with what the statements say.
-use Rattle.std.proofs.Common.{◌≡◌, ℕ, ◌+◌, ◌-◌, ◌<◌, ◌≤◌, ◌^◌, ℤ, pos, Bool, true, false, List, [], ◌∷◌, length, map, replicate, Option, Some, None, option_map, unwrap_or, Ok, refl, sym, ap, ap₂, subst, ◌∙◌, arith}
-use Rattle.std.specs.Prelude.{if◌then◌else◌, flat_map, slice_get}
-use Rattle.std.specs.Global.{Vec}
+use Rattle.std.proofs.Common.{◌≡◌, ℕ, ◌+◌, ◌-◌, ◌<◌, ◌≤◌, ◌^◌, ℤ, pos, Bool, true, false, List, [], ◌∷◌, length, map, replicate, Option, Some, None, option_map, unwrap_or, refl, sym, ap, ap₂, subst, ◌∙◌, arith}
+use Rattle.std.specs.Prelude.{if◌then◌else◌, flat_map}
 use Rattle.std.specs.List.{fold, list_any}
 use Rattle.std.specs.Option.{option_or}
 use Rattle.std.specs.Str.{bytes_eq}
 use Rattle.std.proofs.Math.Path.{fun_ext}
 use Rattle.std.proofs.lemmas.List.{length-replicate}
-use Rattle.indexmap.specs.IndexMap.{IndexMap}
-use Rattle.meaning.specs.declared.ending.Value.{Value}
-use Rattle.meaning.specs.declared.syntax.DataType.{DataType}
 use Rattle.meaning.specs.declared.syntax.Tree.{Tree}
-use Rattle.meaning.specs.Arrays.{Dimension, Named, cell_of, cells_of, place, size}
-use Rattle.meaning.specs.Initial.{Start, starts_from}
-use Rattle.meaning.specs.Maps.{Map, start}
-use Rattle.meaning.specs.Rules.{checked}
-use Rattle.meaning.specs.Scopes.{arrays_of, known_of}
+use Rattle.meaning.specs.Arrays.{cell_of, cells_of, place, size}
+use Rattle.meaning.specs.Initial.{starts_from}
+use Rattle.meaning.specs.Scopes.{arrays_of}
 use Rattle.meaning.specs.Syntax.{ItemTree}
-use Rattle.meaning.specs.Trees.{flatten, nested}
 use Rattle.meaning.specs.Types.{declared_by, types_of}
 use Rattle.meaning.specs.Uses.{roles_of}
-use Rattle.meaning.specs.Values.{Arrays, Known, dimensions_in}
+use Rattle.meaning.specs.Values.{Arrays, dimensions_in}
 use Rattle.roles.specs.declared.names.Roles.{Roles}
 use Rattle.roles.specs.Keeping.{kept_at}
 use Rattle.roles.specs.Listed.{trees_at}
@@ -34,9 +27,9 @@ use Rattle.checker.specs.declared.parts.Storage.{Storage}
 use Rattle.checker.specs.declared.rules.Names.{Names}
 use Rattle.checker.specs.Built.{AreNames, count_at, variables_at}
 use Rattle.checker.specs.Checked.{count_in, items_in, names_in}
-use Rattle.checker.specs.Entries.{IsSaid, Placed, Said, described, first_of, if_among, names_given, place_from, placed, said, said_at, stored, stored_in}
-use Rattle.checker.specs.Given.{AreGiven, first_placed, first_said, firsts_in}
-use Rattle.checker.specs.Kept.{AreCells, HasNone, IsStored, IsTyped, StartsWithByte, array_of, by_first, storage_kept, type_if, value_kept}
+use Rattle.checker.specs.Entries.{Placed, Said, described, first_of, names_given, place_from, placed, said, stored}
+use Rattle.checker.specs.Given.{AreGiven, first_said, firsts_in}
+use Rattle.checker.specs.Kept.{IsStored, IsTyped, StartsWithByte, array_of, by_first, storage_kept, type_if, value_kept}
 use Rattle.checker.specs.Numbered.{named, variables_of}
 use Rattle.checker.specs.Starts.{map_of, start_in}
 use Rattle.checker.specs.Whereabouts.{Whereabouts, where_in}

@@ -4,7 +4,7 @@ use Rattle.std.specs.Prelude.{if◌then◌else◌}
 use Rattle.std.specs.List.{list_any}
 use Rattle.std.specs.Str.{bytes_eq}
 use Rattle.std.proofs.lemmas.Slice.Eq.{bytes_eq-Decides}
-use Rattle.meaning.specs.Arrays.{Dimension, Named, cell_of, cells_of, place, size}
+use Rattle.meaning.specs.Arrays.{Dimension, cell_of, cells_of, place, size}
 use Rattle.meaning.specs.Values.{Arrays, dimensions_in}
 use Rattle.checker.specs.Entries.{first_of}
 use Rattle.checker.specs.Numbered.{named}

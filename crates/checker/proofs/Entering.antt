@@ -15,7 +15,7 @@ use Rattle.meaning.specs.declared.ending.Value.{Value}
 use Rattle.meaning.specs.declared.syntax.DataType.{DataType}
 use Rattle.meaning.specs.declared.syntax.Item.{Item}
 use Rattle.meaning.specs.Arrays.{Dimension, Named, cells_of, extent, size}
-use Rattle.meaning.specs.Values.{Arrays, dimensions_in}
+use Rattle.meaning.specs.Values.{dimensions_in}
 use Rattle.expressions.specs.declared.dimension.Dimension.{Dimension as Own}
 use Rattle.expressions.specs.Dimensions.{dimension}
 use Rattle.roles.specs.declared.names.Roles.{Roles}

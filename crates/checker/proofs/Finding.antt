@@ -1,23 +1,23 @@
 -- Statement functions found in a body, one member more.
-use Rattle.std.proofs.Common.{◌≡◌, ℕ, zero, suc, ◌+◌, ◌<◌, ◌≤◌, Bool, true, false, List, [], ◌∷◌, ◌++◌, length, get_or, drop, append_assoc, Option, Some, None, option_map, unwrap_or, Result, Ok, Err, refl, sym, ap, ap₂, subst, ◌∙◌, arith, length-append, inl, inr}
+use Rattle.std.proofs.Common.{◌≡◌, ℕ, zero, suc, ◌+◌, ◌<◌, ◌≤◌, Bool, true, false, List, [], ◌∷◌, ◌++◌, length, get_or, drop, append_assoc, Option, Some, None, unwrap_or, Result, Ok, Err, refl, sym, ap, ap₂, subst, ◌∙◌, arith, length-append, inl, inr}
 use Rattle.std.specs.Prelude.{if◌then◌else◌, ◌⊎◌, IfOk, is_some, slice_get}
 use Rattle.std.specs.Map.{lookup}
 use Rattle.std.proofs.Math.Logic.{⊎_elim}
 use Rattle.std.specs.Global.{Vec}
 use Rattle.std.specs.Option.{option_or}
 use Rattle.std.specs.Str.{bytes_eq}
-use Rattle.std.proofs.lemmas.List.{append-nil, drop_more}
+use Rattle.std.proofs.lemmas.List.{drop_more}
 use Rattle.std.proofs.lemmas.Slice.Eq.{bytes_eq-Decides}
 use Rattle.indexmap.specs.IndexMap.{IndexMap}
 use Rattle.meaning.specs.declared.syntax.Item.{Item}
-use Rattle.meaning.specs.declared.syntax.Member.{Member, Plain, Loop', Block}
+use Rattle.meaning.specs.declared.syntax.Member.{Member, Plain}
 use Rattle.meaning.specs.Scopes.{Definition, defined_before, defined_by, definition_if, definitions_of, is_specification, listed}
-use Rattle.meaning.specs.Syntax.{ExprTree, ItemTree, ShapeTree, assignment, definition, no_exprs, exprs, shape_tree}
+use Rattle.meaning.specs.Syntax.{ItemTree, ShapeTree, assignment, definition, exprs, shape_tree}
 use Rattle.meaning.specs.Trees.{flat, item_tree, members_tree}
 use Rattle.meaning.specs.Values.{Arrays}
 use Rattle.roles.specs.Keeping.{kept_at}
 use Rattle.checker.specs.declared.parts.FunctionAt.{FunctionAt}
-use Rattle.checker.specs.FunctionsFound.{AreFound, Finding, Found, IsFoundAt, IsNone, IsOne, IsShown, PassesItem, PassesMember, defined_in}
+use Rattle.checker.specs.FunctionsFound.{AreFound, Finding, Found, IsFoundAt, IsNone, IsOne, PassesItem, PassesMember, defined_in}
 use Rattle.checker.specs.Kept.{shown_at, shown_by}
 
 first_is : (arrays : Arrays) (x : ItemTree) (xs : List ItemTree) → definitions_of arrays (x ∷ xs) ≡ defined_before (defined_by arrays x.shape) (is_specification x.shape) (definitions_of arrays xs)

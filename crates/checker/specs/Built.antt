@@ -17,7 +17,10 @@ use Rattle.checker.specs.Checked.{items_in, names_in}
 use Rattle.checker.specs.declared.parts.Parts.{Parts}
 use Rattle.checker.specs.declared.rules.Names.{Names}
 use Rattle.checker.specs.declared.rules.Kept.{Kept}
-use Rattle.checker.specs.Entries.{IsSaid, said_at}
+use Rattle.std.specs.Global.{Vec}
+use Rattle.indexmap.specs.IndexMap.{IndexMap}
+use Rattle.checker.specs.declared.parts.Entry.{Entry}
+use Rattle.checker.specs.Entries.{AreSaid}
 use Rattle.checker.specs.Given.{AreGiven, firsts_in}
 use Rattle.checker.specs.Numbered.{named, variables_by}
 
@@ -27,9 +30,12 @@ variables_at r = variables_by (roles_at r) (trees_at r.items.now)
 abbrev pub count_at : Facts → Roles → ℕ
 count_at f r = cells_of (named (arrays_in f) (variables_at r))
 
+abbrev pub AreSaidOf : {S : Type 0} → Facts → Roles → IndexMap (Vec ℕ) Entry S → Type 0
+AreSaidOf f r m = AreSaid f r (variables_at r) m
+
 -- what is kept of names
 pub record AreNames (f : Facts) (r : Roles) (k : Names) : Type 0 where
-  pub said : (n : List ℕ) → IsSaid f r (variables_at r) n (said_at k.entries n)
+  pub said : AreSaidOf f r k.entries
   pub given : AreGiven (firsts_in k.entries) (starts_in f) (replicate (count_at f r) (pos 0)) k.starts.items
   pub few : count_at f r < 2 ^ 64 - 1
   pub letters : (c : ℕ) → c < 256 → slice_get k.letters.items c ≡ Some (letter_type (implicit_parts (trees_at r.items.now)) c)

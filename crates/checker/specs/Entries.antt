@@ -9,14 +9,21 @@ use Rattle.meaning.specs.declared.ending.Value.{Value}
 use Rattle.meaning.specs.declared.syntax.DataType.{DataType}
 use Rattle.meaning.specs.Arrays.{Dimension, Named, size}
 use Rattle.meaning.specs.Scopes.{declarators_in, constants_in}
-use Rattle.meaning.specs.Syntax.{ShapeTree}
+use Rattle.meaning.specs.declared.syntax.Declarator.{Declarator}
+use Rattle.meaning.specs.declared.syntax.Item.{Item}
+use Rattle.meaning.specs.declared.syntax.NamedConstant.{NamedConstant}
+use Rattle.meaning.specs.declared.syntax.Shape.{Shape}
+use Rattle.std.specs.Borrow.{Bor}
+use Rattle.meaning.specs.Syntax.{ShapeTree, constant_tree, declarator_tree, shape_tree}
 use Rattle.meaning.specs.Values.{dimensions_in}
 use Rattle.roles.specs.declared.names.Roles.{Roles}
 use Rattle.roles.specs.Keeping.{kept_at}
 use Rattle.roles.specs.Listed.{trees_at}
+use Rattle.roles.specs.NameSets.{texts}
 use Rattle.roles.specs.RolesAt.{roles_at}
 use Rattle.k_rules.specs.declared.verdict.Facts.{Facts}
 use Rattle.k_rules.specs.Judged.{arrays_in, constant_in}
+use Rattle.checker.specs.declared.entries.Storing.{Storing}
 use Rattle.checker.specs.declared.parts.Entry.{Entry}
 use Rattle.checker.specs.declared.parts.Storage.{Storage}
 use Rattle.checker.specs.Kept.{dimensions_kept}
@@ -86,3 +93,42 @@ names_given s = map (λ d. d.name) (declarators_in s) ++ map (λ c. c.name) (con
 abbrev pub IsSaid : Facts → Roles → List (List ℕ) → List ℕ → Option Said → Type 0
 IsSaid f r names n o =
     o ≡ option_or (stored_in f r (named (arrays_in f) names) n) (if_among (described f r) (flat_map (λ x. names_given x.shape) (trees_at r.items.now)) n)
+
+-- ---- what is made of names and of statements
+
+-- the dimensions of a name, and its cells
+abbrev pub dimensions_at : Facts → List ℕ → List Dimension
+dimensions_at f n = dimensions_in (arrays_in f n)
+
+abbrev pub cells_at : Facts → List ℕ → ℕ
+cells_at f n = size (dimensions_at f n)
+
+-- names with their dimensions, as keys
+abbrev pub named_by : Facts → List (Vec ℕ) → List Named
+named_by f keys = named (arrays_in f) (texts keys)
+
+-- a name more that has the next cells
+abbrev pub AddsCells : Facts → Roles → List ℕ → Storing → Storing → Type 0
+AddsCells f r n old new = AddsOne old.entries new.entries n (stored f r old.next n)
+
+abbrev pub AreStored : {S : Type 0} → Facts → Roles → List (Vec ℕ) → IndexMap (Vec ℕ) Entry S → Type 0
+AreStored f r keys m = (n : List ℕ) → said_at m n ≡ stored_in f r (named_by f keys) n
+
+-- names more that have no cells: these, those in declarators, those of constants, those of a statement, those of statements
+abbrev pub Tells : {S : Type 0} → Facts → Roles → IndexMap (Vec ℕ) Entry S → IndexMap (Vec ℕ) Entry S → List (List ℕ) → Type 0
+Tells f r m new names = Adds m new (described f r) names
+
+abbrev pub declared : List Declarator → List (List ℕ)
+declared ds = map (λ d. d.name) (map declarator_tree ds)
+
+abbrev pub defined : List NamedConstant → List (List ℕ)
+defined cs = map (λ c. c.name) (map constant_tree cs)
+
+abbrev pub given : Shape → List (List ℕ)
+given s = names_given (shape_tree s)
+
+abbrev pub given_in : List (Bor Item) → List (List ℕ)
+given_in items = flat_map (λ x. names_given x.shape) (trees_at items)
+
+abbrev pub AreSaid : {S : Type 0} → Facts → Roles → List (List ℕ) → IndexMap (Vec ℕ) Entry S → Type 0
+AreSaid f r names m = (n : List ℕ) → IsSaid f r names n (said_at m n)

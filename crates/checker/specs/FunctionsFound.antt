@@ -10,7 +10,9 @@ use Rattle.meaning.specs.Syntax.{shape_tree}
 use Rattle.meaning.specs.Scopes.{Definition, defined_by, definitions_of, is_specification}
 use Rattle.meaning.specs.Trees.{flat, members_tree}
 use Rattle.meaning.specs.Values.{Arrays}
+use Rattle.roles.specs.declared.names.Roles.{Roles}
 use Rattle.roles.specs.Keeping.{kept_at}
+use Rattle.roles.specs.RolesAt.{roles_at}
 use Rattle.checker.specs.declared.parts.FunctionAt.{FunctionAt}
 use Rattle.checker.specs.Kept.{shown_at}
 
@@ -65,3 +67,17 @@ module _ {S : Type 0} (arrays : Arrays) (m new : IndexMap (Vec ℕ) FunctionAt S
   abbrev pub PassesMember : Member → Option ℕ → Type 0
   PassesMember one None = new ≡ m
   PassesMember one (Some next) = (x : Item) × (one ≡ Plain x) × (IsNone x next ⊎ IsOne x next)
+
+-- ---- in a program unit of which this is known
+
+abbrev pub Passes : {S : Type 0} → Roles → IndexMap (Vec ℕ) FunctionAt S → IndexMap (Vec ℕ) FunctionAt S → ℕ → ℕ → Item → Option ℕ → Type 0
+Passes r m new at member x = PassesItem (roles_at r).names.arrays m new at member x
+
+abbrev pub PassesOne : {S : Type 0} → Roles → IndexMap (Vec ℕ) FunctionAt S → IndexMap (Vec ℕ) FunctionAt S → ℕ → ℕ → Member → Option ℕ → Type 0
+PassesOne r m new at member one = PassesMember (roles_at r).names.arrays m new at member one
+
+abbrev pub FoundIn : {S : Type 0} → Roles → List Member → IndexMap (Vec ℕ) FunctionAt S → ℕ → Type 0
+FoundIn r members m at = Found (defined_in (roles_at r).names.arrays members) members m at
+
+abbrev pub AreFoundIn : {S : Type 0} → Roles → List Member → IndexMap (Vec ℕ) FunctionAt S → Type 0
+AreFoundIn r members m = AreFound (defined_in (roles_at r).names.arrays members) members m

@@ -1,9 +1,11 @@
 -- What values of cells are given by DATA statements, one after another (ANSI X3.9-1978, chapter 9).
-use Rattle.std.specs.Prelude.{◌≡◌, ℕ, ◌+◌, ℤ, List, [], ◌∷◌, Option, Some, None, slice_set}
+use Rattle.std.specs.Prelude.{◌≡◌, ℕ, ◌+◌, ℤ, List, [], ◌∷◌, Option, Some, None, map, pos, replicate, slice_set}
 use Rattle.std.specs.Global.{Vec}
 use Rattle.indexmap.specs.IndexMap.{IndexMap}
 use Rattle.meaning.specs.Values.{as_integer}
+use Rattle.k_rules.specs.declared.filling.Start.{Start}
 use Rattle.k_rules.specs.DataStages.{Given}
+use Rattle.k_rules.specs.Marked.{given_at}
 use Rattle.checker.specs.declared.parts.Entry.{Entry}
 use Rattle.checker.specs.Entries.{Placed, Said, said_at}
 
@@ -29,3 +31,13 @@ AreGiven firsts (g ∷ gs) old new = (mid : List ℤ) × IsGiven firsts g old mi
 
 abbrev pub firsts_in : {S : Type 0} → IndexMap (Vec ℕ) Entry S → List ℕ → Option ℕ
 firsts_in m n = first_said (said_at m n)
+
+-- what DATA statements give to the cells of entries
+abbrev pub GivesStart : {S : Type 0} → IndexMap (Vec ℕ) Entry S → Start → List ℤ → List ℤ → Type 0
+GivesStart m s old new = IsGiven (firsts_in m) (given_at s) old new
+
+abbrev pub GivesStarts : {S : Type 0} → IndexMap (Vec ℕ) Entry S → List Start → List ℤ → List ℤ → Type 0
+GivesStarts m starts old new = AreGiven (firsts_in m) (map given_at starts) old new
+
+abbrev pub zeroes : ℕ → List ℤ
+zeroes count = replicate count (pos 0)

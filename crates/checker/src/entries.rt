@@ -1,16 +1,13 @@
 //! What is kept of names (ANSI X3.9-1978, 2.12, 4.1.2, 5.4 and 8.6).
 
-ghost use Rattle.std.specs.Prelude.{◌≡◌, ◌+◌, ◌*◌, ◌∷◌, [], ℕ, List, flat_map, map, option_map, IfOk, OnOk};
+ghost use Rattle.std.specs.Prelude.{◌≡◌, ◌+◌, ◌*◌, ◌∷◌, [], map, IfOk, OnOk};
 ghost use Rattle.meaning.specs.Arrays.{cells_of, size};
 ghost use Rattle.meaning.specs.Scopes.{constants_in};
-ghost use Rattle.meaning.specs.Syntax.{constant_tree, declarator_tree, shape_tree};
-ghost use Rattle.meaning.specs.Values.{dimensions_in};
+ghost use Rattle.meaning.specs.Syntax.{constant_tree, shape_tree};
 ghost use Rattle.expressions.specs.Dimensions.{dimension};
-ghost use Rattle.roles.specs.Listed.{trees_at};
 ghost use Rattle.roles.specs.NameSets.{texts};
-ghost use Rattle.k_rules.specs.Judged.{arrays_in, constant_in};
-ghost use Rattle.checker.specs.Entries.{Adds, AddsOne, IsSaid, described, names_given, said, said_at, stored, stored_in};
-ghost use Rattle.checker.specs.Numbered.{named};
+ghost use Rattle.k_rules.specs.Judged.{constant_in};
+ghost use Rattle.checker.specs.Entries.{AddsOne, AddsCells, AreSaid, AreStored, Tells, given_in, cells_at, declared, defined, dimensions_at, given, named_by, said};
 
 use crate::parts::{Entry, Storage};
 use expressions::Dimension;
@@ -33,7 +30,7 @@ fn constant_named(facts: &Facts, name: &[u8]) -> Option<Value>
 
 /// The dimensions of a name, none where it is no array's.
 fn dimensions_named(alloc: Global, facts: &Facts, name: &[u8]) -> Result<Vec<Dimension>, AllocError>
-    ensures { IfOk result (λ v. map dimension v.items ≡ dimensions_in (arrays_in facts.now name.now)) }
+    ensures { IfOk result (λ v. map dimension v.items ≡ dimensions_at facts.now name.now) }
 {
     match facts.arrays.get(name) {
         Some(dimensions) => Vec::from_slice(alloc, dimensions),
@@ -108,8 +105,8 @@ fn add_stored(
     facts: &Facts,
     name: &[u8],
 ) -> Result<(), AllocError>
-    ensures next { OnOk result (storing.new.next ≡ storing.old.next + size (dimensions_in (arrays_in facts.now name.now))) }
-    ensures entries { OnOk result (AddsOne storing.old.entries storing.new.entries name.now (stored facts.now roles.now storing.old.next name.now)) }
+    ensures next { OnOk result (storing.new.next ≡ storing.old.next + cells_at facts.now name.now) }
+    ensures entries { OnOk result (AddsCells facts.now roles.now name.now storing.old storing.new) }
 {
     let dimensions = dimensions_named(alloc, facts, name)?;
     let first = storing.next;
@@ -132,8 +129,8 @@ fn store_names(
     facts: &Facts,
     names: &[Vec<u8>],
 ) -> Result<Storing, AllocError>
-    ensures next { IfOk result (λ s. s.next ≡ cells_of (named (arrays_in facts.now) (texts names.now))) }
-    ensures entries { IfOk result (λ s. (n : List ℕ) → said_at s.entries n ≡ stored_in facts.now roles.now (named (arrays_in facts.now) (texts names.now)) n) }
+    ensures next { IfOk result (λ s. s.next ≡ cells_of (named_by facts.now names.now)) }
+    ensures entries { IfOk result (λ s. AreStored facts.now roles.now names.now s.entries) }
 {
     let mut storing = Storing {
         entries: IndexMap::new(alloc),
@@ -153,7 +150,7 @@ fn add_described(
     facts: &Facts,
     name: &[u8],
 ) -> Result<(), AllocError>
-    ensures { OnOk result (Adds entries.old entries.new (described facts.now roles.now) (name.now ∷ [])) }
+    ensures { OnOk result (Tells facts.now roles.now entries.old entries.new (name.now ∷ [])) }
 {
     let entry = Entry {
         value: constant_named(facts, name),
@@ -172,7 +169,7 @@ fn add_declared(
     facts: &Facts,
     declarators: &[Declarator],
 ) -> Result<(), AllocError>
-    ensures { OnOk result (Adds entries.old entries.new (described facts.now roles.now) (map (λ d. d.name) (map declarator_tree declarators.now))) }
+    ensures { OnOk result (Tells facts.now roles.now entries.old entries.new (declared declarators.now)) }
 {
     for declarator in declarators {
         add_described(entries, alloc, roles, facts, &declarator.name)?;
@@ -188,7 +185,7 @@ fn add_constants(
     facts: &Facts,
     constants: &[NamedConstant],
 ) -> Result<(), AllocError>
-    ensures { OnOk result (Adds entries.old entries.new (described facts.now roles.now) (map (λ c. c.name) (map constant_tree constants.now))) }
+    ensures { OnOk result (Tells facts.now roles.now entries.old entries.new (defined constants.now)) }
 {
     for constant in constants {
         add_described(entries, alloc, roles, facts, &constant.name)?;
@@ -214,7 +211,7 @@ fn add_given(
     facts: &Facts,
     shape: &Shape,
 ) -> Result<(), AllocError>
-    ensures { OnOk result (Adds entries.old entries.new (described facts.now roles.now) (names_given (shape_tree shape.now))) }
+    ensures { OnOk result (Tells facts.now roles.now entries.old entries.new (given shape.now)) }
 {
     add_declared(entries, alloc, roles, facts, declarators_in(shape))?;
     add_constants(entries, alloc, roles, facts, constants_of(shape))?;
@@ -229,7 +226,7 @@ fn add_all_given(
     facts: &Facts,
     items: &[&Item],
 ) -> Result<(), AllocError>
-    ensures { OnOk result (Adds entries.old entries.new (described facts.now roles.now) (flat_map (λ x. names_given x.shape) (trees_at items.now))) }
+    ensures { OnOk result (Tells facts.now roles.now entries.old entries.new (given_in items.now)) }
 {
     for item in items {
         add_given(entries, alloc, roles, facts, &item.form.shape)?;
@@ -244,8 +241,8 @@ pub(crate) fn entries_of(
     facts: &Facts,
     names: &[Vec<u8>],
 ) -> Result<Storing, AllocError>
-    ensures next { IfOk result (λ s. s.next ≡ cells_of (named (arrays_in facts.now) (texts names.now))) }
-    ensures entries { IfOk result (λ s. (n : List ℕ) → IsSaid facts.now roles.now (texts names.now) n (said_at s.entries n)) }
+    ensures next { IfOk result (λ s. s.next ≡ cells_of (named_by facts.now names.now)) }
+    ensures entries { IfOk result (λ s. AreSaid facts.now roles.now (texts names.now) s.entries) }
 {
     let mut storing = store_names(alloc, roles, facts, names)?;
     add_all_given(&mut storing.entries, alloc, roles, facts, roles.items)?;

@@ -1,14 +1,12 @@
 //! The formats of FORMAT statements and of character constants (ANSI X3.9-1978, 12.4 and 13.1).
 
 ghost use Rattle.std.specs.Prelude.{◌≡◌, ◌^◌, ◌≤◌, ℕ, false, is_some, IfOk, OnOk, None, Some};
-ghost use Rattle.meaning.specs.Formats.{descriptors_of, format_in, undoubled};
-ghost use Rattle.meaning.specs.Execution.{format_found, or_else};
+ghost use Rattle.meaning.specs.Formats.{format_in, undoubled};
 ghost use Rattle.meaning.specs.Trees.{item_tree};
 ghost use Rattle.format_edit.specs.Formatted.{descriptors};
 ghost use Rattle.roles.specs.Keeping.{kept_at};
-ghost use Rattle.roles.specs.Listed.{trees_at};
-ghost use Rattle.checker.specs.Agreed.{AreRead, found_in};
-ghost use Rattle.checker.specs.FormatsFound.{format_here, format_under};
+ghost use Rattle.checker.specs.Agreed.{AreRead};
+ghost use Rattle.checker.specs.FormatsFound.{AddsItem, AddsText, AreFormats, HaveSmallLabels, format_here};
 
 use format_edit::{Format, FormatFault};
 use indexmap::IndexMap;
@@ -24,7 +22,7 @@ fn add_at(
     label: u32,
     text: &[u8],
 ) -> Result<(), AllocError>
-    ensures { OnOk result ((s : ℕ) → found_in formats.new s ≡ or_else (found_in formats.old s) (format_under label s (descriptors_of text.now))) }
+    ensures { OnOk result (AddsText label text.now formats.old formats.new) }
 {
     if !formats.contains_key(&label) {
         if let Some(format) = format_of(alloc, text)? {
@@ -40,7 +38,7 @@ fn add_format(
     alloc: Global,
     member: &Item,
 ) -> Result<(), AllocError>
-    ensures found { OnOk result ((s : ℕ) → found_in formats.new s ≡ or_else (found_in formats.old s) (format_here s (item_tree member.now))) }
+    ensures found { OnOk result (AddsItem member.now formats.old formats.new) }
     ensures small { (s : ℕ) → 2 ^ 32 ≤ s → format_here s (item_tree member.now) ≡ None }
 {
     match &member.form.shape {
@@ -54,8 +52,8 @@ fn add_format(
 
 /// The formats of the FORMAT statements by their labels.
 fn formats_by_label(alloc: Global, members: &[&Item]) -> Result<BTreeMap<u32, Format>, AllocError>
-    ensures found { IfOk result (λ formats. (s : ℕ) → found_in formats s ≡ format_found (trees_at members.now) s) }
-    ensures small { OnOk result ((s : ℕ) → 2 ^ 32 ≤ s → format_found (trees_at members.now) s ≡ None) }
+    ensures found { IfOk result (AreFormats members.now) }
+    ensures small { OnOk result (HaveSmallLabels members.now) }
 {
     let mut formats = BTreeMap::new(alloc);
     for member in members {
@@ -153,8 +151,8 @@ pub(crate) struct Formats {
 
 /// The formats of statements.
 pub(crate) fn formats_of(alloc: Global, members: &[&Item]) -> Result<Formats, AllocError>
-    ensures found { IfOk result (λ f. (s : ℕ) → found_in f.by_label s ≡ format_found (trees_at members.now) s) }
-    ensures small { OnOk result ((s : ℕ) → 2 ^ 32 ≤ s → format_found (trees_at members.now) s ≡ None) }
+    ensures found { IfOk result (λ f. AreFormats members.now f.by_label) }
+    ensures small { OnOk result (HaveSmallLabels members.now) }
     ensures read { IfOk result (λ f. AreRead f.texts) }
 {
     let by_label = formats_by_label(alloc, members)?;

@@ -3,8 +3,7 @@
 ghost use Rattle.std.specs.Prelude.{◌≡◌, ◌<◌, ◌-◌, ◌^◌, [], IfOk};
 ghost use Rattle.meaning.specs.Trees.{flat, members_tree};
 ghost use Rattle.roles.specs.Listed.{trees_at};
-ghost use Rattle.roles.specs.RolesAt.{roles_at};
-ghost use Rattle.checker.specs.FunctionsFound.{AreFound, Found, PassesItem, PassesMember, defined_in};
+ghost use Rattle.checker.specs.FunctionsFound.{AreFoundIn, FoundIn, Passes, PassesOne};
 
 use crate::parts::FunctionAt;
 use indexmap::IndexMap;
@@ -23,7 +22,7 @@ fn pass_statement(
     member: usize,
 ) -> Result<Option<usize>, AllocError>
     requires { at < 2 ^ 64 - 1 }
-    ensures { IfOk result (PassesItem (roles_at roles.now).names.arrays functions.old functions.new at member item.now) }
+    ensures { IfOk result (Passes roles.now functions.old functions.new at member item.now) }
 {
     match defined_by(&roles.ranks, &item.form.shape) {
         Some(function) => {
@@ -50,7 +49,7 @@ fn pass_member(
     member: usize,
 ) -> Result<Option<usize>, AllocError>
     requires { at < 2 ^ 64 - 1 }
-    ensures { IfOk result (PassesMember (roles_at roles.now).names.arrays functions.old functions.new at member one.now) }
+    ensures { IfOk result (PassesOne roles.now functions.old functions.new at member one.now) }
 {
     match one {
         Member::Plain(item) => pass_statement(functions, alloc, roles, item, at, member),
@@ -68,7 +67,7 @@ fn find_functions(
     body: &[Member],
 ) -> Result<usize, AllocError>
     requires { functions.old.entries ≡ [] }
-    ensures { IfOk result (λ at. Found (defined_in (roles_at roles.now).names.arrays body.now) body.now functions.new at) }
+    ensures { IfOk result (FoundIn roles.now body.now functions.new) }
 {
     let mut at: usize = 0;
     for (member, one) in body.iter().enumerate() {
@@ -89,7 +88,7 @@ pub(crate) fn functions_in(
     body: &[Member],
 ) -> Result<IndexMap<Vec<u8>, FunctionAt>, AllocError>
     requires { flat (members_tree body.now) ≡ trees_at roles.now.items.now }
-    ensures { IfOk result (AreFound (defined_in (roles_at roles.now).names.arrays body.now) body.now) }
+    ensures { IfOk result (AreFoundIn roles.now body.now) }
 {
     let mut functions = IndexMap::new(alloc);
     let found = find_functions(&mut functions, alloc, roles, body)?;

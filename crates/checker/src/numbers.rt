@@ -1,15 +1,12 @@
 //! The order in which variables and arrays appear (ANSI X3.9-1978, 2.5).
 
-ghost use Rattle.std.specs.Prelude.{◌≡◌, ◌∷◌, ◌++◌, [], List, map, IfOk, OnOk};
-ghost use Rattle.meaning.specs.Syntax.{ItemTree, declarator_tree, shape_tree};
-ghost use Rattle.meaning.specs.Trees.{item_tree};
-ghost use Rattle.meaning.specs.Uses.{parts_of};
-ghost use Rattle.roles.specs.Listed.{trees_at};
+ghost use Rattle.std.specs.Prelude.{◌≡◌, ◌∷◌, [], IfOk, OnOk};
 ghost use Rattle.roles.specs.NameSets.{texts};
 ghost use Rattle.roles.specs.RolesAt.{roles_at};
-ghost use Rattle.roles.specs.Stages.{IsBehind};
 ghost use Rattle.roles.specs.UsesAt.{uses_at};
-ghost use Rattle.checker.specs.Numbered.{is_variable as is_variable_name, names_at, variables_by, with_variables};
+ghost use Rattle.checker.specs.Appearing.{Puts, PutsNames, named, used, uses_in};
+ghost use Rattle.checker.specs.Built.{variables_at};
+ghost use Rattle.checker.specs.Numbered.{is_variable as is_variable_name};
 
 use indexmap::IndexSet;
 use meaning::syntax::{Declarator, Item, Shape};
@@ -34,7 +31,7 @@ fn add_variable(
     roles: &Roles,
     name: &[u8],
 ) -> Result<(), AllocError>
-    ensures { OnOk result (texts names.new.keys ≡ with_variables (roles_at roles.now) (texts names.old.keys) (name.now ∷ [])) }
+    ensures { OnOk result (Puts roles.now names.old.keys names.new.keys (name.now ∷ [])) }
 {
     if is_variable(roles, name) {
         add_name(names, alloc, name)
@@ -50,7 +47,7 @@ fn add_declared(
     roles: &Roles,
     declarators: &[Declarator],
 ) -> Result<(), AllocError>
-    ensures { OnOk result (texts names.new.keys ≡ with_variables (roles_at roles.now) (texts names.old.keys) (map (λ d. d.name) (map declarator_tree declarators.now))) }
+    ensures { OnOk result (Puts roles.now names.old.keys names.new.keys (named declarators.now)) }
 {
     for declarator in declarators {
         add_variable(names, alloc, roles, &declarator.name)?;
@@ -65,7 +62,7 @@ fn add_used(
     roles: &Roles,
     uses: &[NameUse],
 ) -> Result<(), AllocError>
-    ensures { OnOk result (texts names.new.keys ≡ with_variables (roles_at roles.now) (texts names.old.keys) (map (λ u. u.name) (uses_at uses.now))) }
+    ensures { OnOk result (Puts roles.now names.old.keys names.new.keys (used uses.now)) }
 {
     for one in uses {
         add_variable(names, alloc, roles, one.name)?;
@@ -80,7 +77,7 @@ fn uses_of<'a>(
     defines: bool,
     shape: &'a Shape,
 ) -> Result<Vec<NameUse<'a>>, AllocError>
-    ensures { IfOk result (λ us. uses_at us.items ≡ (parts_of (roles_at roles.now) defines (shape_tree shape.now)).sets ++ (parts_of (roles_at roles.now) defines (shape_tree shape.now)).reads) }
+    ensures { IfOk result (λ us. uses_at us.items ≡ uses_in roles.now defines shape.now) }
 {
     let mut uses = Vec::new(alloc);
     match set_by(defines, shape) {
@@ -99,7 +96,7 @@ fn add_names_at(
     stage: &Stage,
     item: &Item,
 ) -> Result<(), AllocError>
-    ensures { OnOk result ((before : List ItemTree) → IsBehind roles.now stage.now before → texts names.new.keys ≡ with_variables (roles_at roles.now) (texts names.old.keys) (names_at (roles_at roles.now) before (item_tree item.now))) }
+    ensures { OnOk result (PutsNames roles.now stage.now item.now names.old.keys names.new.keys) }
 {
     let shape = &item.form.shape;
     let uses = uses_of(alloc, roles, stage.is_defining(roles, item), shape)?;
@@ -113,7 +110,7 @@ pub(crate) fn variables_in_order(
     alloc: Global,
     roles: &Roles,
 ) -> Result<IndexSet<Vec<u8>>, AllocError>
-    ensures { IfOk result (λ names. texts names.keys ≡ variables_by (roles_at roles.now) (trees_at roles.now.items.now)) }
+    ensures { IfOk result (λ names. texts names.keys ≡ variables_at roles.now) }
 {
     let mut names = IndexSet::new(alloc);
     let mut stage = Stage::new();

@@ -1,15 +1,13 @@
 //! Programs that keep the rules.
 
-ghost use Rattle.std.specs.Prelude.{◌≡◌, ℕ, ℤ, List, IfOk, IfSome, Ok, Some, length, option_map};
-ghost use Rattle.meaning.specs.Characters.{number_of};
-ghost use Rattle.meaning.specs.Execution.{format_found};
-ghost use Rattle.meaning.specs.Formats.{format_in as format_in_text, undoubled};
+ghost use Rattle.std.specs.Prelude.{◌≡◌, IfOk, IfSome, Ok, Some, length, option_map};
 ghost use Rattle.meaning.specs.Reports.{Gives};
 ghost use Rattle.meaning.specs.Rules.{checked};
-ghost use Rattle.meaning.specs.Trees.{members_tree, nested};
+ghost use Rattle.meaning.specs.Trees.{nested};
 ghost use Rattle.format_edit.specs.Formatted.{descriptors};
-ghost use Rattle.checker.specs.Checked.{count_in, items_in, names_in, numbers_in};
-ghost use Rattle.checker.specs.Starts.{map_of, start_in};
+ghost use Rattle.checker.specs.Checked.{count_in, names_in, numbers_in};
+ghost use Rattle.checker.specs.Agreed.{IsReadFrom};
+ghost use Rattle.checker.specs.Told.{AreStarts, format_at};
 
 use crate::formats::Formats;
 use crate::parts::Parts;
@@ -18,7 +16,7 @@ use crate::rules::{Kept, Names, kept_of};
 use expressions::{Cells, Function, Named, Numbering, Place};
 use format_edit::Format;
 use meaning::refusal::Refusal;
-use meaning::syntax::{Member, Tree};
+use meaning::syntax::Tree;
 use std::alloc::Global;
 use std::marker::Model;
 
@@ -52,17 +50,10 @@ impl Program {
         &self.parts.tree
     }
 
-    /// The members of its body.
-    pub fn body(&self) -> &[Member]
-        ensures { members_tree result.now ≡ members_tree self.now.body.items }
-    {
-        &self.parts.tree.body
-    }
-
     /// The values that the cells start with.
     pub fn starts(&self) -> &[i32]
         ensures many { length result.now ≡ count_in self.now }
-        ensures started { (n : List ℕ) (ss : List ℤ) → map_of self.now result.now n ss ≡ start_in self.now n ss }
+        ensures started { AreStarts self.now result.now }
     {
         &self.parts.starts
     }
@@ -70,14 +61,14 @@ impl Program {
     /// The format of the FORMAT statement that has the label which digits spell, leading zeros aside (ANSI X3.9-1978,
     /// 3.4 and 13.1.1); `None` where there is none.
     pub fn format(&self, digits: &[u8]) -> Option<&Format>
-        ensures { option_map (λ f. descriptors f.now) result ≡ format_found (items_in self.now) (number_of digits.now) }
+        ensures { option_map (λ f. descriptors f.now) result ≡ format_at self.now digits.now }
     {
         format_in(&self.parts, digits)
     }
 
     /// The format in a character constant, if one is kept (ANSI X3.9-1978, 12.4); it was read once.
     pub fn text_format(&self, text: &[u8]) -> Option<&Format>
-        ensures { IfSome result (λ f. format_in_text (undoubled text.now) ≡ Some (descriptors f.now)) }
+        ensures { IfSome result (λ f. IsReadFrom text.now (Some f.now)) }
     {
         text_format_in(&self.parts, text)
     }

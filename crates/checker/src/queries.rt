@@ -2,14 +2,14 @@
 
 ghost use Rattle.std.specs.Prelude.{◌≡◌, ◌<◌, ◌≤◌, ◌^◌, List, ℕ, IfSome, MatchOption, Some, option_map, slice_get};
 ghost use Rattle.std.specs.Option.{option_copied};
-ghost use Rattle.expressions.specs.Names.{IsArray, IsFunction, IsNamed};
+ghost use Rattle.expressions.specs.Names.{IsFunction};
 ghost use Rattle.checker.specs.Agreed.{IsNumbered};
-ghost use Rattle.checker.specs.Checked.{count_in, items_in, names_in, numbers_in};
-ghost use Rattle.checker.specs.Kept.{AreCells, IsStored, Says, StartsWithByte, by_first, function_by, shown_at, shown_by};
+ghost use Rattle.checker.specs.Checked.{names_in};
+ghost use Rattle.checker.specs.Kept.{IsStored, Says, StartsWithByte, by_first, function_by, shown_at, shown_by};
+ghost use Rattle.checker.specs.Told.{IsArrayIn, IsNamedIn, TellsArray, format_at};
 ghost use Rattle.checker.specs.Whereabouts.{IsPlace, Whereabouts, where_in};
 ghost use Rattle.meaning.specs.Characters.{number_of};
 ghost use Rattle.meaning.specs.Formats.{format_in as format_in_text, undoubled};
-ghost use Rattle.meaning.specs.Execution.{format_found};
 ghost use Rattle.meaning.specs.Syntax.{exprs_tree, no_exprs, shape_tree};
 ghost use Rattle.meaning.specs.declared.syntax.Tree.{Tree};
 ghost use Rattle.format_edit.specs.Formatted.{descriptors};
@@ -57,7 +57,7 @@ pub(crate) fn find_in<'a>(parts: &'a Parts, name: &[u8]) -> Place<'a>
 
 /// What a name stands for of which this is kept.
 fn named_by(entry: &Entry) -> Named<'_>
-    ensures { (t : Tree) (n : List ℕ) → Says t n entry.now → IsNamed (names_in t) (numbers_in t) (count_in t) n result }
+    ensures { (t : Tree) (n : List ℕ) → Says t n entry.now → IsNamedIn t n result }
 {
     match entry.value {
         Some(value) => Named::Constant(value),
@@ -71,7 +71,7 @@ fn named_by(entry: &Entry) -> Named<'_>
 /// What a name without parentheses stands for.
 pub(crate) fn named_in<'a>(parts: &'a Parts, name: &[u8]) -> Named<'a>
     requires { IsNumbered parts.now }
-    ensures { IsNamed (names_in parts.now.tree) (numbers_in parts.now.tree) (count_in parts.now.tree) name.now result }
+    ensures { IsNamedIn parts.now.tree name.now result }
 {
     match parts.entries.get(name) {
         Some(entry) => named_by(entry),
@@ -84,7 +84,7 @@ pub(crate) fn named_in<'a>(parts: &'a Parts, name: &[u8]) -> Named<'a>
 
 /// The cells of an array; none of a variable.
 fn array_of(storage: &Storage, data_type: Option<DataType>) -> Option<Cells<'_>>
-    ensures { (t : Tree) (n : List ℕ) → count_in t < 2 ^ 64 → AreCells (where_in t n) storage.now → data_type ≡ (names_in t).types n → IsArray (names_in t) (numbers_in t) (count_in t) n result }
+    ensures { TellsArray storage.now data_type result }
 {
     if storage.dimensions.is_empty() {
         return None;
@@ -97,7 +97,7 @@ fn array_of(storage: &Storage, data_type: Option<DataType>) -> Option<Cells<'_>>
 
 /// The cells of the array of which this is kept.
 fn array_by(entry: &Entry) -> Option<Cells<'_>>
-    ensures { (t : Tree) (n : List ℕ) → Says t n entry.now → IsArray (names_in t) (numbers_in t) (count_in t) n result }
+    ensures { (t : Tree) (n : List ℕ) → Says t n entry.now → IsArrayIn t n result }
 {
     match &entry.storage {
         Some(storage) => array_of(storage, entry.data_type),
@@ -108,7 +108,7 @@ fn array_by(entry: &Entry) -> Option<Cells<'_>>
 /// The cells of an array.
 pub(crate) fn array_in<'a>(parts: &'a Parts, name: &[u8]) -> Option<Cells<'a>>
     requires { IsNumbered parts.now }
-    ensures { IsArray (names_in parts.now.tree) (numbers_in parts.now.tree) (count_in parts.now.tree) name.now result }
+    ensures { IsArrayIn parts.now.tree name.now result }
 {
     match parts.entries.get(name) {
         Some(entry) => array_by(entry),
@@ -199,7 +199,7 @@ fn label_of(digits: &[u8]) -> Option<u32>
 /// The format of the FORMAT statement that has the label which digits spell.
 pub(crate) fn format_in<'a>(parts: &'a Parts, digits: &[u8]) -> Option<&'a Format>
     requires { IsNumbered parts.now }
-    ensures { option_map (λ f. descriptors f.now) result ≡ format_found (items_in parts.now.tree) (number_of digits.now) }
+    ensures { option_map (λ f. descriptors f.now) result ≡ format_at parts.now.tree digits.now }
 {
     let label = label_of(digits)?;
     parts.formats.get(&label)

@@ -1,14 +1,13 @@
 //! From a program unit to a program that keeps the rules.
 
-ghost use Rattle.std.specs.Prelude.{◌≡◌, ℕ, List, IfOk};
+ghost use Rattle.std.specs.Prelude.{◌≡◌, IfOk};
 ghost use Rattle.meaning.specs.Reports.{Gives};
 ghost use Rattle.meaning.specs.Rules.{checked};
 ghost use Rattle.meaning.specs.Trees.{nested};
 ghost use Rattle.checker.specs.Agreed.{IsNumbered};
 ghost use Rattle.roles.specs.Listed.{trees_at};
-ghost use Rattle.checker.specs.Built.{AreNames, IsJudged, count_at, parts_by, variables_at};
+ghost use Rattle.checker.specs.Built.{AreNames, AreSaidOf, IsJudged, count_at, parts_by};
 ghost use Rattle.checker.specs.Checked.{items_in};
-ghost use Rattle.checker.specs.Entries.{IsSaid, said_at};
 
 use crate::entries::{Storing, entries_of};
 use crate::formats::{Formats, formats_of};
@@ -44,7 +43,7 @@ pub(crate) struct Kept {
 /// What is kept of the names of a program unit, and how many cells they take.
 fn stored_names(alloc: Global, roles: &Roles, facts: &Facts) -> Result<Storing, AllocError>
     ensures next { IfOk result (λ s. s.next ≡ count_at facts.now roles.now) }
-    ensures said { IfOk result (λ s. (n : List ℕ) → IsSaid facts.now roles.now (variables_at roles.now) n (said_at s.entries n)) }
+    ensures said { IfOk result (λ s. AreSaidOf facts.now roles.now s.entries) }
 {
     let names = variables_in_order(alloc, roles)?;
     entries_of(alloc, roles, facts, names.as_slice())

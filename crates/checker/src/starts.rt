@@ -1,9 +1,8 @@
 //! The values that cells start with (ANSI X3.9-1978, chapters 9 and 17).
 
-ghost use Rattle.std.specs.Prelude.{◌≡◌, ◌-◌, ◌<◌, ◌^◌, map, pos, replicate, slice_set, IfOk, OnOk};
-ghost use Rattle.k_rules.specs.Marked.{given_at};
+ghost use Rattle.std.specs.Prelude.{◌≡◌, ◌-◌, ◌<◌, ◌^◌, slice_set, IfOk, OnOk};
 ghost use Rattle.checker.specs.Entries.{said};
-ghost use Rattle.checker.specs.Given.{AreGiven, IsGiven, first_placed, firsts_in};
+ghost use Rattle.checker.specs.Given.{GivesStart, GivesStarts, first_placed, firsts_in, zeroes};
 
 use crate::entries::plus;
 use crate::parts::Entry;
@@ -52,7 +51,7 @@ fn give(
     entries: &IndexMap<Vec<u8>, Entry>,
     start: &Start,
 ) -> Result<(), AllocError>
-    ensures { OnOk result (IsGiven (firsts_in entries.now) (given_at start.now) values.old.items values.new.items) }
+    ensures { OnOk result (GivesStart entries.now start.now values.old.items values.new.items) }
 {
     match first_cell(entries, start.name) {
         Some(first) => {
@@ -70,7 +69,7 @@ fn give_all(
     entries: &IndexMap<Vec<u8>, Entry>,
     starts: &[Start],
 ) -> Result<(), AllocError>
-    ensures { OnOk result (AreGiven (firsts_in entries.now) (map given_at starts.now) values.old.items values.new.items) }
+    ensures { OnOk result (GivesStarts entries.now starts.now values.old.items values.new.items) }
 {
     for start in starts {
         give(values, entries, start)?;
@@ -80,7 +79,7 @@ fn give_all(
 
 /// So many cells of 0.
 fn zeros(alloc: Global, count: usize) -> Result<Vec<i32>, AllocError>
-    ensures items { IfOk result (λ cells. cells.items ≡ replicate count (pos 0)) }
+    ensures items { IfOk result (λ cells. cells.items ≡ zeroes count) }
     ensures few { IfOk result (λ _. count < 2 ^ 64 - 1) }
 {
     vec![in alloc; 0; count]
@@ -93,7 +92,7 @@ pub(crate) fn starts_of(
     starts: &[Start],
     count: usize,
 ) -> Result<Vec<i32>, AllocError>
-    ensures given { IfOk result (λ values. AreGiven (firsts_in entries.now) (map given_at starts.now) (replicate count (pos 0)) values.items) }
+    ensures given { IfOk result (λ v. GivesStarts entries.now starts.now (zeroes count) v.items) }
     ensures few { IfOk result (λ _. count < 2 ^ 64 - 1) }
 {
     let mut values = zeros(alloc, count)?;

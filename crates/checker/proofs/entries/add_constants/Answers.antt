@@ -1,4 +1,4 @@
-use Rattle.std.proofs.Common.{[], ◌∷◌, ap, ◌∙◌, subst}
+use Rattle.std.proofs.Common.{[], ◌∷◌, subst}
 use Rattle.meaning.specs.Syntax.{constant_tree}
 use Rattle.checker.specs.Entries.{Adds, described}
 use Rattle.checker.proofs.Entering.{adds_both, adds_none, adds_same, names_more}

@@ -1,4 +1,4 @@
-use Rattle.std.proofs.Common.{map, ap, ap₂, ◌++◌}
+use Rattle.std.proofs.Common.{map, ap₂, ◌++◌}
 use Rattle.checker.specs.Entries.{described}
 use Rattle.checker.proofs.Entering.{adds_both, adds_same}
 use Rattle.checker.proofs.entries.add_given.Goals as goal

@@ -1,4 +1,4 @@
-use Rattle.std.proofs.Common.{◌≡◌, Some, None, option_map, ap, refl, inl, inr, sym, ◌∙◌}
+use Rattle.std.proofs.Common.{option_map, ap, refl, inl, inr, sym, ◌∙◌}
 use Rattle.meaning.specs.Scopes.{arrays_of, defined_by}
 use Rattle.meaning.specs.Syntax.{shape_tree}
 use Rattle.roles.specs.Functions.{definition_at}

@@ -1,4 +1,4 @@
-use Rattle.std.proofs.Common.{[], take, sym, ap, subst, ◌∙◌}
+use Rattle.std.proofs.Common.{take, sym, ap, subst, ◌∙◌}
 use Rattle.roles.specs.Listed.{trees_at}
 use Rattle.roles.specs.NameSets.{texts}
 use Rattle.roles.specs.RolesAt.{roles_at}

@@ -3,7 +3,7 @@ use Rattle.std.specs.Option.{option_copied}
 use Rattle.std.specs.Prelude.{slice_get}
 use Rattle.roles.specs.Keeping.{kept_at}
 use Rattle.checker.specs.Checked.{names_in}
-use Rattle.checker.specs.Kept.{IsFunctionAt, IsThere, function_by, shown_at}
+use Rattle.checker.specs.Kept.{IsFunctionAt, IsThere, shown_at}
 use Rattle.checker.proofs.Calling.{is_function}
 use Rattle.checker.proofs.queries.function_in.Goals as goal
 

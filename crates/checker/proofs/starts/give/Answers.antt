@@ -1,4 +1,4 @@
-use Rattle.std.proofs.Common.{rules, w32, ap, ap₂, sym, ◌∙◌}
+use Rattle.std.proofs.Common.{w32, ap₂, sym, ◌∙◌}
 use Rattle.std.specs.Prelude.{slice_set}
 use Rattle.std.proofs.lemmas.Int.{to_z-of_z}
 use Rattle.checker.proofs.starts.give.Goals as goal

@@ -1,0 +1,5 @@
+      GO TO 10
+      IF (I.EQ.1) THEN
+   10 ELSE IF (I.EQ.2) THEN
+      END IF
+      END

@@ -1,0 +1,3 @@
+      GO TO 10
+   10 DATA I/1/
+      END

@@ -1,0 +1,4 @@
+   10 I=1
+      GO TO 10
+   10 FORMAT (I3)
+      END

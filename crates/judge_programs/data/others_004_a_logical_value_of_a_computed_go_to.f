@@ -1,0 +1,3 @@
+      LOGICAL L
+      GO TO (10),L
+   10 END

@@ -1,0 +1,4 @@
+      IF (I.EQ.1) THEN
+      ELSE IF (1) THEN
+      END IF
+      END

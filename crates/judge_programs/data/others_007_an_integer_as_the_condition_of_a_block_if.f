@@ -1,0 +1,3 @@
+      IF (I+1) THEN
+      END IF
+      END
