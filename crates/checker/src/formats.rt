@@ -12,8 +12,8 @@ ghost use Rattle.checker.specs.FormatsFound.{format_here, format_under};
 
 use format_edit::{Format, FormatFault};
 use indexmap::IndexMap;
-use k_rules::format_of;
 use meaning::syntax::{FormatSource, Item, Shape};
+use statement_rules::format_of;
 use std::alloc::{AllocError, Global};
 use std::collections::BTreeMap;
 

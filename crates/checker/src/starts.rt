@@ -1,15 +1,15 @@
 //! The values that cells start with (ANSI X3.9-1978, chapters 9 and 17).
 
 ghost use Rattle.std.specs.Prelude.{◌≡◌, ◌-◌, ◌<◌, ◌^◌, map, pos, replicate, slice_set, IfOk, OnOk};
-ghost use Rattle.k_rules.specs.Marked.{given_at};
+ghost use Rattle.data_rules.specs.Marked.{given_at};
 ghost use Rattle.checker.specs.Entries.{said};
 ghost use Rattle.checker.specs.Given.{AreGiven, IsGiven, first_placed, firsts_in};
 
 use crate::entries::plus;
 use crate::parts::Entry;
+use data_rules::Start;
 use expressions::as_integer;
 use indexmap::IndexMap;
-use k_rules::Start;
 use std::alloc::{AllocError, Global};
 
 /// The first cell of the name of which this is kept, if it has cells.
