@@ -11,7 +11,7 @@ use Rattle.meaning.specs.Types.{Types}
 use Rattle.meaning.specs.Uses.{Roles}
 use Rattle.meaning.specs.Values.{Known}
 use Rattle.roles.proofs.Passes.{map_more, map_left}
-use Rattle.number_rules.specs.CappedSizes.{capped}
+use Rattle.expressions.specs.Places.{capped}
 use Rattle.number_rules.proofs.CappedBy.{capped_add}
 
 last_sum : (a b c : ℕ) → a + (b + (0 + c)) ≡ (a + b) + c

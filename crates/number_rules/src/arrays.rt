@@ -1,12 +1,10 @@
 //! The arrays of a program unit with their bounds (ANSI X3.9-1978, 5.1).
 
-ghost use Rattle.std.specs.Prelude.{◌≡◌, ◌∷◌, [], ℕ, List, map, IfOk, OnOk};
-ghost use Rattle.meaning.specs.Scopes.{dimension_of as dimension_by, dimensions_in as dimensions_within, known_of, or_dimensions};
-ghost use Rattle.meaning.specs.Syntax.{bounds_tree, declarator_tree};
-ghost use Rattle.number_rules.specs.ArraysKept.{arrays_kept};
-ghost use Rattle.rule_passes.specs.Listed.{tree_at};
+ghost use Rattle.std.specs.Prelude.{◌≡◌, ◌∷◌, [], map, IfOk, OnOk};
 ghost use Rattle.expressions.specs.Dimensions.{dimension};
-ghost use Rattle.number_rules.specs.Tables.{known_at, types_in};
+ghost use Rattle.number_rules.specs.ArraysKept.{AreArrays, AreConstants, GainsDeclared};
+ghost use Rattle.number_rules.specs.Sized.{dimensions_at};
+ghost use Rattle.number_rules.specs.Tables.{known_at};
 ghost use Rattle.roles.specs.RolesAt.{roles_at};
 
 use crate::known::{Table, pass_constants, table_of};
@@ -23,7 +21,7 @@ fn dimensions_by(
     table: &Table,
     bounds: &[Bounds],
 ) -> Result<Vec<Dimension>, AllocError>
-    ensures { IfOk result (λ v. map dimension v.items ≡ map (dimension_by (types_in table.now) (known_at table.now)) (map bounds_tree bounds.now)) }
+    ensures { IfOk result (λ v. map dimension v.items ≡ dimensions_at table.now bounds.now) }
 {
     let mut found = Vec::new(alloc);
     for one in bounds {
@@ -39,7 +37,7 @@ fn add_array(
     table: &Table,
     declarator: &Declarator,
 ) -> Result<(), AllocError>
-    ensures { OnOk result ((n : List ℕ) → arrays_kept arrays.new n ≡ or_dimensions (arrays_kept arrays.old n) (dimensions_within (types_in table.now) (known_at table.now) (declarator_tree declarator.now ∷ []) n)) }
+    ensures { OnOk result (GainsDeclared table.now arrays.old arrays.new (declarator.now ∷ [])) }
 {
     let name = declarator.name.as_slice();
     if declarator.bounds.len() > 0 && !arrays.contains_key(name) {
@@ -57,7 +55,7 @@ fn add_arrays(
     table: &Table,
     declarators: &[Declarator],
 ) -> Result<(), AllocError>
-    ensures { OnOk result ((n : List ℕ) → arrays_kept arrays.new n ≡ or_dimensions (arrays_kept arrays.old n) (dimensions_within (types_in table.now) (known_at table.now) (map declarator_tree declarators.now) n)) }
+    ensures { OnOk result (GainsDeclared table.now arrays.old arrays.new declarators.now) }
 {
     for declarator in declarators {
         add_array(arrays, alloc, table, declarator)?;
@@ -77,8 +75,8 @@ pub struct Declared<'a> {
 /// The constants and the arrays of the statements.
 pub fn declared_in<'a>(alloc: Global, roles: &'a Roles<'a>) -> Result<Declared<'a>, AllocError>
     ensures roles { IfOk result (λ declared. declared.table.roles.now ≡ roles.now) }
-    ensures constants { IfOk result (λ declared. known_at declared.table ≡ known_of (roles_at roles.now).names.types (map tree_at roles.now.items.now)) }
-    ensures arrays { IfOk result (λ declared. (n : List ℕ) → arrays_kept declared.arrays n ≡ (roles_at roles.now).names.arrays n) }
+    ensures constants { IfOk result (λ declared. AreConstants roles.now (known_at declared.table)) }
+    ensures arrays { IfOk result (λ declared. AreArrays (roles_at roles.now) declared.arrays) }
 {
     let mut table = table_of(alloc, roles);
     let mut arrays = IndexMap::new(alloc);

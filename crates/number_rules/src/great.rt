@@ -1,13 +1,11 @@
 //! Integer constants outside the range of INTEGER (ANSI X3.9-1978, 4.3).
 
-ghost use Rattle.std.specs.Prelude.{◌≡◌, false, flat_map, map, option_map};
-ghost use Rattle.std.specs.List.{list_any};
-ghost use Rattle.meaning.specs.NumberRules.{data_numbers, has_too_great as has_great_number, in_data_constant, in_data_value, in_repeat, is_too_great, numbers_in, numbers_in_all};
-ghost use Rattle.meaning.specs.Scopes.{listed};
-ghost use Rattle.meaning.specs.Syntax.{bounds_tree, constant_tree, data_constant_tree, data_set_tree, data_value_tree, declarator_tree, expr_tree, exprs_tree, limits_tree, list_items_tree, repeat_tree, shape_tree, unit_tree};
-ghost use Rattle.meaning.specs.Typing.{Names, SomeType, expected, expected_in, in_bounds as bounds_within, in_items as items_within, in_limits as limits_within, in_unit as unit_within, integer_type, option_list};
+ghost use Rattle.std.specs.Prelude.{◌≡◌};
+ghost use Rattle.meaning.specs.NumberRules.{data_numbers, has_too_great as has_great_number, in_data_constant, is_too_great, numbers_in, numbers_in_all};
+ghost use Rattle.meaning.specs.Syntax.{bounds_tree, data_constant_tree, expr_tree, exprs_tree, limits_tree, list_items_tree, shape_tree, unit_tree};
+ghost use Rattle.meaning.specs.Typing.{Names, SomeType, in_bounds as bounds_within, in_items as items_within, in_limits as limits_within, in_unit as unit_within};
 ghost use Rattle.meaning.specs.Uses.{Roles};
-ghost use Rattle.number_rules.specs.GreatNumbers.{has_great};
+ghost use Rattle.number_rules.specs.GreatNumbers.{any_great, any_too_great, of_constants, of_count, of_declarator, of_declarators, of_lists, of_option, of_sets, of_shape, of_subscripts, of_values};
 
 use meaning::number::number;
 use meaning::syntax::{
@@ -26,7 +24,7 @@ fn is_great(digits: &[u8]) -> bool
 #[cycle(great)]
 #[tactic(auto, using(rule_passes::proofs::Missing::any_both))]
 fn in_expression(expression: &Expr) -> bool
-    ensures { result ≡ list_any is_too_great (numbers_in (expr_tree expression.now)) }
+    ensures { result ≡ any_too_great (numbers_in (expr_tree expression.now)) }
 {
     match expression {
         Expr::Number(digits) => is_great(digits),
@@ -45,7 +43,7 @@ fn in_expression(expression: &Expr) -> bool
 #[cycle(great)]
 #[tactic(auto, using(rule_passes::proofs::Missing::any_both))]
 fn in_all(expressions: &Exprs) -> bool
-    ensures { result ≡ list_any is_too_great (numbers_in_all (exprs_tree expressions.now)) }
+    ensures { result ≡ any_too_great (numbers_in_all (exprs_tree expressions.now)) }
 {
     match expressions {
         Exprs::Empty => false,
@@ -55,7 +53,7 @@ fn in_all(expressions: &Exprs) -> bool
 
 /// Whether a constant of one of the subscripts of what is set is too great.
 fn in_subscripts(expressions: &Exprs) -> bool
-    ensures { (k : SomeType) → result ≡ list_any has_great (map (expected k) (listed (exprs_tree expressions.now))) }
+    ensures { (k : SomeType) → result ≡ any_great (of_subscripts k expressions.now) }
 {
     match expressions {
         Exprs::Empty => false,
@@ -65,7 +63,7 @@ fn in_subscripts(expressions: &Exprs) -> bool
 
 /// Whether a constant of an expression that may be written is too great.
 fn in_option(expression: &Option<Expr>) -> bool
-    ensures { result ≡ list_any has_great (map (expected integer_type) (option_list (option_map expr_tree expression.now))) }
+    ensures { result ≡ any_great (of_option expression.now) }
 {
     match expression {
         Some(expression) => in_expression(expression),
@@ -75,14 +73,14 @@ fn in_option(expression: &Option<Expr>) -> bool
 
 /// Whether a constant of the limits of a DO is too great.
 fn in_limits(limits: &Limits) -> bool
-    ensures { result ≡ list_any has_great (limits_within (limits_tree limits.now)) }
+    ensures { result ≡ any_great (limits_within (limits_tree limits.now)) }
 {
     in_expression(&limits.first) || in_expression(&limits.last) || in_option(&limits.step)
 }
 
 /// Whether a constant of the bounds of a dimension is too great.
 fn in_bounds(bounds: &Bounds) -> bool
-    ensures { result ≡ list_any has_great (bounds_within (bounds_tree bounds.now)) }
+    ensures { result ≡ any_great (bounds_within (bounds_tree bounds.now)) }
 {
     match &bounds.lower {
         Some(lower) => in_expression(lower) || in_expression(&bounds.upper),
@@ -92,7 +90,7 @@ fn in_bounds(bounds: &Bounds) -> bool
 
 /// Whether a constant of the bounds of an array is too great.
 fn in_declarator(declarator: &Declarator) -> bool
-    ensures { result ≡ list_any has_great (flat_map bounds_within (declarator_tree declarator.now).bounds) }
+    ensures { result ≡ any_great (of_declarator declarator.now) }
 {
     for bounds in &declarator.bounds {
         if in_bounds(bounds) {
@@ -104,7 +102,7 @@ fn in_declarator(declarator: &Declarator) -> bool
 
 /// Whether a constant of the bounds of arrays is too great.
 fn in_declarators(declarators: &[Declarator]) -> bool
-    ensures { result ≡ list_any has_great (flat_map (λ d. flat_map bounds_within d.bounds) (map declarator_tree declarators.now)) }
+    ensures { result ≡ any_great (of_declarators declarators.now) }
 {
     for declarator in declarators {
         if in_declarator(declarator) {
@@ -117,7 +115,7 @@ fn in_declarators(declarators: &[Declarator]) -> bool
 /// Whether a constant of a list is too great, in an implied DO or outside.
 #[tactic(auto, using(rule_passes::proofs::Missing::any_both))]
 fn in_items(items: &ListItems) -> bool
-    ensures { result ≡ list_any has_great (items_within (list_items_tree items.now)) }
+    ensures { result ≡ any_great (items_within (list_items_tree items.now)) }
 {
     match items {
         ListItems::Empty => false,
@@ -138,7 +136,7 @@ fn in_items(items: &ListItems) -> bool
 
 /// Whether a constant of a unit is too great.
 fn in_unit(unit: &Unit) -> bool
-    ensures { result ≡ list_any has_great (unit_within (unit_tree unit.now)) }
+    ensures { result ≡ any_great (unit_within (unit_tree unit.now)) }
 {
     match unit {
         Unit::Star => false,
@@ -148,7 +146,7 @@ fn in_unit(unit: &Unit) -> bool
 
 /// Whether a constant of the expressions of a PARAMETER statement is too great.
 fn in_constants(constants: &[NamedConstant]) -> bool
-    ensures { (names : Names) → result ≡ list_any has_great (map (λ c. expected (names.types c.name) c.value) (map constant_tree constants.now)) }
+    ensures { (names : Names) → result ≡ any_great (of_constants names constants.now) }
 {
     for constant in constants {
         if in_expression(&constant.value) {
@@ -160,7 +158,7 @@ fn in_constants(constants: &[NamedConstant]) -> bool
 
 /// Whether a constant of the lists of a DATA statement is too great.
 fn in_lists(sets: &[DataSet]) -> bool
-    ensures { result ≡ list_any has_great (flat_map (λ x. items_within x.list) (map data_set_tree sets.now)) }
+    ensures { result ≡ any_great (of_lists sets.now) }
 {
     for set in sets {
         if in_items(&set.list) {
@@ -173,7 +171,7 @@ fn in_lists(sets: &[DataSet]) -> bool
 /// Whether a constant of an expression of a statement is too great.
 #[tactic(auto, using(rule_passes::proofs::Missing::any_both))]
 fn in_expressions(shape: &Shape) -> bool
-    ensures { (names : Names) → result ≡ list_any has_great (expected_in names false (shape_tree shape.now)) }
+    ensures { (names : Names) → result ≡ any_great (of_shape names shape.now) }
 {
     match shape {
         Shape::Assignment {
@@ -203,7 +201,7 @@ fn in_expressions(shape: &Shape) -> bool
 
 /// Whether the number of a constant in a DATA statement is too great, without its sign.
 fn is_great_constant(constant: &DataConstant) -> bool
-    ensures { result ≡ list_any is_too_great (in_data_constant (data_constant_tree constant.now)) }
+    ensures { result ≡ any_too_great (in_data_constant (data_constant_tree constant.now)) }
 {
     match constant {
         DataConstant::Number(_, digits) => is_great(digits),
@@ -214,7 +212,7 @@ fn is_great_constant(constant: &DataConstant) -> bool
 
 /// Whether a repeat count is too great.
 fn is_great_count(repeat_count: &Option<RepeatCount>) -> bool
-    ensures { result ≡ list_any is_too_great (flat_map in_repeat (option_list (option_map repeat_tree repeat_count.now))) }
+    ensures { result ≡ any_too_great (of_count repeat_count.now) }
 {
     match repeat_count {
         Some(RepeatCount::Number(digits)) => is_great(digits),
@@ -226,7 +224,7 @@ fn is_great_count(repeat_count: &Option<RepeatCount>) -> bool
 /// Whether a number among the values of a set is too great.
 #[tactic(auto, using(rule_passes::proofs::Missing::any_both))]
 fn in_values(values: &[DataValue]) -> bool
-    ensures { result ≡ list_any is_too_great (flat_map in_data_value (map data_value_tree values.now)) }
+    ensures { result ≡ any_too_great (of_values values.now) }
 {
     for value in values {
         if is_great_count(&value.repeat_count) || is_great_constant(&value.constant) {
@@ -239,7 +237,7 @@ fn in_values(values: &[DataValue]) -> bool
 /// Whether a number among the values of sets is too great.
 #[tactic(auto, using(rule_passes::proofs::Missing::any_both))]
 fn in_sets(sets: &[DataSet]) -> bool
-    ensures { result ≡ list_any is_too_great (flat_map (λ s. flat_map in_data_value s.values) (map data_set_tree sets.now)) }
+    ensures { result ≡ any_too_great (of_sets sets.now) }
 {
     for set in sets {
         if in_values(&set.values) {
@@ -251,7 +249,7 @@ fn in_sets(sets: &[DataSet]) -> bool
 
 /// Whether a number among the values of a DATA statement is too great.
 fn in_data(shape: &Shape) -> bool
-    ensures { result ≡ list_any is_too_great (data_numbers (shape_tree shape.now)) }
+    ensures { result ≡ any_too_great (data_numbers (shape_tree shape.now)) }
 {
     match shape {
         Shape::Data(sets) => in_sets(sets),

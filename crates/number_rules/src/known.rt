@@ -1,12 +1,8 @@
 //! The constants that statements define, as far as one has come (ANSI X3.9-1978, 8.6).
 
-ghost use Rattle.std.specs.Prelude.{◌≡◌, ◌++◌, ◌∷◌, [], List, map, OnOk};
-ghost use Rattle.std.specs.List.{fold};
-ghost use Rattle.meaning.specs.Scopes.{constant_value as value_by, known_behind, with_constant};
-ghost use Rattle.meaning.specs.Syntax.{ItemTree, constant_tree, expr_tree, shape_tree};
-ghost use Rattle.meaning.specs.Trees.{item_tree};
-ghost use Rattle.number_rules.specs.KnownNames.{with_name};
-ghost use Rattle.number_rules.specs.Tables.{IsBehind, known_at, scope_known, scope_types, types_in, with_own};
+ghost use Rattle.std.specs.Prelude.{◌≡◌, [], OnOk};
+ghost use Rattle.rule_passes.specs.Telling.{Passes};
+ghost use Rattle.number_rules.specs.Tables.{EntersName, EntersOwn, IsBehind, LeavesOwn, PutsName, known_at, known_passing, known_with, scope_known, scope_types, types_in, value_at};
 
 use expressions::{Constants, constant_value};
 use indexmap::IndexMap;
@@ -18,7 +14,7 @@ use std::alloc::{AllocError, Global};
 /// The value of an expression of constants, if it has one.
 pub fn value_of<C: Constants>(constants: &C, expression: &Expr) -> Option<Value>
     requires { C.is_sound constants.now }
-    ensures { result ≡ value_by (C.types constants.now) (C.known constants.now) (expr_tree expression.now) }
+    ensures { result ≡ value_at (C.types constants.now) (C.known constants.now) expression.now }
 {
     match constant_value(expression, constants) {
         Ok(value) => Some(value),
@@ -72,7 +68,7 @@ fn put_name(
     name: &[u8],
     value: Option<Value>,
 ) -> Result<(), AllocError>
-    ensures known { OnOk result (known_at table.new ≡ with_name name.now value (known_at table.old)) }
+    ensures known { OnOk result (PutsName table.old table.new name.now value) }
     ensures roles { OnOk result (table.new.roles ≡ table.old.roles) }
 {
     let own = Vec::from_slice(alloc, name)?;
@@ -86,7 +82,7 @@ fn put_constants(
     alloc: Global,
     constants: &[NamedConstant],
 ) -> Result<(), AllocError>
-    ensures known { OnOk result (known_at table.new ≡ fold (with_constant (types_in table.old)) (known_at table.old) (map constant_tree constants.now)) }
+    ensures known { OnOk result (known_at table.new ≡ known_with table.old constants.now) }
     ensures roles { OnOk result (table.new.roles ≡ table.old.roles) }
 {
     for constant in constants {
@@ -98,9 +94,9 @@ fn put_constants(
 
 /// Passes a statement.
 pub fn pass_constants(table: &mut Table, alloc: Global, item: &Item) -> Result<(), AllocError>
-    ensures known { OnOk result (known_at table.new ≡ known_behind (types_in table.old) (known_at table.old) (item_tree item.now).shape) }
+    ensures known { OnOk result (known_at table.new ≡ known_passing table.old item.now) }
     ensures roles { OnOk result (table.new.roles ≡ table.old.roles) }
-    ensures behind { OnOk result ((before : List ItemTree) → IsBehind table.old before → IsBehind table.new (before ++ item_tree item.now ∷ [])) }
+    ensures behind { OnOk result (Passes (IsBehind table.old) (IsBehind table.new) item.now) }
 {
     match &item.form.shape {
         Shape::Parameter(constants) => put_constants(table, alloc, constants),
@@ -161,9 +157,9 @@ pub fn enter_name<'a: 'b, 'b>(
     name: &'a [u8],
     value: Option<Value>,
 ) -> Result<(), AllocError>
-    ensures known { OnOk result (scope_known scope.new ≡ with_name name.now value (scope_known scope.old)) }
+    ensures known { OnOk result (EntersName scope.old scope.new name.now value) }
     ensures table { OnOk result (scope.new.table ≡ scope.old.table) }
-    ensures own { OnOk result (scope.new.own.items ≡ scope.old.own.items ++ record { name = name.entry; value = value } ∷ []) }
+    ensures own { OnOk result (EntersOwn scope.old scope.new name.entry value) }
 {
     scope.own.push(Own { name, value })?;
     Ok(())
@@ -171,7 +167,7 @@ pub fn enter_name<'a: 'b, 'b>(
 
 /// Leaves the name that was put in front last.
 pub fn leave_name(scope: &mut Scope)
-    ensures own { (outer : List Own) (one : Own) → scope.old.own.items ≡ outer ++ one ∷ [] → scope.new.own.items ≡ outer }
+    ensures own { LeavesOwn scope.old scope.new }
     ensures table { scope.new.table ≡ scope.old.table }
 {
     let _ = scope.own.pop();

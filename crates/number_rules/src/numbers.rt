@@ -1,16 +1,11 @@
 //! Constants and bounds (ANSI X3.9-1978, 4.3, 5.1.1 and 8.6).
 
-ghost use Rattle.std.specs.Prelude.{◌≡◌, [], flat_map, map, IfOk};
+ghost use Rattle.std.specs.Prelude.{◌≡◌, IfOk};
 ghost use Rattle.std.specs.List.{list_any};
-ghost use Rattle.meaning.specs.NameRules.{told};
-ghost use Rattle.meaning.specs.NumberRules.{has_bad_bound as has_bad_bound_by, has_bad_number, is_bad_constant, is_no_constant as is_no_constant_by, is_unknown};
-ghost use Rattle.meaning.specs.Refusals.{least};
-ghost use Rattle.meaning.specs.Scopes.{constants_in, declarators_in as declarators_within};
-ghost use Rattle.meaning.specs.Syntax.{bounds_tree, constant_tree, declarator_tree, expr_tree, shape_tree};
-ghost use Rattle.meaning.specs.Typing.{in_bounds as bounds_within};
-ghost use Rattle.meaning.specs.Uses.{uses_in};
-ghost use Rattle.rule_passes.specs.Listed.{tree_at};
-ghost use Rattle.number_rules.specs.Tables.{IsBehind, known_at, scope_known, scope_types, types_in};
+ghost use Rattle.meaning.specs.NumberRules.{has_bad_number};
+ghost use Rattle.rule_passes.specs.Telling.{IsLeast};
+ghost use Rattle.number_rules.specs.BadNumbers.{are_bad_at, defines_bad_at, exprs_in_bounds, exprs_in_declarator, has_unknown_at, have_bad_bound_at, is_bad_at, is_none_at};
+ghost use Rattle.number_rules.specs.Tables.{IsBehind};
 ghost use Rattle.roles.specs.RolesAt.{roles_at};
 
 use crate::great::has_too_great;
@@ -26,7 +21,7 @@ use std::alloc::{AllocError, Global};
 #[tactic(auto, using(rule_passes::proofs::Missing::any_both))]
 fn has_unknown<C: Constants>(constants: &C, expression: &Expr) -> bool
     requires { C.is_sound constants.now }
-    ensures { result ≡ list_any (is_unknown (C.known constants.now)) (uses_in (expr_tree expression.now)) }
+    ensures { result ≡ has_unknown_at (C.known constants.now) expression.now }
 {
     match expression {
         Expr::Number(_) => false,
@@ -46,14 +41,14 @@ fn has_unknown<C: Constants>(constants: &C, expression: &Expr) -> bool
 /// Whether an expression isn't one of constants that are known, or faults.
 pub fn is_no_constant<C: Constants>(constants: &C, expression: &Expr) -> bool
     requires { C.is_sound constants.now }
-    ensures { result ≡ is_no_constant_by (C.types constants.now) (C.known constants.now) (expr_tree expression.now) }
+    ensures { result ≡ is_none_at (C.types constants.now) (C.known constants.now) expression.now }
 {
     has_unknown(constants, expression) || value_of(constants, expression).is_none()
 }
 
 /// Whether one of the constants of a PARAMETER statement is none, each with those before it.
 fn are_bad<'a>(scope: &mut Scope<'a>, constants: &'a [NamedConstant]) -> Result<bool, AllocError>
-    ensures { IfOk result (λ b. b ≡ is_bad_constant (scope_types scope.old) (scope_known scope.old) (map constant_tree constants.now)) }
+    ensures { IfOk result (λ b. b ≡ are_bad_at scope.old constants.now) }
 {
     for constant in constants {
         if is_no_constant(scope, &constant.value) {
@@ -71,7 +66,7 @@ fn has_bad_constant<'a>(
     table: &'a Table<'a>,
     shape: &'a Shape,
 ) -> Result<bool, AllocError>
-    ensures { IfOk result (λ b. b ≡ is_bad_constant (types_in table.now) (known_at table.now) (constants_in (shape_tree shape.now))) }
+    ensures { IfOk result (λ b. b ≡ defines_bad_at table.now shape.now) }
 {
     match shape {
         Shape::Parameter(constants) => {
@@ -84,7 +79,7 @@ fn has_bad_constant<'a>(
 
 /// Whether one of the bounds of a dimension is no constant.
 fn in_bounds(table: &Table, bounds: &Bounds) -> bool
-    ensures { result ≡ list_any (is_no_constant_by (types_in table.now) (known_at table.now)) (map (λ x. x.expr) (bounds_within (bounds_tree bounds.now))) }
+    ensures { result ≡ list_any (is_bad_at table.now) (exprs_in_bounds bounds.now) }
 {
     match &bounds.lower {
         Some(lower) => is_no_constant(table, lower) || is_no_constant(table, &bounds.upper),
@@ -95,7 +90,7 @@ fn in_bounds(table: &Table, bounds: &Bounds) -> bool
 /// Whether one of the bounds of an array is no constant.
 #[tactic(auto, using(rule_passes::proofs::Missing::any_both))]
 fn in_declarator(table: &Table, declarator: &Declarator) -> bool
-    ensures { result ≡ list_any (is_no_constant_by (types_in table.now) (known_at table.now)) (flat_map (λ b. map (λ x. x.expr) (bounds_within b)) (declarator_tree declarator.now).bounds) }
+    ensures { result ≡ list_any (is_bad_at table.now) (exprs_in_declarator declarator.now) }
 {
     for bounds in &declarator.bounds {
         if in_bounds(table, bounds) {
@@ -108,7 +103,7 @@ fn in_declarator(table: &Table, declarator: &Declarator) -> bool
 /// Whether one of the bounds of arrays is no constant.
 #[tactic(auto, using(rule_passes::proofs::Missing::any_both))]
 fn has_bad_bound(table: &Table, declarators: &[Declarator]) -> bool
-    ensures { result ≡ has_bad_bound_by (types_in table.now) (known_at table.now) (map declarator_tree declarators.now) }
+    ensures { result ≡ have_bad_bound_at table.now declarators.now }
 {
     for declarator in declarators {
         if in_declarator(table, declarator) {
@@ -147,7 +142,7 @@ pub fn bad_number(
     roles: &Roles,
     items: &[&Item],
 ) -> Result<Option<Broken>, AllocError>
-    ensures { IfOk result (λ b. b ≡ least (told (has_bad_number (roles_at roles.now)) Rule.K6 [] (map tree_at items.now))) }
+    ensures { IfOk result (IsLeast (has_bad_number (roles_at roles.now)) Rule.K6 items.now) }
 {
     let mut bad = BadNumbers {
         alloc,

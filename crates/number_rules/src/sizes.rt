@@ -1,17 +1,13 @@
 //! The sizes of arrays (ANSI X3.9-1978, 5.1.2).
 
-ghost use Rattle.std.specs.Prelude.{◌≡◌, ◌+◌, ◌++◌, ◌∷◌, nat_lt, ℕ, List, [], map, sum_by, IfOk, OnOk};
+ghost use Rattle.std.specs.Prelude.{◌≡◌, IfOk};
 ghost use Rattle.std.specs.List.{list_any};
 ghost use Rattle.meaning.specs.Arrays.{size};
-ghost use Rattle.meaning.specs.NameRules.{told};
-ghost use Rattle.meaning.specs.NumberRules.{elements_in, elements_of as elements_by, has_large_array, have_too_large as have_large, is_reversed as is_reversed_in, is_too_large as is_large};
-ghost use Rattle.meaning.specs.Refusals.{least};
-ghost use Rattle.meaning.specs.Scopes.{constant_value, dimension_of as dimension_by, integer_if};
-ghost use Rattle.meaning.specs.Syntax.{ItemTree, bounds_tree, declarator_tree, expr_tree};
-ghost use Rattle.number_rules.specs.CappedSizes.{capped};
-ghost use Rattle.rule_passes.specs.Listed.{tree_at};
+ghost use Rattle.meaning.specs.NumberRules.{has_large_array, is_reversed as is_reversed_in};
+ghost use Rattle.rule_passes.specs.Telling.{Finds, IsLeast};
 ghost use Rattle.expressions.specs.Dimensions.{dimension};
-ghost use Rattle.number_rules.specs.Tables.{IsBehind, known_at, types_in};
+ghost use Rattle.number_rules.specs.CappedSizes.{IsCapped};
+ghost use Rattle.number_rules.specs.Sized.{AreBehind, bound_at, capped_with, dimension_at, dimensions_at, elements_at, has_too_many_at, have_too_large_at, is_too_large_at};
 ghost use Rattle.roles.specs.RolesAt.{roles_at};
 
 use crate::known::{Table, pass_constants, table_of, value_of};
@@ -27,7 +23,7 @@ const MOST: u64 = 1_048_576;
 
 /// The value of a bound; 0 where it has none.
 fn bound(table: &Table, expression: &Expr) -> i32
-    ensures { result ≡ integer_if (constant_value (types_in table.now) (known_at table.now) (expr_tree expression.now)) }
+    ensures { result ≡ bound_at table.now expression.now }
 {
     match value_of(table, expression) {
         Some(value) => as_integer(value),
@@ -37,7 +33,7 @@ fn bound(table: &Table, expression: &Expr) -> i32
 
 /// The dimension that bounds give.
 pub fn dimension_of(table: &Table, bounds: &Bounds) -> Dimension
-    ensures { dimension result ≡ dimension_by (types_in table.now) (known_at table.now) (bounds_tree bounds.now) }
+    ensures { dimension result ≡ dimension_at table.now bounds.now }
 {
     let lower = match &bounds.lower {
         Some(lower) => bound(table, lower),
@@ -51,7 +47,7 @@ pub fn dimension_of(table: &Table, bounds: &Bounds) -> Dimension
 
 /// How many elements an array of these bounds has, or 2^64-1 where there are more.
 fn size_of(table: &Table, bounds: &[Bounds]) -> u64
-    ensures { result ≡ capped (size (map (dimension_by (types_in table.now) (known_at table.now)) (map bounds_tree bounds.now))) }
+    ensures { IsCapped result (size (dimensions_at table.now bounds.now)) }
 {
     let mut found: u64 = 1;
     for one in bounds {
@@ -62,7 +58,7 @@ fn size_of(table: &Table, bounds: &[Bounds]) -> u64
 
 /// How many elements a declarator gives, or 2^64-1 where there are more.
 fn elements_of(table: &Table, declarator: &Declarator) -> u64
-    ensures { result ≡ capped (elements_by (types_in table.now) (known_at table.now) (declarator_tree declarator.now)) }
+    ensures { IsCapped result (elements_at table.now declarator.now) }
 {
     if declarator.bounds.is_empty() {
         0
@@ -73,7 +69,7 @@ fn elements_of(table: &Table, declarator: &Declarator) -> u64
 
 /// Whether a lower bound is above the upper one.
 fn is_reversed(table: &Table, bounds: &Bounds) -> bool
-    ensures { result ≡ is_reversed_in (dimension_by (types_in table.now) (known_at table.now) (bounds_tree bounds.now)) }
+    ensures { result ≡ is_reversed_in (dimension_at table.now bounds.now) }
 {
     let dimension = dimension_of(table, bounds);
     dimension.upper < dimension.lower
@@ -81,7 +77,7 @@ fn is_reversed(table: &Table, bounds: &Bounds) -> bool
 
 /// Whether one of the lower bounds is above the upper one.
 fn has_reversed(table: &Table, bounds: &[Bounds]) -> bool
-    ensures { result ≡ list_any is_reversed_in (map (dimension_by (types_in table.now) (known_at table.now)) (map bounds_tree bounds.now)) }
+    ensures { result ≡ list_any is_reversed_in (dimensions_at table.now bounds.now) }
 {
     for one in bounds {
         if is_reversed(table, one) {
@@ -93,7 +89,7 @@ fn has_reversed(table: &Table, bounds: &[Bounds]) -> bool
 
 /// Whether a declarator has too many elements with those that stand before it.
 fn has_too_many(table: &Table, before: u64, declarator: &Declarator) -> bool
-    ensures { (n : ℕ) → before ≡ capped n → result ≡ nat_lt 1048576 (n + elements_by (types_in table.now) (known_at table.now) (declarator_tree declarator.now)) }
+    ensures { Finds (IsCapped before) (has_too_many_at table.now declarator.now) result }
 {
     before.saturating_add(elements_of(table, declarator)) > MOST
 }
@@ -101,7 +97,7 @@ fn has_too_many(table: &Table, before: u64, declarator: &Declarator) -> bool
 /// Whether a declarator has too many dimensions, a lower bound above the upper one, or too many elements with those
 /// that stand before it.
 fn is_too_large(table: &Table, before: u64, declarator: &Declarator) -> bool
-    ensures { (n : ℕ) → before ≡ capped n → result ≡ is_large (types_in table.now) (known_at table.now) n (declarator_tree declarator.now) }
+    ensures { Finds (IsCapped before) (is_too_large_at table.now declarator.now) result }
 {
     let number = declarator.bounds.len();
     let is_array = number > 0;
@@ -111,7 +107,7 @@ fn is_too_large(table: &Table, before: u64, declarator: &Declarator) -> bool
 
 /// Whether one of the declarators is too large.
 fn have_too_large(table: &Table, before: u64, declarators: &[Declarator]) -> bool
-    ensures { (n : ℕ) → before ≡ capped n → result ≡ have_large (types_in table.now) (known_at table.now) n (map declarator_tree declarators.now) }
+    ensures { Finds (IsCapped before) (have_too_large_at table.now declarators.now) result }
 {
     let mut elements = before;
     for declarator in declarators {
@@ -125,7 +121,7 @@ fn have_too_large(table: &Table, before: u64, declarators: &[Declarator]) -> boo
 
 /// How many elements declarators give, with those that stand before them.
 fn with_elements(table: &Table, before: u64, declarators: &[Declarator]) -> u64
-    ensures { (n : ℕ) → before ≡ capped n → result ≡ capped (n + sum_by (elements_by (types_in table.now) (known_at table.now)) (map declarator_tree declarators.now)) }
+    ensures { Finds (IsCapped before) (capped_with table.now declarators.now) result }
 {
     let mut elements = before;
     for declarator in declarators {
@@ -145,7 +141,7 @@ struct LargeArrays<'a> {
 impl Behind for LargeArrays<'_> {
     ghost breaks = { λ s before x. has_large_array (roles_at s.table.roles.now) before x };
 
-    ghost knows = { λ s before. record { table : IsBehind s.table before; elements : s.elements ≡ capped (elements_in (roles_at s.table.roles.now) [] before) } };
+    ghost knows = { λ s before. AreBehind s.table s.elements before };
 
     fn is_broken(&self, item: &Item) -> Result<bool, AllocError> {
         Ok(have_too_large(&self.table, self.elements, declarators_in(&item.form.shape)))
@@ -164,7 +160,7 @@ pub fn large_array(
     roles: &Roles,
     items: &[&Item],
 ) -> Result<Option<Broken>, AllocError>
-    ensures { IfOk result (λ b. b ≡ least (told (has_large_array (roles_at roles.now)) Rule.K7 [] (map tree_at items.now))) }
+    ensures { IfOk result (IsLeast (has_large_array (roles_at roles.now)) Rule.K7 items.now) }
 {
     let mut large = LargeArrays {
         alloc,

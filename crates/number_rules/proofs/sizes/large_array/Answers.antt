@@ -5,7 +5,7 @@ use Rattle.meaning.specs.NumberRules.{has_large_array}
 use Rattle.meaning.specs.NameRules.{told}
 use Rattle.meaning.specs.Refusals.{least}
 use Rattle.roles.specs.RolesAt.{roles_at}
-use Rattle.number_rules.specs.CappedSizes.{capped}
+use Rattle.expressions.specs.Places.{capped}
 use Rattle.rule_passes.specs.Listed.{tree_at}
 use Rattle.number_rules.proofs.Sizing.{elements_none}
 use Rattle.number_rules.proofs.sizes.large_array.Goals as goal

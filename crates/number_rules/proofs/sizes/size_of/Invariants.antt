@@ -2,7 +2,7 @@ use Rattle.std.proofs.Common.{◌≡◌, map, take}
 use Rattle.meaning.specs.Arrays.{size}
 use Rattle.meaning.specs.Scopes.{dimension_of}
 use Rattle.meaning.specs.Syntax.{bounds_tree}
-use Rattle.number_rules.specs.CappedSizes.{capped}
+use Rattle.expressions.specs.Places.{capped}
 use Rattle.number_rules.specs.Tables.{known_at, types_in}
 use Rattle.number_rules.proofs.sizes.size_of.Given as goal
 

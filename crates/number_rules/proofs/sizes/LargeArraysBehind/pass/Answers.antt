@@ -3,7 +3,7 @@ use Rattle.meaning.specs.NumberRules.{elements_in, elements_of, has_large_array}
 use Rattle.meaning.specs.Scopes.{declarators_in}
 use Rattle.meaning.specs.Trees.{item_tree}
 use Rattle.roles.specs.RolesAt.{roles_at}
-use Rattle.number_rules.specs.CappedSizes.{capped}
+use Rattle.expressions.specs.Places.{capped}
 use Rattle.number_rules.specs.Tables.{known_at, types_in}
 use Rattle.rule_passes.proofs.Answering.{on_ok_then}
 use Rattle.number_rules.proofs.Both.{both_ok}
