@@ -20,7 +20,7 @@ use Rattle.roles.specs.Listed.{trees_at}
 use Rattle.roles.specs.RolesAt.{roles_at}
 use Rattle.roles.specs.TypedNames.{implicit_parts, letter_type, typed_names}
 use Rattle.k_rules.specs.declared.verdict.Facts.{Facts}
-use Rattle.k_rules.specs.DataSets.{given_by}
+use Rattle.data_rules.specs.DataSets.{given_by}
 use Rattle.k_rules.specs.Judged.{arrays_in, constant_in, starts_in}
 use Rattle.checker.specs.declared.parts.Entry.{Entry}
 use Rattle.checker.specs.declared.parts.Storage.{Storage}

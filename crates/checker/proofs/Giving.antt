@@ -2,8 +2,8 @@
 use Rattle.std.proofs.Common.{◌≡◌, ℕ, zero, suc, ◌+◌, ◌<◌, ◌≤◌, ℤ, List, [], ◌∷◌, length, get_or, drop, map, Option, refl, sym, subst, arith}
 use Rattle.std.proofs.lemmas.List.{drop_all}
 use Rattle.roles.proofs.Passes.{map_left}
-use Rattle.k_rules.specs.declared.filling.Start.{Start}
-use Rattle.k_rules.specs.Marked.{given_at}
+use Rattle.data_rules.specs.declared.filling.Start.{Start}
+use Rattle.data_rules.specs.Marked.{given_at}
 use Rattle.checker.specs.Given.{AreGiven, IsGiven}
 
 -- what stands at a place does not hang on what else would

@@ -18,8 +18,8 @@ use Rattle.meaning.proofs.Maps.{put_is}
 use Rattle.meaning.proofs.Stores.{known-after_write}
 use Rattle.array_store.specs.Whole.{world_of}
 use Rattle.array_store.proofs.Wholes.{written_is}
-use Rattle.k_rules.specs.DataSets.{HasPlace, given_by}
-use Rattle.k_rules.proofs.DataPairing.{Each, IfEach, sets_placed}
+use Rattle.data_rules.specs.DataSets.{HasPlace, given_by}
+use Rattle.data_rules.proofs.DataPairing.{Each, IfEach, sets_placed}
 use Rattle.checker.specs.Given.{AreGiven, IsGiven}
 use Rattle.checker.specs.Numbered.{named}
 

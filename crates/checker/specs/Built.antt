@@ -8,7 +8,7 @@ use Rattle.roles.specs.RolesAt.{roles_at}
 use Rattle.roles.specs.TypedNames.{implicit_parts, letter_type}
 use Rattle.k_rules.specs.declared.verdict.Facts.{Facts}
 use Rattle.k_rules.specs.Judged.{arrays_in, constant_in, starts_in}
-use Rattle.k_rules.specs.DataSets.{given_by}
+use Rattle.data_rules.specs.DataSets.{given_by}
 use Rattle.meaning.specs.Initial.{starts_from}
 use Rattle.meaning.specs.Rules.{checked}
 use Rattle.meaning.specs.Trees.{nested}

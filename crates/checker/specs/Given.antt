@@ -3,9 +3,9 @@ use Rattle.std.specs.Prelude.{◌≡◌, ℕ, ◌+◌, ℤ, List, [], ◌∷◌,
 use Rattle.std.specs.Global.{Vec}
 use Rattle.indexmap.specs.IndexMap.{IndexMap}
 use Rattle.meaning.specs.Values.{as_integer}
-use Rattle.k_rules.specs.declared.filling.Start.{Start}
-use Rattle.k_rules.specs.DataStages.{Given}
-use Rattle.k_rules.specs.Marked.{given_at}
+use Rattle.data_rules.specs.declared.filling.Start.{Start}
+use Rattle.data_rules.specs.DataStages.{Given}
+use Rattle.data_rules.specs.Marked.{given_at}
 use Rattle.checker.specs.declared.parts.Entry.{Entry}
 use Rattle.checker.specs.Entries.{Placed, Said, said_at}
 

@@ -10,8 +10,8 @@ ghost use Rattle.checker.specs.FormatsFound.{AddsItem, AddsText, AreFormats, Hav
 
 use format_edit::{Format, FormatFault};
 use indexmap::IndexMap;
-use k_rules::format_of;
 use meaning::syntax::{FormatSource, Item, Shape};
+use statement_rules::format_of;
 use std::alloc::{AllocError, Global};
 use std::collections::BTreeMap;
 

@@ -6,9 +6,9 @@ ghost use Rattle.checker.specs.Given.{GivesStart, GivesStarts, first_placed, fir
 
 use crate::entries::plus;
 use crate::parts::Entry;
+use data_rules::Start;
 use expressions::as_integer;
 use indexmap::IndexMap;
-use k_rules::Start;
 use std::alloc::{AllocError, Global};
 
 /// The first cell of the name of which this is kept, if it has cells.

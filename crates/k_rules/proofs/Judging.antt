@@ -24,7 +24,7 @@ use Rattle.meaning.specs.Uses.{Roles, roles_of}
 use Rattle.meaning.proofs.Least.{least-append, merge-merge}
 use Rattle.k_rules.specs.declared.verdict.Facts.{Facts}
 use Rattle.k_rules.specs.Judged.{IsDecided, rules_first, rules_last, with_data}
-use Rattle.k_rules.proofs.DataPairing.{Each}
+use Rattle.data_rules.proofs.DataPairing.{Each}
 use Rattle.rule_passes.proofs.Merging.{told_of}
 
 -- a pair of another rank

@@ -19,11 +19,11 @@ use Rattle.meaning.specs.Trees.{Members}
 use Rattle.meaning.specs.Types.{types_of}
 use Rattle.meaning.specs.Uses.{Roles, roles_of}
 use Rattle.k_rules.specs.declared.verdict.Facts.{Facts}
-use Rattle.k_rules.specs.ArraysKept.{arrays_kept}
-use Rattle.k_rules.specs.DataSets.{given_by}
-use Rattle.k_rules.specs.DataStages.{Given}
-use Rattle.k_rules.specs.KnownNames.{known_in}
-use Rattle.k_rules.specs.Marked.{given_at}
+use Rattle.number_rules.specs.ArraysKept.{arrays_kept}
+use Rattle.data_rules.specs.DataSets.{given_by}
+use Rattle.data_rules.specs.DataStages.{Given}
+use Rattle.number_rules.specs.KnownNames.{known_in}
+use Rattle.data_rules.specs.Marked.{given_at}
 
 abbrev pub constant_in : Facts → List ℕ → Option Value
 constant_in f = known_in f.constants

@@ -11,19 +11,11 @@ ghost use Rattle.meaning.specs.Trees.{flatten, members_tree, nested};
 ghost use Rattle.meaning.specs.Types.{types_of};
 ghost use Rattle.meaning.specs.Uses.{roles_of};
 ghost use Rattle.roles.specs.RolesAt.{roles_at};
-ghost use Rattle.k_rules.specs.DataSets.{given_by};
+ghost use Rattle.data_rules.specs.DataSets.{given_by};
 ghost use Rattle.k_rules.specs.Judged.{HasArrays, HasConstants, HasStarts, IsDecided, arrays_in, constant_in, rules_first, rules_last, starts_in, with_data};
 ghost use Rattle.rule_passes.specs.Listed.{tree_at};
 
-use crate::arrays::{Declared, declared_in};
-use crate::control::misused_variable;
-use crate::filling::{Filling, Start};
-use crate::formats::bad_output;
-use crate::labels::repeated_label;
-use crate::numbers::bad_number;
-use crate::sizes::large_array;
-use crate::starting::{Passed, given_by_data};
-use crate::transfers::missed_label;
+use data_rules::{Filling, Passed, Start, given_by_data};
 use expressions::Dimension;
 use function_rules::{misdefined_function, misused_name, unknown_function};
 use indexmap::IndexMap;
@@ -31,7 +23,9 @@ use meaning::ending::Value;
 use meaning::refusal::{Broken, Refusal, lesser};
 use meaning::syntax::{Item, Member, Tree};
 use name_rules::{disputed_name, real_name, wrong_type};
+use number_rules::{Declared, bad_number, declared_in, large_array};
 use roles::{Roles, items_of};
+use statement_rules::{bad_output, misused_variable, missed_label, repeated_label};
 use std::alloc::{AllocError, Global};
 
 /// What is known of a program unit that breaks no rule.

@@ -1,6 +1,6 @@
 use Rattle.std.proofs.Common.{◌<◌, ◌-◌, ◌^◌, map, pos, replicate, subst}
 use Rattle.k_rules.specs.Judged.{starts_in}
-use Rattle.k_rules.specs.Marked.{given_at}
+use Rattle.data_rules.specs.Marked.{given_at}
 use Rattle.checker.specs.Given.{AreGiven, firsts_in}
 use Rattle.checker.proofs.rules.names_of.Goals as goal
 

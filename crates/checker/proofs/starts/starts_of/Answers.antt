@@ -1,5 +1,5 @@
 use Rattle.std.proofs.Common.{map, subst}
-use Rattle.k_rules.specs.Marked.{given_at}
+use Rattle.data_rules.specs.Marked.{given_at}
 use Rattle.checker.specs.Given.{AreGiven, firsts_in}
 use Rattle.checker.proofs.starts.starts_of.Goals as goal
 

@@ -4,9 +4,9 @@ use Rattle.meaning.specs.Scopes.{arrays_of, known_of}
 use Rattle.meaning.specs.Types.{types_of}
 use Rattle.meaning.specs.Uses.{roles_of}
 use Rattle.roles.specs.RolesAt.{roles_at}
-use Rattle.k_rules.specs.DataSets.{given_by}
+use Rattle.data_rules.specs.DataSets.{given_by}
 use Rattle.rule_passes.specs.Listed.{tree_at}
-use Rattle.k_rules.proofs.DataPassing.{has_filled}
+use Rattle.data_rules.proofs.DataPassing.{has_filled}
 use Rattle.k_rules.proofs.Judging.{allowed, refused, with_data_at}
 use Rattle.k_rules.proofs.verdict.facts_of.Goals as goal
 

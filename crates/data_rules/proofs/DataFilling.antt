@@ -1,0 +1,69 @@
+-- What lists give, one list behind another.
+use Rattle.std.proofs.Common.{◌≡◌, ℕ, zero, suc, ◌+◌, ℤ, Bool, List, [], ◌∷◌, ◌++◌, length, map, Option, Some, None, Result, Ok, Err, refl, sym, ap, subst, ◌∙◌, arith}
+use Rattle.std.specs.List.{range_with_len}
+use Rattle.std.specs.Result.{IfOk}
+use Rattle.meaning.specs.Arrays.{Dimension, elements, place, size}
+use Rattle.meaning.specs.Typing.{Names}
+use Rattle.meaning.specs.Values.{dimensions_in}
+use Rattle.meaning.specs.Initial.{Target, and_also, all_lists, both_lists, target}
+use Rattle.data_rules.specs.DataStages.{Stage, filled, give, give_all, give_places, give_target}
+use Rattle.expressions.proofs.Ordered.{AreNumbered, elements-numbered, elements-length}
+
+and_none : {A B : Type 0} (o : Option A) → and_also {B = B} o (λ x. None) ≡ None
+and_none None = refl
+and_none (Some x) = refl
+
+and_assoc : {A B C : Type 0} (o : Option A) (f : A → Option B) (g : B → Option C) → and_also (and_also o f) g ≡ and_also o (λ x. and_also (f x) g)
+and_assoc None f g = refl
+and_assoc (Some x) f g = refl
+
+module _ (ns : Names) where
+  give_append : (ts us : List Target) (s : Stage) → give_all ns (ts ++ us) s ≡ and_also (give_all ns ts s) (give_all ns us)
+  give_append [] us s = refl
+  give_append (t ∷ ts) us s = by_first (λ r. give_append ts us r) (give_target ns t s) ∙ sym (and_assoc (give_target ns t s) (give_all ns ts) (give_all ns us))
+    where
+      by_first : ((r : Stage) → give_all ns (ts ++ us) r ≡ and_also (give_all ns ts r) (give_all ns us)) → (o : Option Stage) → and_also o (give_all ns (ts ++ us)) ≡ and_also o (λ r. and_also (give_all ns ts r) (give_all ns us))
+      by_first rest None = refl
+      by_first rest (Some r) = rest r
+
+  -- one list behind another
+  pub filled_both : (o p : Option (List Target)) (s : Stage) → filled ns (both_lists o p) s ≡ and_also (filled ns o s) (filled ns p)
+  filled_both None p s = refl
+  filled_both (Some ts) None s = sym (and_none (give_all ns ts s))
+  filled_both (Some ts) (Some us) s = give_append ts us s
+
+  pub filled_one : (t : Target) (s : Stage) → filled ns (Some (t ∷ [])) s ≡ give_target ns t s
+  filled_one t s = by_result (give_target ns t s)
+    where
+      by_result : (o : Option Stage) → and_also o (λ r. Some r) ≡ o
+      by_result None = refl
+      by_result (Some r) = refl
+
+  -- ---- whole arrays
+
+  by_places : (n : List ℕ) (ds : List Dimension) → ns.arrays n ≡ Some ds → (sss : List (List ℤ)) (i : ℕ) (s : Stage) → AreNumbered (place ds) i sss → give_all ns (map (target n) sss) s ≡ give_places ns.types n (range_with_len i (length sss)) s
+  by_places n ds is [] i s h = refl
+  by_places n ds is (ss ∷ sss) i s h =
+      ap (λ o. and_also (and_also o (λ k. give ns.types n k s)) (give_all ns (map (target n) sss))) (ap (λ a. place (dimensions_in a) ss) is ∙ h.0)
+      ∙ by_first (λ r. by_places n ds is sss (i + 1) r (subst (λ k. AreNumbered (place ds) k sss) (one_more i) h.1)) (give ns.types n i s)
+    where
+      one_more : (k : ℕ) → suc k ≡ k + 1
+      one_more k = omega arith
+
+      by_first : ((r : Stage) → give_all ns (map (target n) sss) r ≡ give_places ns.types n (range_with_len (i + 1) (length sss)) r) → (o : Option Stage) → and_also o (give_all ns (map (target n) sss)) ≡ and_also o (give_places ns.types n (range_with_len (i + 1) (length sss)))
+      by_first rest None = refl
+      by_first rest (Some r) = rest r
+
+  pub filled_whole : (n : List ℕ) (ds : List Dimension) (s : Stage) → ns.arrays n ≡ Some ds → filled ns (Some (map (target n) (elements ds))) s ≡ give_places ns.types n (range_with_len 0 (size ds)) s
+  filled_whole n ds s is =
+      by_places n ds is (elements ds) 0 s (elements-numbered ds) ∙ ap (λ k. give_places ns.types n (range_with_len 0 k) s) (elements-length ds)
+
+  -- ---- trips
+
+  -- the lists of trips, the first of which is left
+  pub trips_first : {X : Type 0} (f : X → Option (List Target)) (x : X) (xs : List X) (s : Stage) → filled ns (all_lists (map f (x ∷ xs))) s ≡ and_also (filled ns (f x) s) (filled ns (all_lists (map f xs)))
+  trips_first f x xs s = filled_both (f x) (all_lists (map f xs)) s
+
+pub same_given : {A E : Type 0} (r : Result Bool E) (f : Bool → A) {x y : A} → y ≡ x → IfOk r (λ b. x ≡ f b) → IfOk r (λ b. y ≡ f b)
+same_given (Ok b) f same given = same ∙ given
+same_given (Err e) f same given = tt

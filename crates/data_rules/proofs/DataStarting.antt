@@ -1,0 +1,176 @@
+-- DATA statements break their rule exactly where the sets aren't filled.
+use Rattle.std.proofs.Common.{◌≡◌, Bool, true, false, ◌&&◌, ◌||◌, List, [], ◌∷◌, ◌++◌, map, append_assoc, Option, Some, None, refl, sym, ap, ap₂, subst, ◌∙◌}
+use Rattle.std.specs.Prelude.{◌==◌, if◌then◌else◌, is_none, unwrap_or}
+use Rattle.std.specs.List.{list_any}
+use Rattle.std.specs.Cmp.Lexicographic.{pointwise}
+use Rattle.std.specs.Ordering.{int_eq}
+use Rattle.std.specs.Str.{bytes_eq}
+use Rattle.std.proofs.lemmas.Bool.Decides.{Decides-eqb, Decides-int_eq}
+use Rattle.std.proofs.lemmas.List.{append-nil, map-append}
+use Rattle.std.proofs.lemmas.List.Folds.{list_any-append}
+use Rattle.std.proofs.lemmas.Slice.Eq.{bytes_eq-Decides, slice_eq-Decides}
+use Rattle.meaning.specs.Arrays.{AreOneToOne, place}
+use Rattle.meaning.specs.Syntax.{ItemTree}
+use Rattle.meaning.specs.Typing.{Names}
+use Rattle.meaning.specs.Uses.{Roles}
+use Rattle.meaning.specs.Values.{dimensions_in}
+use Rattle.meaning.specs.NumberRules.{known_behind_all}
+use Rattle.meaning.specs.Initial.{Start, and_also, given_twice, has_bad_data, same_target, sets_of, starts_at, starts_from, starts_or_none}
+use Rattle.meaning.proofs.Elements.{one_to_one}
+use Rattle.data_rules.specs.DataSets.{Agrees, HasPlace, IsFilledBy, fill_sets, given_by, place_at}
+use Rattle.data_rules.specs.DataStages.{Given, Marks, Stage, with_mark}
+use Rattle.data_rules.proofs.DataPairing.{Each, IfEach, accept, sets_filled, sets_placed, stage}
+use Rattle.rule_passes.proofs.Membership.{or_false, or_swap}
+
+and_parts : (a b : Bool) → (a && b) ≡ true → (a ≡ true) × (b ≡ true)
+and_parts true true h = (refl, refl)
+and_parts true false h = absurd cc
+and_parts false b h = absurd cc
+
+both_true : (a b : Bool) → a ≡ true → b ≡ true → (a && b) ≡ true
+both_true true true h k = refl
+both_true true false h k = absurd cc
+both_true false b h k = absurd cc
+
+same_test : (a b : Bool) → (a ≡ true → b ≡ true) → (b ≡ true → a ≡ true) → a ≡ b
+same_test true b f g = sym (f refl)
+same_test false true f g = g refl
+same_test false false f g = refl
+
+module _ (ns : Names) where
+  -- a place of a name is that of one target
+  same_place : (s t : Start) → HasPlace ns s.target → HasPlace ns t.target → (bytes_eq t.target.name s.target.name && ((given_by ns s).place == (given_by ns t).place)) ≡ same_target s.target t.target
+  same_place s t at_s at_t =
+      same_test (bytes_eq t.target.name s.target.name && ((given_by ns s).place == (given_by ns t).place)) (same_target s.target t.target) forth back
+    where
+      known : (u : Start) → HasPlace ns u.target → place_at ns u.target ≡ Some (given_by ns u).place
+      known u at = at.1 ∙ ap Some (sym (ap (λ o. unwrap_or o 0) at.1))
+
+      forth : (bytes_eq t.target.name s.target.name && ((given_by ns s).place == (given_by ns t).place)) ≡ true → same_target s.target t.target ≡ true
+      forth h =
+          let both = and_parts (bytes_eq t.target.name s.target.name) ((given_by ns s).place == (given_by ns t).place) h in
+          let names : s.target.name ≡ t.target.name = sym ((bytes_eq-Decides t.target.name s.target.name).0 both.0) in
+          let places = (Decides-eqb (given_by ns s).place (given_by ns t).place).0 both.1 in
+          let law : AreOneToOne (dimensions_in (ns.arrays s.target.name)) = one_to_one (dimensions_in (ns.arrays s.target.name)) in
+          let subscripts = law.own s.target.subscripts t.target.subscripts (given_by ns s).place (known s at_s) (ap (λ n. place (dimensions_in (ns.arrays n)) t.target.subscripts) names ∙ known t at_t ∙ ap Some (sym places)) in
+          both_true (bytes_eq s.target.name t.target.name) (pointwise int_eq s.target.subscripts t.target.subscripts) ((bytes_eq-Decides s.target.name t.target.name).1 names) ((slice_eq-Decides {E = int_eq} Decides-int_eq s.target.subscripts t.target.subscripts (pointwise int_eq s.target.subscripts t.target.subscripts) refl).1 subscripts)
+
+      back : same_target s.target t.target ≡ true → (bytes_eq t.target.name s.target.name && ((given_by ns s).place == (given_by ns t).place)) ≡ true
+      back h =
+          let both = and_parts (bytes_eq s.target.name t.target.name) (pointwise int_eq s.target.subscripts t.target.subscripts) h in
+          let names = (bytes_eq-Decides s.target.name t.target.name).0 both.0 in
+          let subscripts = (slice_eq-Decides {E = int_eq} Decides-int_eq s.target.subscripts t.target.subscripts (pointwise int_eq s.target.subscripts t.target.subscripts) refl).0 both.1 in
+          both_true (bytes_eq t.target.name s.target.name) ((given_by ns s).place == (given_by ns t).place) ((bytes_eq-Decides t.target.name s.target.name).1 (sym names)) ((Decides-eqb (given_by ns s).place (given_by ns t).place).1 (ap₂ (λ n ss. unwrap_or (place (dimensions_in (ns.arrays n)) ss) 0) names subscripts))
+
+  abbrev marked_more : Marks → Start → Marks
+  marked_more m s = with_mark s.target.name (given_by ns s).place m
+
+  agrees_first : (m : Marks) (earlier : List Start) (s : Start) → Agrees ns m earlier → HasPlace ns s.target → Agrees ns (marked_more m s) (s ∷ earlier)
+  agrees_first m earlier s h at = λ t there.
+      ap₂ ◌||◌ (h t there) (same_place s t at there) ∙ or_swap (list_any (λ e. same_target e.target t.target) earlier) (same_target s.target t.target)
+
+  agrees_last : (m : Marks) (earlier : List Start) (s : Start) → Agrees ns m earlier → HasPlace ns s.target → Agrees ns (marked_more m s) (earlier ++ s ∷ [])
+  agrees_last m earlier s h at = λ t there.
+      let test : Start → Bool = λ e. same_target e.target t.target in
+      ap₂ ◌||◌ (h t there) (same_place s t at there ∙ sym (or_false (same_target s.target t.target)))
+      ∙ sym (list_any-append test earlier (s ∷ []))
+
+  abbrev pub marks_behind : List Start → Marks → Marks
+  marks_behind [] m = m
+  marks_behind (s ∷ ss) m = marks_behind ss (with_mark s.target.name (given_by ns s).place m)
+
+  pub agrees_behind : (ss earlier : List Start) (m : Marks) → Agrees ns m earlier → Each (λ s. HasPlace ns s.target) ss → Agrees ns (marks_behind ss m) (earlier ++ ss)
+  agrees_behind [] earlier m h placed = subst (Agrees ns m) (sym (append-nil earlier)) h
+  agrees_behind (s ∷ ss) earlier m h placed =
+      subst (Agrees ns (marks_behind ss (marked_more m s))) (append_assoc earlier (s ∷ []) ss)
+      (agrees_behind ss (earlier ++ s ∷ []) (marked_more m s) (agrees_last m earlier s h placed.0) placed.1)
+
+  abbrev pub stage_behind : List Start → Marks → List Given → Stage
+  stage_behind ss m g = stage (marks_behind ss m) (g ++ map (given_by ns) ss) []
+
+  accepted : (ss earlier : List Start) (m : Marks) (g : List Given) → Agrees ns m earlier → Each (λ s. HasPlace ns s.target) ss → accept ns ss m g ≡ (if given_twice earlier ss then None else Some (stage_behind ss m g))
+  accepted [] earlier m g h placed = ap (λ xs. Some (stage m xs [])) (sym (append-nil g))
+  accepted (s ∷ ss) earlier m g h placed =
+      let rest = accepted ss (s ∷ earlier) (marked_more m s) (g ++ given_by ns s ∷ []) (agrees_first m earlier s h placed.0) placed.1 in
+      ap (λ b. if b then None else accept ns ss (marked_more m s) (g ++ given_by ns s ∷ [])) (h s placed.0)
+      ∙ ap (λ o. if list_any (λ e. same_target e.target s.target) earlier then None else o) rest
+      ∙ by_test (list_any (λ e. same_target e.target s.target) earlier) (given_twice (s ∷ earlier) ss) (Some (stage_behind ss (marked_more m s) (g ++ given_by ns s ∷ [])))
+      ∙ ap (λ xs. if given_twice earlier (s ∷ ss) then None else Some (stage (marks_behind (s ∷ ss) m) xs [])) (append_assoc g (given_by ns s ∷ []) (map (given_by ns) ss))
+    where
+      by_test : (a b : Bool) (o : Option Stage) → (if a then None else (if b then None else o)) ≡ (if a || b then None else o)
+      by_test true b o = refl
+      by_test false b o = refl
+
+-- ---- statements
+
+module _ (r : Roles) where
+  pub starts_none : (before : List ItemTree) → starts_from r before [] ≡ []
+  unfolding starts_from
+  starts_none before = refl
+
+  starts_append : (before xs : List ItemTree) (x : ItemTree) → starts_from r before (xs ++ x ∷ []) ≡ starts_from r before xs ++ starts_or_none (starts_at r (before ++ xs) x)
+  unfolding starts_from
+  starts_append before [] x =
+      append-nil (starts_or_none (starts_at r before x)) ∙ ap (λ b. starts_or_none (starts_at r b x)) (sym (append-nil before))
+  starts_append before (y ∷ ys) x =
+      ap (λ ss. starts_or_none (starts_at r before y) ++ ss) (starts_append (before ++ y ∷ []) ys x)
+      ∙ sym (append_assoc (starts_or_none (starts_at r before y)) (starts_from r (before ++ y ∷ []) ys) (starts_or_none (starts_at r ((before ++ y ∷ []) ++ ys) x)))
+      ∙ ap (λ b. (starts_or_none (starts_at r before y) ++ starts_from r (before ++ y ∷ []) ys) ++ starts_or_none (starts_at r b x)) (append_assoc before (y ∷ []) ys)
+
+  starts_push : (before : List ItemTree) (x : ItemTree) → starts_from r [] (before ++ x ∷ []) ≡ starts_from r [] before ++ starts_or_none (starts_at r before x)
+  starts_push before x = starts_append [] before x
+
+  pub filled_none : IsFilledBy r [] (stage (λ n i. false) [] [])
+  filled_none = record {
+    marked = λ t at. sym (ap (list_any (λ e. same_target e.target t.target)) (starts_none []));
+    given = sym (ap (map (given_by r.names)) (starts_none []));
+    values = refl;
+  }
+
+  module _ (before : List ItemTree) (x : ItemTree) (s : Stage) where
+    abbrev here : List Start
+    here = starts_or_none (starts_at r before x)
+
+    abbrev behind : Stage
+    behind = stage_behind r.names here s.marked s.given
+
+    statement_filled : IsFilledBy r before s → fill_sets r (known_behind_all r before) (sets_of x.shape) s ≡ (if has_bad_data r before x then None else Some behind)
+    statement_filled h =
+        ap (λ os. fill_sets r (known_behind_all r before) (sets_of x.shape) (stage s.marked s.given os)) h.values
+        ∙ sets_filled r (known_behind_all r before) (sets_of x.shape) s.marked s.given
+        ∙ by_starts (starts_at r before x) (sets_placed r (known_behind_all r before) (sets_of x.shape))
+      where
+        by_starts : (o : Option (List Start)) → IfEach (λ u. HasPlace r.names u.target) o → and_also o (λ ss. accept r.names ss s.marked s.given) ≡ (if is_none o || given_twice (starts_from r [] before) (starts_or_none o) then None else Some (stage_behind r.names (starts_or_none o) s.marked s.given))
+        by_starts None placed = refl
+        by_starts (Some ss) placed = accepted r.names ss (starts_from r [] before) s.marked s.given h.marked placed
+
+    starts_placed : (o : Option (List Start)) → IfEach (λ u. HasPlace r.names u.target) o → Each (λ u. HasPlace r.names u.target) (starts_or_none o)
+    starts_placed None placed = tt
+    starts_placed (Some ss) placed = placed
+
+    behind_filled : IsFilledBy r before s → IsFilledBy r (before ++ x ∷ []) behind
+    behind_filled h = record {
+      marked =
+          subst (Agrees r.names behind.marked) (sym (starts_push before x))
+          (agrees_behind r.names here (starts_from r [] before) s.marked h.marked
+          (starts_placed (starts_at r before x) (sets_placed r (known_behind_all r before) (sets_of x.shape))));
+      given =
+          ap (λ gs. gs ++ map (given_by r.names) here) h.given ∙ sym (map-append (given_by r.names) (starts_from r [] before) here)
+          ∙ ap (map (given_by r.names)) (sym (starts_push before x));
+      values = refl;
+    }
+
+    -- what the sets of a statement come to
+    pub bad_data : IsFilledBy r before s → None ≡ fill_sets r (known_behind_all r before) (sets_of x.shape) s → has_bad_data r before x ≡ true
+    bad_data h none = by_test (has_bad_data r before x) (none ∙ statement_filled h)
+      where
+        by_test : (b : Bool) → None ≡ (if b then None else Some behind) → b ≡ true
+        by_test true e = refl
+        by_test false e = absurd cc
+
+    pub good_data : IsFilledBy r before s → (next : Stage) → Some next ≡ fill_sets r (known_behind_all r before) (sets_of x.shape) s → (has_bad_data r before x ≡ false) × IsFilledBy r (before ++ x ∷ []) next
+    good_data h next some = by_test (has_bad_data r before x) (some ∙ statement_filled h)
+      where
+        by_test : (b : Bool) → Some next ≡ (if b then None else Some behind) → (b ≡ false) × IsFilledBy r (before ++ x ∷ []) next
+        by_test true e = absurd cc
+        by_test false e = let same : next ≡ behind = cc in (refl, subst (IsFilledBy r (before ++ x ∷ [])) (sym same) (behind_filled h))

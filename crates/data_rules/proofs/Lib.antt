@@ -1,0 +1,11 @@
+pub mod DataRunning
+pub mod Marking
+pub mod DataPlacing
+pub mod Quotients
+pub mod DataFilling
+pub mod TripsBetween
+pub mod DataListing
+pub mod DataPairing
+pub mod DataStarting
+pub mod DataSetsMore
+pub mod DataPassing

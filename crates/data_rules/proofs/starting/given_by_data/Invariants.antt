@@ -1,0 +1,13 @@
+use Rattle.std.proofs.Common.{◌≡◌, map, take}
+use Rattle.roles.specs.RolesAt.{roles_at}
+use Rattle.data_rules.specs.DataPassed.{IsPassed}
+use Rattle.rule_passes.specs.Listed.{tree_at}
+use Rattle.number_rules.specs.Tables.{IsBehind}
+use Rattle.data_rules.proofs.starting.given_by_data.Given as goal
+
+abbrev pub invariant-loop-item : goal.invariant-loop-item
+invariant-loop-item l = record {
+  roles : l.table.roles.now ≡ l.fn.roles;
+  behind : IsBehind l.table (map tree_at (take l.item-index l.items));
+  passed : IsPassed (roles_at l.fn.roles) l.fn.others (map tree_at (take l.item-index l.items)) l.passed;
+}

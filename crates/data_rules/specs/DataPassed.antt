@@ -1,0 +1,34 @@
+-- DATA statements that were passed, and the least pair of broken rules.
+use Rattle.std.specs.Prelude.{◌≡◌, ℕ, Bool, true, List, [], ◌∷◌, ◌++◌, is_some, Option, Some, None}
+use Rattle.meaning.specs.declared.refusal.Broken.{Broken}
+use Rattle.meaning.specs.declared.refusal.Rule.TheVariants.{K10}
+use Rattle.meaning.specs.Initial.{has_bad_data}
+use Rattle.meaning.specs.NameRules.{told}
+use Rattle.meaning.specs.Refusals.{is_less, least, merge}
+use Rattle.meaning.specs.Syntax.{ItemTree}
+use Rattle.meaning.specs.Uses.{Roles}
+use Rattle.data_rules.specs.declared.filling.Filling.{Filling}
+use Rattle.number_rules.specs.declared.known.Table.{Table}
+use Rattle.data_rules.specs.declared.starting.Passed.{Passed}
+use Rattle.roles.specs.RolesAt.{roles_at}
+use Rattle.data_rules.specs.DataSets.{IsFilledBy, stage_by}
+use Rattle.number_rules.specs.Tables.{IsBehind}
+
+-- whether a DATA statement at a line would break its rule before others are broken
+abbrev pub comes_first : ℕ → Option Broken → Bool
+comes_first line None = true
+comes_first line (Some b) = is_less (record { line = line; rule = K10 }) b
+
+-- what was given, where no pair was told before
+abbrev pub IsFilledOr : Roles → List ItemTree → Bool → Option Filling → Type 0
+IsFilledOr r before told_one None = told_one ≡ true
+IsFilledOr r before told_one (Some f) = IsFilledBy r before (stage_by f)
+
+pub record IsPassed (r : Roles) (others : Option Broken) (before : List ItemTree) (p : Passed) : Type 0 where
+  pub broken : p.broken ≡ merge others (least (told (has_bad_data r) K10 [] before))
+  pub filling : IsFilledOr r before (is_some p.broken) p.filling
+
+-- a statement is passed behind others
+abbrev pub GoesOn : Table → ItemTree → Passed → Passed → Type 0
+GoesOn t x p q =
+    (others : Option Broken) (before : List ItemTree) → IsBehind t before → IsPassed (roles_at t.roles.now) others before p → IsPassed (roles_at t.roles.now) others (before ++ x ∷ []) q

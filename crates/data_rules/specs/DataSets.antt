@@ -1,0 +1,58 @@
+-- The sets of DATA statements, filled one after another (ANSI X3.9-1978, 9.1).
+use Rattle.std.specs.Prelude.{◌≡◌, ℕ, List, [], ◌∷◌, map, unwrap_or, if◌then◌else◌, Option, Some, None}
+use Rattle.std.specs.List.{list_any}
+use Rattle.meaning.specs.declared.ending.Value.{Value}
+use Rattle.meaning.specs.Arrays.{place}
+use Rattle.meaning.specs.Syntax.{DataSetTree, ItemTree, ListItemsTree}
+use Rattle.meaning.specs.Typing.{Names}
+use Rattle.meaning.specs.Uses.{Roles}
+use Rattle.meaning.specs.Values.{Known, dimensions_in}
+use Rattle.meaning.specs.Initial.{Start, Target, and_also, same_target, starts_from, targets_in}
+use Rattle.data_rules.specs.declared.filling.Filling.{Filling}
+use Rattle.data_rules.specs.DataRuns.{values_of}
+use Rattle.data_rules.specs.DataStages.{Given, Marks, Stage, filled, is_empty_list}
+use Rattle.data_rules.specs.Marked.{given_at, marked_in}
+
+-- where a variable or an element stands among the elements of its name
+abbrev pub place_at : Names → Target → Option ℕ
+place_at ns t = place (dimensions_in (ns.arrays t.name)) t.subscripts
+
+abbrev pub HasPlace : Names → Target → Type 0
+HasPlace ns t = (i : ℕ) × (place_at ns t ≡ Some i)
+
+-- a start by its name and its place
+abbrev pub given_by : Names → Start → Given
+given_by ns s = record { name = s.target.name; place = unwrap_or (place_at ns s.target) 0; value = s.value }
+
+-- a stage with these values in place of those that are left
+abbrev pub with_values : List (Option Value) → Stage → Stage
+with_values os s = record { marked = s.marked; given = s.given; values = os }
+
+abbrev pub if_used_up : Stage → Option Stage
+if_used_up s = if is_empty_list s.values then Some (with_values [] s) else None
+
+-- the targets of a list, which use up the values that are left
+abbrev pub fill_list : Roles → Known → ListItemsTree → Stage → Option Stage
+fill_list r known xs s = and_also (filled r.names (targets_in r xs known) s) if_used_up
+
+abbrev pub fill_set : Roles → Known → DataSetTree → Stage → Option Stage
+fill_set r known x s = fill_list r known x.list (with_values (values_of known x.values) s)
+
+abbrev pub fill_sets : Roles → Known → List DataSetTree → Stage → Option Stage
+fill_sets r known [] s = Some s
+fill_sets r known (x ∷ xs) s = and_also (fill_set r known x s) (fill_sets r known xs)
+
+-- what was given between two sets
+abbrev pub stage_by : Filling → Stage
+stage_by f = record { marked = marked_in f.marks; given = map given_at f.starts.items; values = [] }
+
+-- marks tell which of those that have a place were given a value
+abbrev pub Agrees : Names → Marks → List Start → Type 0
+Agrees ns m earlier =
+    (t : Start) → HasPlace ns t.target → m t.target.name (given_by ns t).place ≡ list_any (λ e. same_target e.target t.target) earlier
+
+-- what the DATA statements among these gave
+pub record IsFilledBy (r : Roles) (before : List ItemTree) (s : Stage) : Type 0 where
+  pub marked : Agrees r.names s.marked (starts_from r [] before)
+  pub given : s.given ≡ map (given_by r.names) (starts_from r [] before)
+  pub values : s.values ≡ []

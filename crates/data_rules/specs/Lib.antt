@@ -1,0 +1,11 @@
+pub mod DataStages
+pub mod Marked
+pub mod DataRuns
+pub mod Filled
+pub mod DataPlaces
+pub mod DataTrips
+pub mod DataGiving
+pub mod SameScope
+pub mod DataItems
+pub mod DataSets
+pub mod DataPassed

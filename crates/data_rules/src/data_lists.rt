@@ -1,0 +1,114 @@
+//! What the lists of DATA statements are given (ANSI X3.9-1978, 9.1 and 9.3).
+
+ghost use Rattle.std.specs.Prelude.{◌≡◌, ℕ, List, if◌then◌else◌, Some, None, IfOk, OnOk};
+ghost use Rattle.meaning.specs.Initial.{is_counter as is_counter_by, targets_in};
+ghost use Rattle.meaning.specs.Syntax.{list_item_tree, list_items_tree};
+ghost use Rattle.number_rules.specs.ArraysKept.{arrays_kept};
+ghost use Rattle.data_rules.specs.DataGiving.{known_there, roles_in, stage_of};
+ghost use Rattle.data_rules.specs.DataItems.{item_targets, trips_targets};
+ghost use Rattle.data_rules.specs.DataStages.{filled};
+ghost use Rattle.data_rules.specs.DataTrips.{trips_by};
+ghost use Rattle.data_rules.specs.SameScope.{IsSameScope};
+ghost use Rattle.roles.specs.RolesAt.{roles_at};
+
+use crate::giving::{Giving, give_value};
+use crate::trips::{Trips, next_trip, trips_of, value_of_trip};
+use expressions::Dimension;
+use indexmap::IndexMap;
+use meaning::ending::Value;
+use meaning::syntax::{DataType, ListItem, ListItems};
+use number_rules::{enter_name, leave_name};
+use roles::{Roles, is_other_name, type_of_name};
+use std::alloc::{AllocError, Global};
+
+/// Whether a name can be that of the variable of an implied DO.
+pub fn is_counter(roles: &Roles, name: &[u8]) -> bool
+    ensures { result ≡ is_counter_by (roles_at roles.now) name.now }
+{
+    match type_of_name(roles, name) {
+        Some(DataType::Integer) => is_other_name(roles, name),
+        Some(DataType::Logical) => false,
+        None => false,
+    }
+}
+
+/// Gives values to the items of an implied DO, trip after trip; false where one doesn't get its value.
+#[cycle(data_lists)]
+fn give_trips<'a: 'b, 'b>(
+    giving: &mut Giving<'a, 'b>,
+    alloc: Global,
+    arrays: &IndexMap<Vec<u8>, Vec<Dimension>>,
+    items: &'a ListItems,
+    variable: &'a [u8],
+    trips: Trips,
+) -> Result<bool, AllocError>
+    requires { (n : List ℕ) → arrays_kept arrays.now n ≡ (roles_in giving.old).names.arrays n }
+    ensures filled { IfOk result (λ b. filled (roles_in giving.old).names (trips_targets (roles_in giving.old) (list_items_tree items.entry.now) variable.entry.now (known_there giving.old) (trips_by trips)) (stage_of giving.old) ≡ (if b then Some (stage_of giving.new) else None)) }
+    ensures same { OnOk result (IsSameScope giving.old.scope giving.new.scope) }
+{
+    let mut value = i64::from(trips.first);
+    for _ in 0..trips.count {
+        let here = value_of_trip(value)?;
+        enter_name(&mut giving.scope, variable, Some(Value::Int(here)))?;
+        let given = give_items(giving, alloc, arrays, items)?;
+        leave_name(&mut giving.scope);
+        if !given {
+            return Ok(false);
+        }
+        value = next_trip(value, trips.step)?;
+    }
+    Ok(true)
+}
+
+/// Gives values to what an item stands for; false where it stands for nothing, or doesn't get its values.
+#[cycle(data_lists)]
+fn give_item<'a: 'b, 'b>(
+    giving: &mut Giving<'a, 'b>,
+    alloc: Global,
+    arrays: &IndexMap<Vec<u8>, Vec<Dimension>>,
+    item: &'a ListItem,
+) -> Result<bool, AllocError>
+    requires { (n : List ℕ) → arrays_kept arrays.now n ≡ (roles_in giving.old).names.arrays n }
+    ensures filled { IfOk result (λ b. filled (roles_in giving.old).names (item_targets (roles_in giving.old) (list_item_tree item.entry.now) (known_there giving.old)) (stage_of giving.old) ≡ (if b then Some (stage_of giving.new) else None)) }
+    ensures same { OnOk result (IsSameScope giving.old.scope giving.new.scope) }
+{
+    match item {
+        ListItem::Value(expression) => give_value(giving, alloc, arrays, expression),
+        ListItem::Loop {
+            items,
+            variable,
+            limits,
+        } => {
+            if !is_counter(giving.scope.table.roles, variable) {
+                return Ok(false);
+            }
+            match trips_of(&giving.scope, limits) {
+                Some(trips) => give_trips(giving, alloc, arrays, items, variable, trips),
+                None => Ok(false),
+            }
+        }
+    }
+}
+
+/// Gives values to what items stand for; false where one stands for nothing, or doesn't get its values.
+#[cycle(data_lists)]
+pub fn give_items<'a: 'b, 'b>(
+    giving: &mut Giving<'a, 'b>,
+    alloc: Global,
+    arrays: &IndexMap<Vec<u8>, Vec<Dimension>>,
+    items: &'a ListItems,
+) -> Result<bool, AllocError>
+    requires { (n : List ℕ) → arrays_kept arrays.now n ≡ (roles_in giving.old).names.arrays n }
+    ensures filled { IfOk result (λ b. filled (roles_in giving.old).names (targets_in (roles_in giving.old) (list_items_tree items.entry.now) (known_there giving.old)) (stage_of giving.old) ≡ (if b then Some (stage_of giving.new) else None)) }
+    ensures same { OnOk result (IsSameScope giving.old.scope giving.new.scope) }
+{
+    match items {
+        ListItems::Empty => Ok(true),
+        ListItems::More(item, rest) => {
+            if !give_item(giving, alloc, arrays, item)? {
+                return Ok(false);
+            }
+            give_items(giving, alloc, arrays, rest)
+        }
+    }
+}

@@ -1,0 +1,136 @@
+//! What the items in the lists of DATA statements are given (ANSI X3.9-1978, 9.1).
+
+ghost use Rattle.std.specs.Prelude.{◌≡◌, ℕ, List, if◌then◌else◌, Some, None, map, IfOk};
+ghost use Rattle.meaning.specs.Arrays.{size};
+ghost use Rattle.meaning.specs.Initial.{element_target, value_targets, whole_target};
+ghost use Rattle.meaning.specs.Syntax.{expr_tree, exprs_tree};
+ghost use Rattle.meaning.specs.Uses.{is_other};
+ghost use Rattle.number_rules.specs.ArraysKept.{arrays_kept};
+ghost use Rattle.data_rules.specs.DataGiving.{known_there, roles_in, stage_of};
+ghost use Rattle.data_rules.specs.DataStages.{filled};
+ghost use Rattle.expressions.specs.Dimensions.{dimension};
+
+use crate::data_values::Values;
+use crate::elements::place_in;
+use crate::filling::{Filling, give, give_elements};
+use expressions::Dimension;
+use indexmap::IndexMap;
+use meaning::syntax::{Expr, Exprs};
+use number_rules::Scope;
+use roles::is_other_name;
+use std::alloc::{AllocError, Global};
+
+/// What DATA statements have given so far, the values of a set that are left, and the names that are known in its list.
+#[derive(Drop)]
+pub struct Giving<'a, 'b> {
+    pub filling: Filling<'a>,
+    pub values: Values<'b>,
+    pub scope: Scope<'b>,
+}
+
+/// How many elements an array of these dimensions has. The `AllocError` comes where there are 2^64 or more.
+fn size_of(dimensions: &[Dimension]) -> Result<u64, AllocError>
+    ensures { IfOk result (λ n. n ≡ size (map dimension dimensions.now)) }
+{
+    match dimensions.split_first() {
+        None => Ok(1),
+        Some((first, more)) => {
+            let rows = size_of(more)?;
+            match first.extent().checked_mul(rows) {
+                Some(elements) => Ok(elements),
+                None => Err(AllocError),
+            }
+        }
+    }
+}
+
+/// Gives values to a variable or a whole array; false where the name is neither, or a value is missing or doesn't fit.
+fn give_name<'a: 'b, 'b>(
+    giving: &mut Giving<'a, 'b>,
+    alloc: Global,
+    arrays: &IndexMap<Vec<u8>, Vec<Dimension>>,
+    name: &'a [u8],
+) -> Result<bool, AllocError>
+    requires { (n : List ℕ) → arrays_kept arrays.now n ≡ (roles_in giving.old).names.arrays n }
+    ensures filled { IfOk result (λ b. filled (roles_in giving.old).names (whole_target ((roles_in giving.old).names.arrays name.entry.now) (is_other (roles_in giving.old) name.entry.now) name.entry.now) (stage_of giving.old) ≡ (if b then Some (stage_of giving.new) else None)) }
+    ensures same { giving.new.scope ≡ giving.old.scope }
+{
+    let roles = giving.scope.table.roles;
+    match arrays.get(name) {
+        Some(dimensions) => {
+            let size = size_of(dimensions)?;
+            give_elements(
+                &mut giving.filling,
+                &mut giving.values,
+                alloc,
+                roles,
+                name,
+                size,
+            )
+        }
+        None => {
+            if is_other_name(roles, name) {
+                give(
+                    &mut giving.filling,
+                    &mut giving.values,
+                    alloc,
+                    roles,
+                    name,
+                    0,
+                )
+            } else {
+                Ok(false)
+            }
+        }
+    }
+}
+
+/// Gives a value to an array element; false where there is none, or the value is missing or doesn't fit.
+fn give_element<'a: 'b, 'b>(
+    giving: &mut Giving<'a, 'b>,
+    alloc: Global,
+    arrays: &IndexMap<Vec<u8>, Vec<Dimension>>,
+    name: &'a [u8],
+    subscripts: &Exprs,
+) -> Result<bool, AllocError>
+    requires { (n : List ℕ) → arrays_kept arrays.now n ≡ (roles_in giving.old).names.arrays n }
+    ensures filled { IfOk result (λ b. filled (roles_in giving.old).names (element_target (roles_in giving.old).names.types (known_there giving.old) ((roles_in giving.old).names.arrays name.entry.now) name.entry.now (exprs_tree subscripts.now)) (stage_of giving.old) ≡ (if b then Some (stage_of giving.new) else None)) }
+    ensures same { giving.new.scope ≡ giving.old.scope }
+{
+    match arrays.get(name) {
+        Some(dimensions) => match place_in(&giving.scope, dimensions, subscripts)? {
+            Some(place) => {
+                let roles = giving.scope.table.roles;
+                give(
+                    &mut giving.filling,
+                    &mut giving.values,
+                    alloc,
+                    roles,
+                    name,
+                    place,
+                )
+            }
+            None => Ok(false),
+        },
+        None => Ok(false),
+    }
+}
+
+/// Gives values to what an item of a list that is no implied DO stands for; false where it stands for nothing, or a value is
+/// missing or doesn't fit.
+pub fn give_value<'a: 'b, 'b>(
+    giving: &mut Giving<'a, 'b>,
+    alloc: Global,
+    arrays: &IndexMap<Vec<u8>, Vec<Dimension>>,
+    expression: &'a Expr,
+) -> Result<bool, AllocError>
+    requires { (n : List ℕ) → arrays_kept arrays.now n ≡ (roles_in giving.old).names.arrays n }
+    ensures filled { IfOk result (λ b. filled (roles_in giving.old).names (value_targets (roles_in giving.old) (known_there giving.old) (expr_tree expression.entry.now)) (stage_of giving.old) ≡ (if b then Some (stage_of giving.new) else None)) }
+    ensures same { giving.new.scope ≡ giving.old.scope }
+{
+    match expression {
+        Expr::Name(name) => give_name(giving, alloc, arrays, name),
+        Expr::Element(name, subscripts) => give_element(giving, alloc, arrays, name, subscripts),
+        _ => Ok(false),
+    }
+}

@@ -1,0 +1,197 @@
+//! What DATA statements give, one statement after another (ANSI X3.9-1978, chapter 9).
+
+ghost use Rattle.std.specs.Prelude.{◌≡◌, ℕ, List, if◌then◌else◌, Some, None, map, option_map, IfOk};
+ghost use Rattle.meaning.specs.Initial.{sets_of};
+ghost use Rattle.meaning.specs.Syntax.{data_set_tree, list_items_tree, shape_tree};
+ghost use Rattle.meaning.specs.Trees.{item_tree};
+ghost use Rattle.roles.specs.RolesAt.{roles_at};
+ghost use Rattle.number_rules.specs.ArraysKept.{arrays_kept};
+ghost use Rattle.data_rules.specs.DataGiving.{known_there, roles_in, stage_of};
+ghost use Rattle.data_rules.specs.DataPassed.{GoesOn, IsPassed, comes_first};
+ghost use Rattle.data_rules.specs.DataSets.{fill_list, fill_set, fill_sets, stage_by};
+ghost use Rattle.rule_passes.specs.Listed.{tree_at};
+ghost use Rattle.number_rules.specs.Tables.{known_at};
+
+use crate::data_lists::give_items;
+use crate::data_values::{is_used_up, values_in};
+use crate::filling::Filling;
+use crate::giving::Giving;
+use expressions::Dimension;
+use indexmap::IndexMap;
+use meaning::refusal::{Broken, Rule};
+use meaning::syntax::{DataSet, Item, ListItems, Shape};
+use number_rules::{Table, pass_constants, scope_of, table_of};
+use roles::Roles;
+use std::alloc::{AllocError, Global};
+
+/// Gives a list the values of its set; false where an item doesn't get its value, or a value is left over.
+fn give_list<'a: 'b, 'b>(
+    giving: &mut Giving<'a, 'b>,
+    alloc: Global,
+    arrays: &IndexMap<Vec<u8>, Vec<Dimension>>,
+    list: &'a ListItems,
+) -> Result<bool, AllocError>
+    requires { (n : List ℕ) → arrays_kept arrays.now n ≡ (roles_in giving.old).names.arrays n }
+    ensures { IfOk result (λ b. fill_list (roles_in giving.old) (known_there giving.old) (list_items_tree list.entry.now) (stage_of giving.old) ≡ (if b then Some (stage_by giving.new.filling) else None)) }
+{
+    let given = give_items(giving, alloc, arrays, list)?;
+    if !given {
+        return Ok(false);
+    }
+    is_used_up(&mut giving.values)
+}
+
+/// Fills a set, unless what its list stands for and its values don't fit.
+fn give_set<'a: 'b, 'b>(
+    filling: Filling<'a>,
+    alloc: Global,
+    table: &'b Table<'b>,
+    arrays: &IndexMap<Vec<u8>, Vec<Dimension>>,
+    set: &'a DataSet,
+) -> Result<Option<Filling<'a>>, AllocError>
+    requires { (n : List ℕ) → arrays_kept arrays.now n ≡ (roles_at table.now.roles.now).names.arrays n }
+    ensures { IfOk result (λ o. option_map stage_by o ≡ fill_set (roles_at table.now.roles.now) (known_at table.now) (data_set_tree set.entry.now) (stage_by filling.entry)) }
+{
+    let mut giving = Giving {
+        filling,
+        values: values_in(table, &set.values),
+        scope: scope_of(alloc, table),
+    };
+    match give_list(&mut giving, alloc, arrays, &set.list) {
+        Ok(given) => {
+            if given {
+                let Giving {
+                    filling,
+                    values: _,
+                    scope,
+                } = giving;
+                drop(scope);
+                Ok(Some(filling))
+            } else {
+                drop(giving);
+                Ok(None)
+            }
+        }
+        Err(refused) => {
+            drop(giving);
+            Err(refused)
+        }
+    }
+}
+
+/// Fills sets, unless one of them doesn't fit.
+fn give_sets<'a: 'b, 'b>(
+    filling: Filling<'a>,
+    alloc: Global,
+    table: &'b Table<'b>,
+    arrays: &IndexMap<Vec<u8>, Vec<Dimension>>,
+    sets: &'a [DataSet],
+) -> Result<Option<Filling<'a>>, AllocError>
+    requires { (n : List ℕ) → arrays_kept arrays.now n ≡ (roles_at table.now.roles.now).names.arrays n }
+    ensures { IfOk result (λ o. option_map stage_by o ≡ fill_sets (roles_at table.now.roles.now) (known_at table.now) (map data_set_tree sets.entry.now) (stage_by filling.entry)) }
+{
+    let mut so_far = filling;
+    for set in sets {
+        match give_set(so_far, alloc, table, arrays, set)? {
+            Some(more) => so_far = more,
+            None => return Ok(None),
+        }
+    }
+    Ok(Some(so_far))
+}
+
+/// The sets of a DATA statement.
+fn sets_in(shape: &Shape) -> &[DataSet]
+    ensures { map data_set_tree result.now ≡ sets_of (shape_tree shape.now) }
+{
+    match shape {
+        Shape::Data(sets) => sets,
+        _ => &[],
+    }
+}
+
+/// Whether a DATA statement at a line would break its rule before others are broken.
+fn is_first(line: u32, others: Option<Broken>) -> bool
+    ensures { result ≡ comes_first line others }
+{
+    match others {
+        None => true,
+        Some(other) => {
+            line < other.line || (line == other.line && Rule::K10.rank() < other.rule.rank())
+        }
+    }
+}
+
+/// What the statements that were passed come to: the least broken pair, and what DATA statements have given; nothing where one
+/// doesn't fit, or stands behind that pair.
+#[derive(Drop)]
+pub struct Passed<'a> {
+    pub broken: Option<Broken>,
+    pub filling: Option<Filling<'a>>,
+}
+
+/// Passes a statement. The `AllocError` comes where it stands in front of one that was passed behind the least pair, too; the
+/// statements of a source stand in the order of their lines.
+fn pass_data<'a: 'b, 'b>(
+    passed: Passed<'a>,
+    alloc: Global,
+    table: &'b Table<'b>,
+    arrays: &IndexMap<Vec<u8>, Vec<Dimension>>,
+    item: &'a Item,
+) -> Result<Passed<'a>, AllocError>
+    requires { (n : List ℕ) → arrays_kept arrays.now n ≡ (roles_at table.now.roles.now).names.arrays n }
+    ensures { IfOk result (λ p. GoesOn table.now (item_tree item.entry.now) passed.entry p) }
+{
+    let Passed { broken, filling } = passed;
+    if !is_first(item.line, broken) {
+        drop(filling);
+        return Ok(Passed {
+            broken,
+            filling: None,
+        });
+    }
+    match filling {
+        None => Err(AllocError),
+        Some(so_far) => {
+            let sets = sets_in(&item.form.shape);
+            match give_sets(so_far, alloc, table, arrays, sets)? {
+                Some(more) => Ok(Passed {
+                    broken,
+                    filling: Some(more),
+                }),
+                None => Ok(Passed {
+                    broken: Some(Broken {
+                        line: item.line,
+                        rule: Rule::K10,
+                    }),
+                    filling: None,
+                }),
+            }
+        }
+    }
+}
+
+/// K10: the least pair of the others and of the DATA statements, and what they give where there is none.
+pub fn given_by_data<'a>(
+    alloc: Global,
+    roles: &Roles,
+    arrays: &IndexMap<Vec<u8>, Vec<Dimension>>,
+    items: &[&'a Item],
+    others: Option<Broken>,
+) -> Result<Passed<'a>, AllocError>
+    requires { (n : List ℕ) → arrays_kept arrays.now n ≡ (roles_at roles.now).names.arrays n }
+    ensures { IfOk result (λ p. IsPassed (roles_at roles.now) others (map tree_at items.now) p) }
+{
+    let mut table = table_of(alloc, roles);
+    let marks = IndexMap::new(alloc);
+    let starts = Vec::new(alloc);
+    let mut passed = Passed {
+        broken: others,
+        filling: Some(Filling { marks, starts }),
+    };
+    for &item in items {
+        passed = pass_data(passed, alloc, &table, arrays, item)?;
+        pass_constants(&mut table, alloc, item)?;
+    }
+    Ok(passed)
+}

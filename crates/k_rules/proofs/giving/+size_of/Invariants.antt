@@ -1,5 +1,0 @@
-use Rattle.std.proofs.Common.{length}
-use Rattle.k_rules.proofs.giving.+size_of.Given as goal
-
-abbrev pub decreases-size_of : goal.decreases-size_of
-decreases-size_of l = length l.dimensions.now

@@ -1,9 +1,0 @@
-use Rattle.meaning.specs.Surroundings.{own_items}
-use Rattle.meaning.specs.Trees.{members_tree}
-use Rattle.k_rules.specs.Counted.{count_in}
-use Rattle.k_rules.proofs.Counting.{counts_less}
-use Rattle.k_rules.proofs.transfers.TransfersWithin.leave_range.Goals as goal
-
-pub returns-clause-knows : goal.returns-clause-knows
-returns-clause-knows c =
-    λ a known. counts_less (count_in c.args.self.now.reach) (count_in c.take_list.new.counts) (own_items (members_tree c.args.range.now)) a.items c.take_list.ensures known

@@ -1,5 +1,0 @@
-use Rattle.std.proofs.Common.{refl}
-use Rattle.k_rules.proofs.transfers.misses.Goals as goal
-
-pub returns-in-None : goal.returns-in-None
-returns-in-None c = λ a known. rw (known.small _ c.in-None.ensures) refl

@@ -1,0 +1,88 @@
+//! The arrays of a program unit with their bounds (ANSI X3.9-1978, 5.1).
+
+ghost use Rattle.std.specs.Prelude.{◌≡◌, ◌∷◌, [], map, IfOk, OnOk};
+ghost use Rattle.expressions.specs.Dimensions.{dimension};
+ghost use Rattle.number_rules.specs.ArraysKept.{AreArrays, AreConstants, GainsDeclared};
+ghost use Rattle.number_rules.specs.Sized.{dimensions_at};
+ghost use Rattle.number_rules.specs.Tables.{known_at};
+ghost use Rattle.roles.specs.RolesAt.{roles_at};
+
+use crate::known::{Table, pass_constants, table_of};
+use crate::sizes::dimension_of;
+use expressions::Dimension;
+use indexmap::IndexMap;
+use meaning::syntax::{Bounds, Declarator};
+use roles::{Roles, declarators_in};
+use std::alloc::{AllocError, Global};
+
+/// The dimensions that bounds give.
+fn dimensions_by(
+    alloc: Global,
+    table: &Table,
+    bounds: &[Bounds],
+) -> Result<Vec<Dimension>, AllocError>
+    ensures { IfOk result (λ v. map dimension v.items ≡ dimensions_at table.now bounds.now) }
+{
+    let mut found = Vec::new(alloc);
+    for one in bounds {
+        found.push(dimension_of(table, one))?;
+    }
+    Ok(found)
+}
+
+/// Keeps the dimensions of a declarator, if it is the first that gives its name bounds.
+fn add_array(
+    arrays: &mut IndexMap<Vec<u8>, Vec<Dimension>>,
+    alloc: Global,
+    table: &Table,
+    declarator: &Declarator,
+) -> Result<(), AllocError>
+    ensures { OnOk result (GainsDeclared table.now arrays.old arrays.new (declarator.now ∷ [])) }
+{
+    let name = declarator.name.as_slice();
+    if declarator.bounds.len() > 0 && !arrays.contains_key(name) {
+        let dimensions = dimensions_by(alloc, table, &declarator.bounds)?;
+        let own = Vec::from_slice(alloc, name)?;
+        arrays.insert(own, dimensions)?;
+    }
+    Ok(())
+}
+
+/// Keeps the dimensions of declarators that are the first to give their names bounds.
+fn add_arrays(
+    arrays: &mut IndexMap<Vec<u8>, Vec<Dimension>>,
+    alloc: Global,
+    table: &Table,
+    declarators: &[Declarator],
+) -> Result<(), AllocError>
+    ensures { OnOk result (GainsDeclared table.now arrays.old arrays.new declarators.now) }
+{
+    for declarator in declarators {
+        add_array(arrays, alloc, table, declarator)?;
+    }
+    Ok(())
+}
+
+/// The constants and the arrays of a program unit.
+#[derive(Drop)]
+pub struct Declared<'a> {
+    /// The constants behind all statements.
+    pub table: Table<'a>,
+    /// The arrays with their dimensions.
+    pub arrays: IndexMap<Vec<u8>, Vec<Dimension>>,
+}
+
+/// The constants and the arrays of the statements.
+pub fn declared_in<'a>(alloc: Global, roles: &'a Roles<'a>) -> Result<Declared<'a>, AllocError>
+    ensures roles { IfOk result (λ declared. declared.table.roles.now ≡ roles.now) }
+    ensures constants { IfOk result (λ declared. AreConstants roles.now (known_at declared.table)) }
+    ensures arrays { IfOk result (λ declared. AreArrays (roles_at roles.now) declared.arrays) }
+{
+    let mut table = table_of(alloc, roles);
+    let mut arrays = IndexMap::new(alloc);
+    for item in roles.items {
+        add_arrays(&mut arrays, alloc, &table, declarators_in(&item.form.shape))?;
+        pass_constants(&mut table, alloc, item)?;
+    }
+    Ok(Declared { table, arrays })
+}

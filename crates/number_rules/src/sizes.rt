@@ -1,0 +1,171 @@
+//! The sizes of arrays (ANSI X3.9-1978, 5.1.2).
+
+ghost use Rattle.std.specs.Prelude.{◌≡◌, IfOk};
+ghost use Rattle.std.specs.List.{list_any};
+ghost use Rattle.meaning.specs.Arrays.{size};
+ghost use Rattle.meaning.specs.NumberRules.{has_large_array, is_reversed as is_reversed_in};
+ghost use Rattle.rule_passes.specs.Telling.{Finds, IsLeast};
+ghost use Rattle.expressions.specs.Dimensions.{dimension};
+ghost use Rattle.number_rules.specs.CappedSizes.{IsCapped};
+ghost use Rattle.number_rules.specs.Sized.{AreBehind, bound_at, capped_with, dimension_at, dimensions_at, elements_at, has_too_many_at, have_too_large_at, is_too_large_at};
+ghost use Rattle.roles.specs.RolesAt.{roles_at};
+
+use crate::known::{Table, pass_constants, table_of, value_of};
+use expressions::{Dimension, as_integer};
+use meaning::refusal::{Broken, Rule};
+use meaning::syntax::{Bounds, Declarator, Expr, Item};
+use roles::{Roles, declarators_in};
+use rule_passes::{Behind, least_told};
+use std::alloc::{AllocError, Global};
+
+/// The most elements that the arrays of a program may have.
+const MOST: u64 = 1_048_576;
+
+/// The value of a bound; 0 where it has none.
+fn bound(table: &Table, expression: &Expr) -> i32
+    ensures { result ≡ bound_at table.now expression.now }
+{
+    match value_of(table, expression) {
+        Some(value) => as_integer(value),
+        None => 0,
+    }
+}
+
+/// The dimension that bounds give.
+pub fn dimension_of(table: &Table, bounds: &Bounds) -> Dimension
+    ensures { dimension result ≡ dimension_at table.now bounds.now }
+{
+    let lower = match &bounds.lower {
+        Some(lower) => bound(table, lower),
+        None => 1,
+    };
+    Dimension {
+        lower,
+        upper: bound(table, &bounds.upper),
+    }
+}
+
+/// How many elements an array of these bounds has, or 2^64-1 where there are more.
+fn size_of(table: &Table, bounds: &[Bounds]) -> u64
+    ensures { IsCapped result (size (dimensions_at table.now bounds.now)) }
+{
+    let mut found: u64 = 1;
+    for one in bounds {
+        found = found.saturating_mul(dimension_of(table, one).extent());
+    }
+    found
+}
+
+/// How many elements a declarator gives, or 2^64-1 where there are more.
+fn elements_of(table: &Table, declarator: &Declarator) -> u64
+    ensures { IsCapped result (elements_at table.now declarator.now) }
+{
+    if declarator.bounds.is_empty() {
+        0
+    } else {
+        size_of(table, &declarator.bounds)
+    }
+}
+
+/// Whether a lower bound is above the upper one.
+fn is_reversed(table: &Table, bounds: &Bounds) -> bool
+    ensures { result ≡ is_reversed_in (dimension_at table.now bounds.now) }
+{
+    let dimension = dimension_of(table, bounds);
+    dimension.upper < dimension.lower
+}
+
+/// Whether one of the lower bounds is above the upper one.
+fn has_reversed(table: &Table, bounds: &[Bounds]) -> bool
+    ensures { result ≡ list_any is_reversed_in (dimensions_at table.now bounds.now) }
+{
+    for one in bounds {
+        if is_reversed(table, one) {
+            return true;
+        }
+    }
+    false
+}
+
+/// Whether a declarator has too many elements with those that stand before it.
+fn has_too_many(table: &Table, before: u64, declarator: &Declarator) -> bool
+    ensures { Finds (IsCapped before) (has_too_many_at table.now declarator.now) result }
+{
+    before.saturating_add(elements_of(table, declarator)) > MOST
+}
+
+/// Whether a declarator has too many dimensions, a lower bound above the upper one, or too many elements with those
+/// that stand before it.
+fn is_too_large(table: &Table, before: u64, declarator: &Declarator) -> bool
+    ensures { Finds (IsCapped before) (is_too_large_at table.now declarator.now) result }
+{
+    let number = declarator.bounds.len();
+    let is_array = number > 0;
+    let has_too_many_here = has_too_many(table, before, declarator);
+    number > 7 || has_reversed(table, &declarator.bounds) || (is_array && has_too_many_here)
+}
+
+/// Whether one of the declarators is too large.
+fn have_too_large(table: &Table, before: u64, declarators: &[Declarator]) -> bool
+    ensures { Finds (IsCapped before) (have_too_large_at table.now declarators.now) result }
+{
+    let mut elements = before;
+    for declarator in declarators {
+        if is_too_large(table, elements, declarator) {
+            return true;
+        }
+        elements = elements.saturating_add(elements_of(table, declarator));
+    }
+    false
+}
+
+/// How many elements declarators give, with those that stand before them.
+fn with_elements(table: &Table, before: u64, declarators: &[Declarator]) -> u64
+    ensures { Finds (IsCapped before) (capped_with table.now declarators.now) result }
+{
+    let mut elements = before;
+    for declarator in declarators {
+        elements = elements.saturating_add(elements_of(table, declarator));
+    }
+    elements
+}
+
+/// What breaks the rule on the sizes of arrays.
+#[derive(Drop)]
+struct LargeArrays<'a> {
+    alloc: Global,
+    table: Table<'a>,
+    elements: u64,
+}
+
+impl Behind for LargeArrays<'_> {
+    ghost breaks = { λ s before x. has_large_array (roles_at s.table.roles.now) before x };
+
+    ghost knows = { λ s before. AreBehind s.table s.elements before };
+
+    fn is_broken(&self, item: &Item) -> Result<bool, AllocError> {
+        Ok(have_too_large(&self.table, self.elements, declarators_in(&item.form.shape)))
+    }
+
+    fn pass(&mut self, item: &Item) -> Result<(), AllocError> {
+        let declarators = declarators_in(&item.form.shape);
+        self.elements = with_elements(&self.table, self.elements, declarators);
+        pass_constants(&mut self.table, self.alloc, item)
+    }
+}
+
+/// K7: the least line at which an array is too large.
+pub fn large_array(
+    alloc: Global,
+    roles: &Roles,
+    items: &[&Item],
+) -> Result<Option<Broken>, AllocError>
+    ensures { IfOk result (IsLeast (has_large_array (roles_at roles.now)) Rule.K7 items.now) }
+{
+    let mut large = LargeArrays {
+        alloc,
+        table: table_of(alloc, roles),
+        elements: 0,
+    };
+    least_told(&mut large, Rule::K7, items)
+}

@@ -1,0 +1,4 @@
+pub mod Counting
+pub mod Controlling
+pub mod Labelled
+pub mod Implying

@@ -1,0 +1,14 @@
+use Rattle.std.proofs.Common.{ap, ◌∙◌}
+use Rattle.meaning.specs.Syntax.{shape_tree}
+use Rattle.meaning.specs.Trees.{item_tree}
+use Rattle.roles.specs.RolesAt.{roles_at}
+use Rattle.statement_rules.specs.Counters.{counters}
+use Rattle.statement_rules.specs.Implied.{misuses_by}
+use Rattle.statement_rules.proofs.Controlling.{misuses_around}
+use Rattle.statement_rules.proofs.control.ControlledWithin.is_broken.Goals as goal
+
+pub returns : goal.returns
+returns c = λ a known.
+    let roles = roles_at c.args.self.now.roles.now in
+    c.misuses_variable.ensures ∙ ap (λ vs. misuses_by roles (counters vs) (shape_tree c.args.item.now.form.shape)) c.deref.ensures.value
+    ∙ misuses_around roles (counters c.args.self.now.variables.items) a (item_tree c.args.item.now) known

@@ -1,0 +1,5 @@
+pub mod Counted
+pub mod Reached
+pub mod Counters
+pub mod FormatLabels
+pub mod Implied

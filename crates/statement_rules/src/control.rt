@@ -1,0 +1,195 @@
+//! Variables of DO statements and implied DOs that are none, or that are set while they control one (ANSI X3.9-1978, 9.3, 11.10
+//! and 12.8.2.3).
+
+ghost use Rattle.std.specs.Prelude.{◌≡◌, [], map, reverse, IfOk};
+ghost use Rattle.std.specs.List.{list_any};
+ghost use Rattle.meaning.specs.LoopRules.{breaks_loops, has_nested_variable, resets_in, variables_set};
+ghost use Rattle.meaning.specs.Refusals.{least};
+ghost use Rattle.meaning.specs.Surroundings.{in_body, loop_variables, told_in};
+ghost use Rattle.meaning.specs.Syntax.{data_set_tree, list_items_tree, shape_tree};
+ghost use Rattle.meaning.specs.Trees.{members_tree};
+ghost use Rattle.meaning.specs.Uses.{is_one_of};
+ghost use Rattle.roles.specs.RolesAt.{roles_at};
+ghost use Rattle.statement_rules.specs.Counters.{counters};
+ghost use Rattle.statement_rules.specs.Implied.{misuses_by, stands_in_own};
+
+use crate::counters::{enter_counter, is_counter};
+use crate::loops::{counts_by_none, leave_counter};
+use meaning::refusal::{Broken, Rule};
+use meaning::syntax::{DataSet, Exprs, Item, ListItem, ListItems, Member, Shape};
+use roles::Roles;
+use rule_passes::{Within, least_in};
+use std::alloc::{AllocError, Global};
+
+/// Whether a name is the variable of an implied DO in a list.
+#[tactic(auto, using(rule_passes::proofs::Missing::any_both))]
+fn is_variable_in(items: &ListItems, name: &[u8]) -> bool
+    ensures { result ≡ is_one_of (loop_variables (list_items_tree items.now)) name.now }
+{
+    match items {
+        ListItems::Empty => false,
+        ListItems::More(item, rest) => match item {
+            ListItem::Value(_) => is_variable_in(rest, name),
+            ListItem::Loop {
+                items: inner,
+                variable,
+                ..
+            } => {
+                name == variable.as_slice()
+                    || is_variable_in(inner, name)
+                    || is_variable_in(rest, name)
+            }
+        },
+    }
+}
+
+/// Whether an implied DO stands in one that has its variable.
+fn has_own_inside(items: &ListItems) -> bool
+    ensures { result ≡ stands_in_own (list_items_tree items.now) }
+{
+    match items {
+        ListItems::Empty => false,
+        ListItems::More(item, rest) => match item {
+            ListItem::Value(_) => has_own_inside(rest),
+            ListItem::Loop {
+                items: inner,
+                variable,
+                ..
+            } => {
+                is_variable_in(inner, variable) || has_own_inside(inner) || has_own_inside(rest)
+            }
+        },
+    }
+}
+
+/// Whether an implied DO in a list sets the variable of one around it.
+#[tactic(auto, using(crate::proofs::Implying::stands_is))]
+fn resets(items: &ListItems) -> bool
+    ensures { result ≡ resets_in [] (list_items_tree items.now) }
+{
+    has_own_inside(items)
+}
+
+/// Whether one in the lists of a DATA statement does.
+fn has_resetting(sets: &[DataSet]) -> bool
+    ensures { result ≡ list_any (λ s. resets_in [] s.list) (map data_set_tree sets.now) }
+{
+    for set in sets {
+        if resets(&set.list) {
+            return true;
+        }
+    }
+    false
+}
+
+/// Whether one in a statement does.
+fn has_reset(shape: &Shape) -> bool
+    ensures { result ≡ has_nested_variable (shape_tree shape.now) }
+{
+    match shape {
+        Shape::Write { control: _, list } => resets(list),
+        Shape::Print { list, .. } => resets(list),
+        Shape::Data(sets) => has_resetting(sets),
+        Shape::LogicalIf(_, statement) => has_reset(statement),
+        _ => false,
+    }
+}
+
+/// Whether an implied DO in a list has one of the variables.
+#[tactic(auto, using(rule_passes::proofs::Missing::any_both))]
+fn has_counter_in(variables: &[Vec<u8>], items: &ListItems) -> bool
+    ensures { result ≡ list_any (is_one_of (counters variables.now)) (loop_variables (list_items_tree items.now)) }
+{
+    match items {
+        ListItems::Empty => false,
+        ListItems::More(item, rest) => match item {
+            ListItem::Value(_) => has_counter_in(variables, rest),
+            ListItem::Loop {
+                items: inner,
+                variable,
+                ..
+            } => {
+                is_counter(variables, variable)
+                    || has_counter_in(variables, inner)
+                    || has_counter_in(variables, rest)
+            }
+        },
+    }
+}
+
+/// Whether a statement sets one of the variables.
+fn sets_counter(variables: &[Vec<u8>], shape: &Shape) -> bool
+    ensures { result ≡ list_any (is_one_of (counters variables.now)) (variables_set (shape_tree shape.now)) }
+{
+    match shape {
+        Shape::Assignment {
+            name,
+            subscripts,
+            ..
+        } => match subscripts {
+            Exprs::Empty => is_counter(variables, name),
+            Exprs::More(_, _) => false,
+        },
+        Shape::Do { variable, .. } => is_counter(variables, variable),
+        Shape::Write { control: _, list } => has_counter_in(variables, list),
+        Shape::Print { list, .. } => has_counter_in(variables, list),
+        Shape::LogicalIf(_, statement) => sets_counter(variables, statement),
+        _ => false,
+    }
+}
+
+/// Whether a statement breaks the rule, by the variables of the DO statements around.
+fn misuses_variable(roles: &Roles, variables: &[Vec<u8>], shape: &Shape) -> bool
+    ensures { result ≡ misuses_by (roles_at roles.now) (counters variables.now) (shape_tree shape.now) }
+{
+    counts_by_none(roles, shape) || sets_counter(variables, shape) || has_reset(shape)
+}
+
+/// The variables of the DO statements around.
+#[derive(Drop)]
+struct Controlled<'a> {
+    alloc: Global,
+    roles: &'a Roles<'a>,
+    /// Those variables, the outermost first.
+    variables: Vec<Vec<u8>>,
+}
+
+impl Within for Controlled<'_> {
+    ghost breaks = { λ s a x. breaks_loops (roles_at s.roles.now) a x };
+
+    ghost knows = { λ s a. counters s.variables.items ≡ reverse a.variables };
+
+    fn is_broken(&self, item: &Item) -> bool {
+        misuses_variable(self.roles, &self.variables, &item.form.shape)
+    }
+
+    fn enter_range(&mut self, head: &Item, _range: &[Member]) -> Result<(), AllocError> {
+        enter_counter(&mut self.variables, self.alloc, &head.form.shape)
+    }
+
+    fn leave_range(&mut self, head: &Item, _range: &[Member]) {
+        leave_counter(&mut self.variables, head);
+    }
+
+    fn enter_arm(&mut self, _body: &[Member]) -> Result<(), AllocError> {
+        Ok(())
+    }
+
+    fn leave_arm(&mut self, _body: &[Member]) {}
+}
+
+/// K9: the least line at which a DO statement or an implied DO has no INTEGER variable, or one is set that controls one around.
+pub fn misused_variable(
+    alloc: Global,
+    roles: &Roles,
+    members: &[Member],
+) -> Result<Option<Broken>, AllocError>
+    ensures { IfOk result (λ b. b ≡ least (told_in (breaks_loops (roles_at roles.now)) Rule.K9 (in_body (members_tree members.now)) (members_tree members.now))) }
+{
+    let mut controlled = Controlled {
+        alloc,
+        roles,
+        variables: Vec::new(alloc),
+    };
+    least_in(&mut controlled, Rule::K9, members)
+}
