@@ -205,13 +205,24 @@ fn keep_function(
 }
 
 /// The rule on statement functions.
-#[derive(Drop)]
 struct Definitions<'a> {
     alloc: Global,
     roles: &'a Roles<'a>,
     stage: Stage,
     /// The measures of the statement functions that were passed.
     kept: IndexMap<Vec<u8>, Measure>,
+}
+
+impl Drop for Definitions<'_> {
+    fn drop(self) {
+        let Definitions {
+            alloc: _,
+            roles: _,
+            stage: _,
+            kept,
+        } = self;
+        drop(kept);
+    }
 }
 
 impl Behind for Definitions<'_> {

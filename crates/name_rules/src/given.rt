@@ -13,12 +13,26 @@ use roles::{Roles, declarators_in, defined_by};
 use std::alloc::{AllocError, Global};
 
 /// The names that a statement gives a type, bounds, a value, an expression as a statement function.
-#[derive(Drop)]
 pub struct Given<'a> {
     pub typed: Vec<&'a [u8]>,
     pub bounded: Vec<&'a [u8]>,
     pub valued: Vec<&'a [u8]>,
     pub defined: Vec<&'a [u8]>,
+}
+
+impl Drop for Given<'_> {
+    fn drop(self) {
+        let Given {
+            typed,
+            bounded,
+            valued,
+            defined,
+        } = self;
+        drop(typed);
+        drop(bounded);
+        drop(valued);
+        drop(defined);
+    }
 }
 
 /// The names in a type or DIMENSION statement.

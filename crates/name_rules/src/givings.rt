@@ -17,12 +17,26 @@ use rule_passes::{Behind, add_names, has_seen, least_told, repeats};
 use std::alloc::{AllocError, Global};
 
 /// The names that statements gave something.
-#[derive(Drop)]
 pub struct Names {
     pub typed: IndexSet<Vec<u8>>,
     pub bounded: IndexSet<Vec<u8>>,
     pub valued: IndexSet<Vec<u8>>,
     pub defined: IndexSet<Vec<u8>>,
+}
+
+impl Drop for Names {
+    fn drop(self) {
+        let Names {
+            typed,
+            bounded,
+            valued,
+            defined,
+        } = self;
+        drop(typed);
+        drop(bounded);
+        drop(valued);
+        drop(defined);
+    }
 }
 
 /// Whether one of the names is given twice what it has.
@@ -71,12 +85,23 @@ fn add_given(names: &mut Names, alloc: Global, given: &Given) -> Result<(), Allo
 }
 
 /// The rule on what names are given.
-#[derive(Drop)]
 struct Givings<'a> {
     alloc: Global,
     roles: &'a Roles<'a>,
     stage: Stage,
     names: Names,
+}
+
+impl Drop for Givings<'_> {
+    fn drop(self) {
+        let Givings {
+            alloc: _,
+            roles: _,
+            stage: _,
+            names,
+        } = self;
+        drop(names);
+    }
 }
 
 impl Behind for Givings<'_> {

@@ -159,11 +159,17 @@ fn take_all(taken: &mut BTreeSet<u32>, letters: &[&Letters]) -> Result<(), Alloc
 }
 
 /// The rule on letters in IMPLICIT statements.
-#[derive(Drop)]
 struct Implied {
     alloc: Global,
     /// The codes of the letters that have come.
     taken: BTreeSet<u32>,
+}
+
+impl Drop for Implied {
+    fn drop(self) {
+        let Implied { alloc: _, taken } = self;
+        drop(taken);
+    }
 }
 
 impl Behind for Implied {

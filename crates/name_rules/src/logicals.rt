@@ -105,7 +105,6 @@ fn is_logical(known: &Logicals, names: &[&[u8]], functions: &[&[u8]]) -> Result<
 }
 
 /// The rule on such functions.
-#[derive(Drop)]
 pub struct Logicals<'a> {
     alloc: Global,
     roles: &'a Roles<'a>,
@@ -114,6 +113,20 @@ pub struct Logicals<'a> {
     intrinsics: IndexSet<Vec<u8>>,
     /// The names in LOGICAL statements.
     logicals: IndexSet<Vec<u8>>,
+}
+
+impl Drop for Logicals<'_> {
+    fn drop(self) {
+        let Logicals {
+            alloc: _,
+            roles: _,
+            stage: _,
+            intrinsics,
+            logicals,
+        } = self;
+        drop(intrinsics);
+        drop(logicals);
+    }
 }
 
 impl Behind for Logicals<'_> {

@@ -125,7 +125,6 @@ fn is_both(known: &Twofold, variables: &[&[u8]], functions: &[&[u8]]) -> Result<
 }
 
 /// The rule on such names.
-#[derive(Drop)]
 pub struct Twofold<'a> {
     alloc: Global,
     roles: &'a Roles<'a>,
@@ -134,6 +133,20 @@ pub struct Twofold<'a> {
     variables: IndexSet<Vec<u8>>,
     /// Those that are used as functions.
     functions: IndexSet<Vec<u8>>,
+}
+
+impl Drop for Twofold<'_> {
+    fn drop(self) {
+        let Twofold {
+            alloc: _,
+            roles: _,
+            stage: _,
+            variables,
+            functions,
+        } = self;
+        drop(variables);
+        drop(functions);
+    }
 }
 
 impl Behind for Twofold<'_> {

@@ -67,12 +67,18 @@ fn ranks_of(alloc: Global, items: &[&Item]) -> Result<IndexMap<Vec<u8>, usize>, 
 }
 
 /// The arrays of a program unit with how many dimensions they have.
-#[derive(Drop)]
 pub struct Ranks<'a> {
     /// The statements of the unit, first to last.
     pub items: &'a [&'a Item],
     kept: IndexMap<Vec<u8>, usize>,
     ghost given: { (n : List ℕ) → kept_at kept n ≡ length_if (arrays_of (trees_at items.now) n) },
+}
+
+impl Drop for Ranks<'_> {
+    fn drop(self) {
+        let Ranks { items: _, kept } = self;
+        drop(kept);
+    }
 }
 
 impl<'a> Ranks<'a> {

@@ -145,7 +145,6 @@ fn letter_types(
 }
 
 /// The data types of the names of a program unit.
-#[derive(Drop)]
 pub struct Types<'a> {
     /// The statements of the unit, first to last.
     pub items: &'a [&'a Item],
@@ -155,6 +154,18 @@ pub struct Types<'a> {
     letters: Vec<Option<DataType>>,
     ghost given: { (n : List ℕ) → kept_at declared n ≡ declared_by (typed_names (trees_at items.now)) n },
     ghost implied: { (c : ℕ) → c < 256 → slice_get letters.items c ≡ Some (letter_type (implicit_parts (trees_at items.now)) c) },
+}
+
+impl Drop for Types<'_> {
+    fn drop(self) {
+        let Types {
+            items: _,
+            declared,
+            letters,
+        } = self;
+        drop(declared);
+        drop(letters);
+    }
 }
 
 impl<'a> Types<'a> {

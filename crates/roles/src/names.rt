@@ -23,7 +23,6 @@ use meaning::syntax::{DataType, Item};
 use std::alloc::{AllocError, Global};
 
 /// What the statements of a program unit say of names.
-#[derive(Drop)]
 pub struct Roles<'a> {
     /// The statements of the unit, first to last.
     pub items: &'a [&'a Item],
@@ -39,6 +38,24 @@ pub struct Roles<'a> {
     ghost listed: { map definition_at functions.items ≡ definitions_of (arrays_of (trees_at items.now)) (trees_at items.now) } by { Prim.hlevel (props, definition_set, definitions_set) },
     ghost named: { (n : List ℕ) → option_map definition_at (kept_at by_name n) ≡ definition_named (definitions_of (arrays_of (trees_at items.now)) (trees_at items.now)) n } by { Prim.hlevel (props, definition_set, definitions_set) },
     ghost valued: { texts constants.keys ≡ with_names [] (defined_constants (trees_at items.now)) },
+}
+
+impl Drop for Roles<'_> {
+    fn drop(self) {
+        let Roles {
+            items: _,
+            ranks,
+            functions,
+            types,
+            by_name,
+            constants,
+        } = self;
+        drop(ranks);
+        drop(functions);
+        drop(types);
+        drop(by_name);
+        drop(constants);
+    }
 }
 
 impl<'a> Roles<'a> {
