@@ -25,11 +25,10 @@ use meaning::syntax::{Item, Member, Tree};
 use name_rules::{disputed_name, real_name, wrong_type};
 use number_rules::{Declared, bad_number, declared_in, large_array};
 use roles::{Roles, items_of};
-use statement_rules::{bad_output, misused_variable, missed_label, repeated_label};
+use statement_rules::{bad_output, missed_label, misused_variable, repeated_label};
 use std::alloc::{AllocError, Global};
 
 /// What is known of a program unit that breaks no rule.
-#[derive(Drop)]
 pub struct Facts<'a> {
     /// The constants by their names, with their values.
     pub constants: IndexMap<Vec<u8>, Option<Value>>,
@@ -37,6 +36,19 @@ pub struct Facts<'a> {
     pub arrays: IndexMap<Vec<u8>, Vec<Dimension>>,
     /// What DATA statements give.
     pub starts: Vec<Start<'a>>,
+}
+
+impl Drop for Facts<'_> {
+    fn drop(self) {
+        let Facts {
+            constants,
+            arrays,
+            starts,
+        } = self;
+        drop(constants);
+        drop(arrays);
+        drop(starts);
+    }
 }
 
 /// The least pair of the rules on names.
