@@ -3,11 +3,9 @@
 ghost use Rattle.std.specs.Prelude.{◌≡◌, ◌≢◌, ◌+ℤ◌, int_div, option_map, pos, IfOk};
 ghost use Rattle.std.specs.Int.{CanDivide, w64};
 ghost use Rattle.meaning.specs.Characters.{at_least_zero};
-ghost use Rattle.meaning.specs.Initial.{known_trips, step_of as step_by, trips_if};
-ghost use Rattle.meaning.specs.Syntax.{expr_tree, limits_tree};
+ghost use Rattle.meaning.specs.Initial.{trips_if};
 ghost use Rattle.meaning.specs.Trips.{trip_count};
-ghost use Rattle.data_rules.specs.DataTrips.{trips_by};
-ghost use Rattle.number_rules.specs.Tables.{scope_known, scope_types};
+ghost use Rattle.data_rules.specs.DataTrips.{step_in, trips_by, trips_in};
 
 use crate::elements::known_value;
 use meaning::syntax::{Expr, Limits};
@@ -59,7 +57,7 @@ fn trips_between(first: i32, last: i32, step: i32) -> Option<Trips>
 
 /// The value of a step, which is 1 where none is written.
 fn step_of(scope: &Scope, step: &Option<Expr>) -> Option<i32>
-    ensures { result ≡ step_by (scope_types scope.now) (scope_known scope.now) (option_map expr_tree step.now) }
+    ensures { result ≡ step_in scope.now step.now }
 {
     match step {
         Some(step) => known_value(scope, step),
@@ -69,7 +67,7 @@ fn step_of(scope: &Scope, step: &Option<Expr>) -> Option<i32>
 
 /// The trips of an implied DO, if its limits are known and there are any.
 pub fn trips_of(scope: &Scope, limits: &Limits) -> Option<Trips>
-    ensures { option_map trips_by result ≡ known_trips (scope_types scope.now) (scope_known scope.now) (limits_tree limits.now) }
+    ensures { option_map trips_by result ≡ trips_in scope.now limits.now }
 {
     match known_value(scope, &limits.first) {
         None => None,
