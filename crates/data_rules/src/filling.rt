@@ -90,10 +90,8 @@ pub fn give<'a>(
     name: &'a [u8],
     place: u64,
 ) -> Result<bool, AllocError>
-    ensures {
-        IfOk result (GivesPlace roles.now name.entry.now place
-            (stage_at filling.old values.old) (stage_at filling.new values.new))
-    }
+    ensures { IfOk result (GivesPlace roles.now name.entry.now place
+        (stage_at filling.old values.old) (stage_at filling.new values.new)) }
 {
     match next_value(values)? {
         Some(value) => {
@@ -117,10 +115,8 @@ pub fn give_elements<'a>(
     name: &'a [u8],
     size: u64,
 ) -> Result<bool, AllocError>
-    ensures {
-        IfOk result (GivesPlaces roles.now name.entry.now size
-            (stage_at filling.old values.old) (stage_at filling.new values.new))
-    }
+    ensures { IfOk result (GivesPlaces roles.now name.entry.now size
+        (stage_at filling.old values.old) (stage_at filling.new values.new)) }
 {
     for place in 0..size {
         if !give(filling, values, alloc, roles, name, place)? {

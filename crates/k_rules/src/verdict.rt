@@ -17,7 +17,7 @@ use meaning::syntax::{Item, Member, Tree};
 use name_rules::{disputed_name, real_name, wrong_type};
 use number_rules::{Declared, bad_number, declared_in, large_array};
 use roles::{Roles, items_of};
-use statement_rules::{bad_output, misused_variable, missed_label, repeated_label};
+use statement_rules::{bad_output, missed_label, misused_variable, repeated_label};
 use std::alloc::{AllocError, Global};
 
 /// What is known of a program unit that breaks no rule.

@@ -1,4 +1,4 @@
-use Rattle.std.proofs.Common.{◌≡◌, rules, pos, ◌+ℤ◌, ◌*ℤ◌, map, Some, ap₂, ◌∙◌, ap, FitsSigned, of_z}
+use Rattle.std.proofs.Common.{rules, pos, ◌+ℤ◌, ◌*ℤ◌, map, Some, ap₂, ◌∙◌, ap, FitsSigned, of_z}
 use Rattle.std.specs.Int.{w32}
 use Rattle.std.specs.List.{range_with_len}
 use Rattle.std.proofs.lemmas.Int.{to_z-of_z}
