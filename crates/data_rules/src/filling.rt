@@ -19,8 +19,11 @@ use std::collections::BTreeSet;
 /// with.
 #[derive(Clone, Copy)]
 pub struct Start<'a> {
+    /// The name of the variable or the array.
     pub name: &'a [u8],
+    /// The place in column-major order, from 0.
     pub place: u64,
+    /// The value.
     pub value: Value,
 }
 
@@ -60,7 +63,9 @@ pub fn mark(
 /// What DATA statements have given so far.
 #[derive(Drop)]
 pub struct Filling<'a> {
+    /// The places that were given values, by their names.
     pub marks: IndexMap<Vec<u8>, BTreeSet<u64>>,
+    /// What they were given, in the order of the statements.
     pub starts: Vec<Start<'a>>,
 }
 

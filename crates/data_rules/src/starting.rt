@@ -126,7 +126,9 @@ fn is_first(line: u32, others: Option<Broken>) -> bool
 /// doesn't fit, or stands behind that pair.
 #[derive(Drop)]
 pub struct Passed<'a> {
+    /// The least broken pair.
     pub broken: Option<Broken>,
+    /// What was given.
     pub filling: Option<Filling<'a>>,
 }
 
