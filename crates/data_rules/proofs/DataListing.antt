@@ -1,5 +1,5 @@
 -- The lists of DATA statements, one item or one trip more.
-use Rattle.std.proofs.Common.{◌≡◌, ℕ, suc, ◌+◌, ◌-◌, ◌<◌, ◌≤◌, Bool, true, false, ℤ, pos, ◌+ℤ◌, ◌*ℤ◌, List, [], ◌∷◌, ◌++◌, map, Option, Some, None, refl, sym, ap, ap₂, ◌∙◌, arith}
+use Rattle.std.proofs.Common.{◌≡◌, ℕ, suc, ◌+◌, ◌-◌, ◌<◌, ◌≤◌, Bool, true, false, ℤ, pos, ◌+ℤ◌, ◌*ℤ◌, List, [], map, Option, Some, None, refl, sym, ap, ap₂, ◌∙◌, arith}
 use Rattle.std.specs.Prelude.{if◌then◌else◌}
 use Rattle.std.specs.List.{range_with_len}
 use Rattle.std.proofs.Math.IntN.{+ℤ_assoc, suc_ℤ-*ℤ}
@@ -41,6 +41,11 @@ no_trips r items variable limits known s none = by_test (is_counter r variable)
     by_test : (b : Bool) → filled r.names (if b then and_also (known_trips r.names.types known limits) (trips_targets r items variable known) else None) s ≡ None
     by_test true = ap (λ o. filled r.names (and_also o (trips_targets r items variable known)) s) none
     by_test false = refl
+
+-- an implied DO with these trips
+pub with_trips : (r : Roles) (items : ListItemsTree) (variable : List ℕ) (limits : LimitsTree) (known : Known) (is : List ℤ) (s : Stage) → is_counter r variable ≡ true → known_trips r.names.types known limits ≡ Some is → filled r.names (item_targets r (loop_item items variable limits) known) s ≡ filled r.names (trips_targets r items variable known is) s
+with_trips r items variable limits known is s can some =
+    ap₂ (λ b o. filled r.names (if b then and_also o (trips_targets r items variable known) else None) s) can some
 
 module _ (r : Roles) (items : ListItemsTree) (variable : List ℕ) (known : Known) (f : ℕ → ℤ) where
   -- the trips from one on

@@ -1,7 +1,6 @@
 pub mod DataRunning
 pub mod Marking
 pub mod DataPlacing
-pub mod Quotients
 pub mod DataFilling
 pub mod TripsBetween
 pub mod DataListing

@@ -1,5 +1,4 @@
 -- What is given while the list of a DATA statement is gone over.
-use Rattle.meaning.specs.Typing.{Names}
 use Rattle.meaning.specs.Uses.{Roles}
 use Rattle.meaning.specs.Values.{Known}
 use Rattle.roles.specs.RolesAt.{roles_at}

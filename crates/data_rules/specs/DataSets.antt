@@ -1,13 +1,18 @@
 -- The sets of DATA statements, filled one after another (ANSI X3.9-1978, 9.1).
-use Rattle.std.specs.Prelude.{◌≡◌, ℕ, List, [], ◌∷◌, map, unwrap_or, if◌then◌else◌, Option, Some, None}
+use Rattle.std.specs.Prelude.{◌≡◌, ℕ, List, [], ◌∷◌, map, option_map, unwrap_or, if◌then◌else◌, Option, Some, None}
 use Rattle.std.specs.List.{list_any}
+use Rattle.std.specs.Borrow.{Bor}
 use Rattle.meaning.specs.declared.ending.Value.{Value}
+use Rattle.meaning.specs.declared.syntax.DataSet.{DataSet}
 use Rattle.meaning.specs.Arrays.{place}
-use Rattle.meaning.specs.Syntax.{DataSetTree, ItemTree, ListItemsTree}
+use Rattle.meaning.specs.Syntax.{DataSetTree, ItemTree, ListItemsTree, data_set_tree}
 use Rattle.meaning.specs.Typing.{Names}
 use Rattle.meaning.specs.Uses.{Roles}
 use Rattle.meaning.specs.Values.{Known, dimensions_in}
 use Rattle.meaning.specs.Initial.{Start, Target, and_also, same_target, starts_from, targets_in}
+use Rattle.roles.specs.RolesAt.{roles_at}
+use Rattle.number_rules.specs.declared.known.Table.{Table}
+use Rattle.number_rules.specs.Tables.{known_at}
 use Rattle.data_rules.specs.declared.filling.Filling.{Filling}
 use Rattle.data_rules.specs.DataRuns.{values_of}
 use Rattle.data_rules.specs.DataStages.{Given, Marks, Stage, filled, is_empty_list}
@@ -45,6 +50,15 @@ fill_sets r known (x ∷ xs) s = and_also (fill_set r known x s) (fill_sets r kn
 -- what was given between two sets
 abbrev pub stage_by : Filling → Stage
 stage_by f = record { marked = marked_in f.marks; given = map given_at f.starts.items; values = [] }
+
+-- a set is filled, or several are
+abbrev pub FillsSet : Table → Bor DataSet → Filling → Option Filling → Type 0
+FillsSet t x old new =
+    option_map stage_by new ≡ fill_set (roles_at t.roles.now) (known_at t) (data_set_tree x.now) (stage_by old)
+
+abbrev pub FillsSets : Table → Bor (List DataSet) → Filling → Option Filling → Type 0
+FillsSets t xs old new =
+    option_map stage_by new ≡ fill_sets (roles_at t.roles.now) (known_at t) (map data_set_tree xs.now) (stage_by old)
 
 -- marks tell which of those that have a place were given a value
 abbrev pub Agrees : Names → Marks → List Start → Type 0

@@ -8,4 +8,5 @@ pub mod DataGiving
 pub mod SameScope
 pub mod DataItems
 pub mod DataSets
+pub mod DataTargets
 pub mod DataPassed

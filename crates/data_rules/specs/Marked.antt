@@ -1,5 +1,5 @@
 -- The places that were given values, by names.
-use Rattle.std.specs.Prelude.{ℕ, Bool, false, List, map, Option, Some, None}
+use Rattle.std.specs.Prelude.{ℕ, Bool, false, Option, Some, None}
 use Rattle.std.specs.Global.{Vec}
 use Rattle.std.specs.Ordering.{nat_cmp}
 use Rattle.std.specs.BTreeSet.{BTreeSet, contains}

@@ -1,15 +1,12 @@
 //! What the lists of DATA statements are given (ANSI X3.9-1978, 9.1 and 9.3).
 
-ghost use Rattle.std.specs.Prelude.{◌≡◌, ℕ, List, if◌then◌else◌, Some, None, IfOk, OnOk};
-ghost use Rattle.meaning.specs.Initial.{is_counter as is_counter_by, targets_in};
-ghost use Rattle.meaning.specs.Syntax.{list_item_tree, list_items_tree};
-ghost use Rattle.number_rules.specs.ArraysKept.{arrays_kept};
-ghost use Rattle.data_rules.specs.DataGiving.{known_there, roles_in, stage_of};
-ghost use Rattle.data_rules.specs.DataItems.{item_targets, trips_targets};
-ghost use Rattle.data_rules.specs.DataStages.{filled};
-ghost use Rattle.data_rules.specs.DataTrips.{trips_by};
+ghost use Rattle.std.specs.Prelude.{◌≡◌, IfOk, OnOk};
+ghost use Rattle.meaning.specs.Initial.{is_counter as is_counter_by};
 ghost use Rattle.data_rules.specs.SameScope.{IsSameScope};
 ghost use Rattle.roles.specs.RolesAt.{roles_at};
+ghost use Rattle.number_rules.specs.ArraysKept.{AreArrays};
+ghost use Rattle.data_rules.specs.DataGiving.{roles_in};
+ghost use Rattle.data_rules.specs.DataTargets.{FillsItem, FillsItems, Repeats};
 
 use crate::giving::{Giving, give_value};
 use crate::trips::{Trips, next_trip, trips_of, value_of_trip};
@@ -42,8 +39,8 @@ fn give_trips<'a: 'b, 'b>(
     variable: &'a [u8],
     trips: Trips,
 ) -> Result<bool, AllocError>
-    requires { (n : List ℕ) → arrays_kept arrays.now n ≡ (roles_in giving.old).names.arrays n }
-    ensures filled { IfOk result (λ b. filled (roles_in giving.old).names (trips_targets (roles_in giving.old) (list_items_tree items.entry.now) variable.entry.now (known_there giving.old) (trips_by trips)) (stage_of giving.old) ≡ (if b then Some (stage_of giving.new) else None)) }
+    requires { AreArrays (roles_in giving.old) arrays.now }
+    ensures filled { IfOk result (Repeats items.entry variable.entry trips giving.old giving.new) }
     ensures same { OnOk result (IsSameScope giving.old.scope giving.new.scope) }
 {
     let mut value = i64::from(trips.first);
@@ -68,8 +65,8 @@ fn give_item<'a: 'b, 'b>(
     arrays: &IndexMap<Vec<u8>, Vec<Dimension>>,
     item: &'a ListItem,
 ) -> Result<bool, AllocError>
-    requires { (n : List ℕ) → arrays_kept arrays.now n ≡ (roles_in giving.old).names.arrays n }
-    ensures filled { IfOk result (λ b. filled (roles_in giving.old).names (item_targets (roles_in giving.old) (list_item_tree item.entry.now) (known_there giving.old)) (stage_of giving.old) ≡ (if b then Some (stage_of giving.new) else None)) }
+    requires { AreArrays (roles_in giving.old) arrays.now }
+    ensures filled { IfOk result (FillsItem item.entry giving.old giving.new) }
     ensures same { OnOk result (IsSameScope giving.old.scope giving.new.scope) }
 {
     match item {
@@ -98,8 +95,8 @@ pub fn give_items<'a: 'b, 'b>(
     arrays: &IndexMap<Vec<u8>, Vec<Dimension>>,
     items: &'a ListItems,
 ) -> Result<bool, AllocError>
-    requires { (n : List ℕ) → arrays_kept arrays.now n ≡ (roles_in giving.old).names.arrays n }
-    ensures filled { IfOk result (λ b. filled (roles_in giving.old).names (targets_in (roles_in giving.old) (list_items_tree items.entry.now) (known_there giving.old)) (stage_of giving.old) ≡ (if b then Some (stage_of giving.new) else None)) }
+    requires { AreArrays (roles_in giving.old) arrays.now }
+    ensures filled { IfOk result (FillsItems items.entry giving.old giving.new) }
     ensures same { OnOk result (IsSameScope giving.old.scope giving.new.scope) }
 {
     match items {

@@ -1,11 +1,10 @@
 //! The values of DATA statements, one after another (ANSI X3.9-1978, 9.1).
 
-ghost use Rattle.std.specs.Prelude.{◌≡◌, ◌<◌, [], pos, map, option_map, Some, IfOk, IfSome, OnOk};
-ghost use Rattle.meaning.specs.declared.ending.Value.TheVariants.{Int};
+ghost use Rattle.std.specs.Prelude.{◌≡◌, ◌<◌, [], pos, map, IfOk, IfSome, OnOk};
 ghost use Rattle.meaning.specs.Characters.{number_of};
-ghost use Rattle.meaning.specs.Initial.{count_if, data_value, repeat_value, repeated, sign_value};
-ghost use Rattle.meaning.specs.Syntax.{data_constant_tree, data_value_tree, repeat_tree};
-ghost use Rattle.data_rules.specs.DataRuns.{or_one_none, run_of, values_left, values_of};
+ghost use Rattle.meaning.specs.Initial.{sign_value};
+ghost use Rattle.meaning.specs.Syntax.{data_value_tree};
+ghost use Rattle.data_rules.specs.DataRuns.{constant_at, count_at, count_spelled, run_of, values_at, values_left, values_of};
 ghost use Rattle.data_rules.specs.DataStages.{behind_first, first_of, is_empty_list};
 ghost use Rattle.number_rules.specs.Tables.{known_at};
 
@@ -18,7 +17,7 @@ use std::alloc::AllocError;
 
 /// The number that digits spell, if it is 1 at least. The `AllocError` comes where it is 2^32 or more.
 fn count_by(digits: &[u8]) -> Result<Option<u64>, AllocError>
-    ensures value { IfOk result (λ count. count ≡ count_if (Some (Int (pos (number_of digits.now))))) }
+    ensures value { IfOk result (λ count. count ≡ count_spelled digits.now) }
     ensures some { IfOk result (λ count. IfSome count (λ n. 0 < n)) }
 {
     let count = number(digits);
@@ -34,7 +33,7 @@ fn count_by(digits: &[u8]) -> Result<Option<u64>, AllocError>
 
 /// How often a constant stands, if that is 1 or more. The `AllocError` comes where it is 2^32 or more.
 fn count_of(table: &Table, repeat_count: &Option<RepeatCount>) -> Result<Option<u64>, AllocError>
-    ensures value { IfOk result (λ count. count ≡ repeat_value (known_at table.now) (option_map repeat_tree repeat_count.now)) }
+    ensures value { IfOk result (λ count. count ≡ count_at table.now repeat_count.now) }
     ensures some { IfOk result (λ count. IfSome count (λ n. 0 < n)) }
 {
     match repeat_count {
@@ -73,7 +72,7 @@ fn integer_by(sign: Option<Sign>, digits: &[u8]) -> Result<i32, AllocError>
 /// The value of a constant in a DATA statement, if it has one. The `AllocError` comes where it is above 2147483647 without its
 /// sign.
 fn constant_of(table: &Table, constant: &DataConstant) -> Result<Option<Value>, AllocError>
-    ensures { IfOk result (λ value. value ≡ data_value (known_at table.now) (data_constant_tree constant.now)) }
+    ensures { IfOk result (λ value. value ≡ constant_at table.now constant.now) }
 {
     match constant {
         DataConstant::Number(sign, digits) => {
@@ -94,7 +93,7 @@ pub struct Run {
 
 /// The run of a constant and its repeat count.
 fn run_by(table: &Table, value: &DataValue) -> Result<Run, AllocError>
-    ensures run { IfOk result (λ run. run_of run ≡ or_one_none (repeated (known_at table.now) (data_value_tree value.now))) }
+    ensures run { IfOk result (λ run. run_of run ≡ values_at table.now value.now) }
     ensures some { IfOk result (λ run. 0 < run.count) }
 {
     let none = Run {

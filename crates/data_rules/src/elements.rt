@@ -1,11 +1,7 @@
 //! The array elements in the lists of DATA statements (ANSI X3.9-1978, 5.4 and 9.1).
 
-ghost use Rattle.std.specs.Prelude.{◌≡◌, ◌+◌, ◌*◌, map, IfOk};
-ghost use Rattle.meaning.specs.Initial.{known_value as known_value_by};
-ghost use Rattle.meaning.specs.Syntax.{expr_tree, exprs_tree};
-ghost use Rattle.data_rules.specs.DataPlaces.{place_known};
-ghost use Rattle.expressions.specs.Dimensions.{dimension};
-ghost use Rattle.number_rules.specs.Tables.{scope_known, scope_types};
+ghost use Rattle.std.specs.Prelude.{◌≡◌, ◌+◌, ◌*◌, IfOk};
+ghost use Rattle.data_rules.specs.DataPlaces.{place_by, value_in};
 
 use expressions::{Dimension, as_integer};
 use meaning::syntax::{Expr, Exprs};
@@ -14,7 +10,7 @@ use std::alloc::AllocError;
 
 /// The value of an expression of constants and of the variables of implied DOs around it, if it is one and has one.
 pub fn known_value(scope: &Scope, expression: &Expr) -> Option<i32>
-    ensures { result ≡ known_value_by (scope_types scope.now) (scope_known scope.now) (expr_tree expression.now) }
+    ensures { result ≡ value_in scope.now expression.now }
 {
     if is_no_constant(scope, expression) {
         return None;
@@ -45,7 +41,7 @@ pub fn place_in(
     dimensions: &[Dimension],
     subscripts: &Exprs,
 ) -> Result<Option<u64>, AllocError>
-    ensures { IfOk result (λ p. p ≡ place_known (scope_types scope.now) (scope_known scope.now) (map dimension dimensions.now) (exprs_tree subscripts.now)) }
+    ensures { IfOk result (λ p. p ≡ place_by scope.now dimensions.now subscripts.now) }
 {
     match subscripts {
         Exprs::Empty => match dimensions.split_first() {

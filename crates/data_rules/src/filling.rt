@@ -1,13 +1,11 @@
 //! What DATA statements give, one variable or element after another (ANSI X3.9-1978, 9.1).
 
-ghost use Rattle.std.specs.Prelude.{◌≡◌, if◌then◌else◌, Some, None, IfOk, OnOk};
-ghost use Rattle.std.specs.List.{range_with_len};
+ghost use Rattle.std.specs.Prelude.{◌≡◌, IfOk, OnOk};
 ghost use Rattle.meaning.specs.Initial.{value_type};
 ghost use Rattle.meaning.specs.Typing.{clash};
-ghost use Rattle.data_rules.specs.DataStages.{give as give_by, give_places, with_mark};
-ghost use Rattle.data_rules.specs.Filled.{stage_at};
+ghost use Rattle.data_rules.specs.DataStages.{with_mark};
+ghost use Rattle.data_rules.specs.Filled.{GivesPlace, GivesPlaces, stage_at};
 ghost use Rattle.data_rules.specs.Marked.{marked_in};
-ghost use Rattle.roles.specs.RolesAt.{roles_at};
 
 use crate::data_values::{Values, next_value};
 use indexmap::IndexMap;
@@ -21,8 +19,11 @@ use std::collections::BTreeSet;
 /// with.
 #[derive(Clone, Copy)]
 pub struct Start<'a> {
+    /// The name of the variable or the array.
     pub name: &'a [u8],
+    /// The place in column-major order, from 0.
     pub place: u64,
+    /// The value.
     pub value: Value,
 }
 
@@ -62,7 +63,9 @@ pub fn mark(
 /// What DATA statements have given so far.
 #[derive(Drop)]
 pub struct Filling<'a> {
+    /// The places that were given values, by their names.
     pub marks: IndexMap<Vec<u8>, BTreeSet<u64>>,
+    /// What they were given, in the order of the statements.
     pub starts: Vec<Start<'a>>,
 }
 
@@ -92,7 +95,8 @@ pub fn give<'a>(
     name: &'a [u8],
     place: u64,
 ) -> Result<bool, AllocError>
-    ensures { IfOk result (λ b. give_by (roles_at roles.now).names.types name.entry.now place (stage_at filling.old values.old) ≡ (if b then Some (stage_at filling.new values.new) else None)) }
+    ensures { IfOk result (GivesPlace roles.now name.entry.now place
+        (stage_at filling.old values.old) (stage_at filling.new values.new)) }
 {
     match next_value(values)? {
         Some(value) => {
@@ -116,7 +120,8 @@ pub fn give_elements<'a>(
     name: &'a [u8],
     size: u64,
 ) -> Result<bool, AllocError>
-    ensures { IfOk result (λ b. give_places (roles_at roles.now).names.types name.entry.now (range_with_len 0 size) (stage_at filling.old values.old) ≡ (if b then Some (stage_at filling.new values.new) else None)) }
+    ensures { IfOk result (GivesPlaces roles.now name.entry.now size
+        (stage_at filling.old values.old) (stage_at filling.new values.new)) }
 {
     for place in 0..size {
         if !give(filling, values, alloc, roles, name, place)? {

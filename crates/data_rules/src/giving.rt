@@ -1,14 +1,11 @@
 //! What the items in the lists of DATA statements are given (ANSI X3.9-1978, 9.1).
 
-ghost use Rattle.std.specs.Prelude.{◌≡◌, ℕ, List, if◌then◌else◌, Some, None, map, IfOk};
+ghost use Rattle.std.specs.Prelude.{◌≡◌, map, IfOk};
 ghost use Rattle.meaning.specs.Arrays.{size};
-ghost use Rattle.meaning.specs.Initial.{element_target, value_targets, whole_target};
-ghost use Rattle.meaning.specs.Syntax.{expr_tree, exprs_tree};
-ghost use Rattle.meaning.specs.Uses.{is_other};
-ghost use Rattle.number_rules.specs.ArraysKept.{arrays_kept};
-ghost use Rattle.data_rules.specs.DataGiving.{known_there, roles_in, stage_of};
-ghost use Rattle.data_rules.specs.DataStages.{filled};
 ghost use Rattle.expressions.specs.Dimensions.{dimension};
+ghost use Rattle.number_rules.specs.ArraysKept.{AreArrays};
+ghost use Rattle.data_rules.specs.DataGiving.{roles_in};
+ghost use Rattle.data_rules.specs.DataTargets.{FillsElement, FillsName, FillsValue};
 
 use crate::data_values::Values;
 use crate::elements::place_in;
@@ -51,8 +48,8 @@ fn give_name<'a: 'b, 'b>(
     arrays: &IndexMap<Vec<u8>, Vec<Dimension>>,
     name: &'a [u8],
 ) -> Result<bool, AllocError>
-    requires { (n : List ℕ) → arrays_kept arrays.now n ≡ (roles_in giving.old).names.arrays n }
-    ensures filled { IfOk result (λ b. filled (roles_in giving.old).names (whole_target ((roles_in giving.old).names.arrays name.entry.now) (is_other (roles_in giving.old) name.entry.now) name.entry.now) (stage_of giving.old) ≡ (if b then Some (stage_of giving.new) else None)) }
+    requires { AreArrays (roles_in giving.old) arrays.now }
+    ensures filled { IfOk result (FillsName name.entry giving.old giving.new) }
     ensures same { giving.new.scope ≡ giving.old.scope }
 {
     let roles = giving.scope.table.roles;
@@ -93,8 +90,8 @@ fn give_element<'a: 'b, 'b>(
     name: &'a [u8],
     subscripts: &Exprs,
 ) -> Result<bool, AllocError>
-    requires { (n : List ℕ) → arrays_kept arrays.now n ≡ (roles_in giving.old).names.arrays n }
-    ensures filled { IfOk result (λ b. filled (roles_in giving.old).names (element_target (roles_in giving.old).names.types (known_there giving.old) ((roles_in giving.old).names.arrays name.entry.now) name.entry.now (exprs_tree subscripts.now)) (stage_of giving.old) ≡ (if b then Some (stage_of giving.new) else None)) }
+    requires { AreArrays (roles_in giving.old) arrays.now }
+    ensures filled { IfOk result (FillsElement name.entry subscripts.now giving.old giving.new) }
     ensures same { giving.new.scope ≡ giving.old.scope }
 {
     match arrays.get(name) {
@@ -124,8 +121,8 @@ pub fn give_value<'a: 'b, 'b>(
     arrays: &IndexMap<Vec<u8>, Vec<Dimension>>,
     expression: &'a Expr,
 ) -> Result<bool, AllocError>
-    requires { (n : List ℕ) → arrays_kept arrays.now n ≡ (roles_in giving.old).names.arrays n }
-    ensures filled { IfOk result (λ b. filled (roles_in giving.old).names (value_targets (roles_in giving.old) (known_there giving.old) (expr_tree expression.entry.now)) (stage_of giving.old) ≡ (if b then Some (stage_of giving.new) else None)) }
+    requires { AreArrays (roles_in giving.old) arrays.now }
+    ensures filled { IfOk result (FillsValue expression.entry giving.old giving.new) }
     ensures same { giving.new.scope ≡ giving.old.scope }
 {
     match expression {

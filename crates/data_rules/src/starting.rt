@@ -1,16 +1,16 @@
 //! What DATA statements give, one statement after another (ANSI X3.9-1978, chapter 9).
 
-ghost use Rattle.std.specs.Prelude.{◌≡◌, ℕ, List, if◌then◌else◌, Some, None, map, option_map, IfOk};
+ghost use Rattle.std.specs.Prelude.{◌≡◌, map, IfOk};
 ghost use Rattle.meaning.specs.Initial.{sets_of};
-ghost use Rattle.meaning.specs.Syntax.{data_set_tree, list_items_tree, shape_tree};
+ghost use Rattle.meaning.specs.Syntax.{data_set_tree, shape_tree};
 ghost use Rattle.meaning.specs.Trees.{item_tree};
 ghost use Rattle.roles.specs.RolesAt.{roles_at};
-ghost use Rattle.number_rules.specs.ArraysKept.{arrays_kept};
-ghost use Rattle.data_rules.specs.DataGiving.{known_there, roles_in, stage_of};
 ghost use Rattle.data_rules.specs.DataPassed.{GoesOn, IsPassed, comes_first};
-ghost use Rattle.data_rules.specs.DataSets.{fill_list, fill_set, fill_sets, stage_by};
 ghost use Rattle.rule_passes.specs.Listed.{tree_at};
-ghost use Rattle.number_rules.specs.Tables.{known_at};
+ghost use Rattle.number_rules.specs.ArraysKept.{AreArrays};
+ghost use Rattle.data_rules.specs.DataGiving.{roles_in};
+ghost use Rattle.data_rules.specs.DataSets.{FillsSet, FillsSets};
+ghost use Rattle.data_rules.specs.DataTargets.{FillsList};
 
 use crate::data_lists::give_items;
 use crate::data_values::{is_used_up, values_in};
@@ -31,8 +31,8 @@ fn give_list<'a: 'b, 'b>(
     arrays: &IndexMap<Vec<u8>, Vec<Dimension>>,
     list: &'a ListItems,
 ) -> Result<bool, AllocError>
-    requires { (n : List ℕ) → arrays_kept arrays.now n ≡ (roles_in giving.old).names.arrays n }
-    ensures { IfOk result (λ b. fill_list (roles_in giving.old) (known_there giving.old) (list_items_tree list.entry.now) (stage_of giving.old) ≡ (if b then Some (stage_by giving.new.filling) else None)) }
+    requires { AreArrays (roles_in giving.old) arrays.now }
+    ensures { IfOk result (FillsList list.entry giving.old giving.new) }
 {
     let given = give_items(giving, alloc, arrays, list)?;
     if !given {
@@ -49,8 +49,8 @@ fn give_set<'a: 'b, 'b>(
     arrays: &IndexMap<Vec<u8>, Vec<Dimension>>,
     set: &'a DataSet,
 ) -> Result<Option<Filling<'a>>, AllocError>
-    requires { (n : List ℕ) → arrays_kept arrays.now n ≡ (roles_at table.now.roles.now).names.arrays n }
-    ensures { IfOk result (λ o. option_map stage_by o ≡ fill_set (roles_at table.now.roles.now) (known_at table.now) (data_set_tree set.entry.now) (stage_by filling.entry)) }
+    requires { AreArrays (roles_at table.now.roles.now) arrays.now }
+    ensures { IfOk result (FillsSet table.now set.entry filling.entry) }
 {
     let mut giving = Giving {
         filling,
@@ -87,8 +87,8 @@ fn give_sets<'a: 'b, 'b>(
     arrays: &IndexMap<Vec<u8>, Vec<Dimension>>,
     sets: &'a [DataSet],
 ) -> Result<Option<Filling<'a>>, AllocError>
-    requires { (n : List ℕ) → arrays_kept arrays.now n ≡ (roles_at table.now.roles.now).names.arrays n }
-    ensures { IfOk result (λ o. option_map stage_by o ≡ fill_sets (roles_at table.now.roles.now) (known_at table.now) (map data_set_tree sets.entry.now) (stage_by filling.entry)) }
+    requires { AreArrays (roles_at table.now.roles.now) arrays.now }
+    ensures { IfOk result (FillsSets table.now sets.entry filling.entry) }
 {
     let mut so_far = filling;
     for set in sets {
@@ -126,7 +126,9 @@ fn is_first(line: u32, others: Option<Broken>) -> bool
 /// doesn't fit, or stands behind that pair.
 #[derive(Drop)]
 pub struct Passed<'a> {
+    /// The least broken pair.
     pub broken: Option<Broken>,
+    /// What was given.
     pub filling: Option<Filling<'a>>,
 }
 
@@ -139,7 +141,7 @@ fn pass_data<'a: 'b, 'b>(
     arrays: &IndexMap<Vec<u8>, Vec<Dimension>>,
     item: &'a Item,
 ) -> Result<Passed<'a>, AllocError>
-    requires { (n : List ℕ) → arrays_kept arrays.now n ≡ (roles_at table.now.roles.now).names.arrays n }
+    requires { AreArrays (roles_at table.now.roles.now) arrays.now }
     ensures { IfOk result (λ p. GoesOn table.now (item_tree item.entry.now) passed.entry p) }
 {
     let Passed { broken, filling } = passed;
@@ -179,7 +181,7 @@ pub fn given_by_data<'a>(
     items: &[&'a Item],
     others: Option<Broken>,
 ) -> Result<Passed<'a>, AllocError>
-    requires { (n : List ℕ) → arrays_kept arrays.now n ≡ (roles_at roles.now).names.arrays n }
+    requires { AreArrays (roles_at roles.now) arrays.now }
     ensures { IfOk result (λ p. IsPassed (roles_at roles.now) others (map tree_at items.now) p) }
 {
     let mut table = table_of(alloc, roles);

@@ -1,15 +1,11 @@
 //! The trips of implied DOs in DATA statements (ANSI X3.9-1978, 9.3 and 11.10.3).
 
-ghost use Rattle.std.specs.Prelude.{◌≡◌, ◌≢◌, ◌+ℤ◌, int_div, option_map, pos, IfOk};
-ghost use Rattle.std.specs.Int.{CanDivide, w64};
-ghost use Rattle.meaning.specs.Characters.{at_least_zero};
-ghost use Rattle.meaning.specs.Initial.{known_trips, step_of as step_by, trips_if};
-ghost use Rattle.meaning.specs.Syntax.{expr_tree, limits_tree};
-ghost use Rattle.meaning.specs.Trips.{trip_count};
-ghost use Rattle.data_rules.specs.DataTrips.{trips_by};
-ghost use Rattle.number_rules.specs.Tables.{scope_known, scope_types};
+ghost use Rattle.std.specs.Prelude.{◌≡◌, ◌+ℤ◌, option_map, IfOk};
+ghost use Rattle.meaning.specs.Initial.{trips_if};
+ghost use Rattle.data_rules.specs.DataTrips.{step_in, trips_by, trips_in};
 
 use crate::elements::known_value;
+use expressions::trip_count;
 use meaning::syntax::{Expr, Limits};
 use number_rules::Scope;
 use std::alloc::AllocError;
@@ -22,26 +18,6 @@ pub struct Trips {
     pub count: u64,
 }
 
-/// A quotient towards zero, and 0 where it is negative.
-fn quotient_or_zero(dividend: i64, divisor: i64) -> u64
-    requires { CanDivide w64 dividend divisor }
-    ensures { result ≡ at_least_zero (int_div dividend divisor) }
-{
-    let quotient = dividend / divisor;
-    if quotient < 0 { 0 } else { quotient as u64 }
-}
-
-/// How many trips there are.
-fn count_of(first: i32, last: i32, step: i32) -> u64
-    requires { step ≢ pos 0 }
-    ensures { result ≡ trip_count first last step }
-{
-    let lower = i64::from(first);
-    let by = i64::from(step);
-    let distance = i64::from(last) - lower;
-    quotient_or_zero(distance + by, by)
-}
-
 /// The trips with these limits, if there are any.
 fn trips_between(first: i32, last: i32, step: i32) -> Option<Trips>
     ensures { option_map trips_by result ≡ trips_if first last step }
@@ -49,7 +25,7 @@ fn trips_between(first: i32, last: i32, step: i32) -> Option<Trips>
     if step == 0 {
         return None;
     }
-    let count = count_of(first, last, step);
+    let count = trip_count(first, last, step);
     if count == 0 {
         None
     } else {
@@ -59,7 +35,7 @@ fn trips_between(first: i32, last: i32, step: i32) -> Option<Trips>
 
 /// The value of a step, which is 1 where none is written.
 fn step_of(scope: &Scope, step: &Option<Expr>) -> Option<i32>
-    ensures { result ≡ step_by (scope_types scope.now) (scope_known scope.now) (option_map expr_tree step.now) }
+    ensures { result ≡ step_in scope.now step.now }
 {
     match step {
         Some(step) => known_value(scope, step),
@@ -69,7 +45,7 @@ fn step_of(scope: &Scope, step: &Option<Expr>) -> Option<i32>
 
 /// The trips of an implied DO, if its limits are known and there are any.
 pub fn trips_of(scope: &Scope, limits: &Limits) -> Option<Trips>
-    ensures { option_map trips_by result ≡ known_trips (scope_types scope.now) (scope_known scope.now) (limits_tree limits.now) }
+    ensures { option_map trips_by result ≡ trips_in scope.now limits.now }
 {
     match known_value(scope, &limits.first) {
         None => None,

@@ -3,7 +3,6 @@ pub mod Wholes
 pub mod Turned
 pub mod Assigned
 pub mod Limiting
-pub mod Quotients
 pub mod Looped
 pub mod Quietly
 pub mod Silent

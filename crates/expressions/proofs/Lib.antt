@@ -9,3 +9,4 @@ pub mod Called
 pub mod Calls
 pub mod Reading
 pub mod Spares
+pub mod Quotients

@@ -10,6 +10,7 @@ mod listing;
 mod numbering;
 mod place;
 mod spare;
+mod trips;
 
 ghost use Rattle.std.specs.Prelude.{◌≡◌, ◌<◌, ◌≤◌, ◌^◌, ℤ, pos, [], int_div, FitsSigned, SomeIff, IfOk, Ok};
 ghost use Rattle.std.specs.Int.{w32};
@@ -33,6 +34,7 @@ use meaning::number::number;
 use meaning::syntax::{DataType, Expr, Exprs, Operator, Sign};
 pub use numbering::{Cells, Function, Named, Nameless, Numbering};
 pub use place::Place;
+pub use trips::trip_count;
 
 /// The value of an expression, or its leftmost fault: F1 where a divisor is zero, F2 where a result leaves the range of
 /// INTEGER, F3 where a subscript is outside its bounds, F6 where zero has an exponent of zero or less.

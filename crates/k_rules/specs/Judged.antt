@@ -1,9 +1,12 @@
 -- What is known of a program unit, and the rules around that on DATA statements.
 use Rattle.std.specs.Prelude.{◌≡◌, ℕ, List, [], ◌++◌, map, Option, Result}
+use Rattle.std.specs.Borrow.{Bor}
 use Rattle.meaning.specs.declared.ending.Value.{Value}
 use Rattle.meaning.specs.declared.refusal.Broken.{Broken}
 use Rattle.meaning.specs.declared.refusal.Refusal.{Refusal}
 use Rattle.meaning.specs.declared.refusal.Rule.TheVariants.{K1, K2, K6, K7, K9, K10, K11}
+use Rattle.meaning.specs.declared.syntax.Item.{Item}
+use Rattle.meaning.specs.declared.syntax.Member.{Member}
 use Rattle.meaning.specs.Arrays.{Dimension}
 use Rattle.meaning.specs.Initial.{has_bad_data, starts_from}
 use Rattle.meaning.specs.LabelRules.{has_repeated_label, breaks_transfers, has_bad_output}
@@ -15,9 +18,12 @@ use Rattle.meaning.specs.Reports.{Gives}
 use Rattle.meaning.specs.Scopes.{arrays_of, known_of}
 use Rattle.meaning.specs.Surroundings.{in_body, told_in}
 use Rattle.meaning.specs.Syntax.{ItemTree}
-use Rattle.meaning.specs.Trees.{Members}
+use Rattle.meaning.specs.Trees.{Members, members_tree}
 use Rattle.meaning.specs.Types.{types_of}
 use Rattle.meaning.specs.Uses.{Roles, roles_of}
+use Rattle.roles.specs.declared.names.Roles.{Roles as Kept}
+use Rattle.roles.specs.RolesAt.{roles_at}
+use Rattle.rule_passes.specs.Listed.{tree_at}
 use Rattle.k_rules.specs.declared.verdict.Facts.{Facts}
 use Rattle.number_rules.specs.ArraysKept.{arrays_kept}
 use Rattle.data_rules.specs.DataSets.{given_by}
@@ -42,6 +48,16 @@ rules_first r all =
 abbrev pub rules_last : Roles → List ItemTree → Members → List Broken
 rules_last r all ms =
     told (has_bad_output r all) K11 [] all ++ (told_in (breaks_transfers r all) K2 (in_body ms) ms ++ told_in (breaks_loops r) K9 (in_body ms) ms)
+
+-- the least pair of the rules on names, of those in front, and of those behind
+abbrev pub AreNamesLeast : Kept → List (Bor Item) → Option Broken → Type 0
+AreNamesLeast r items b = b ≡ least (broken_names (roles_at r) (map tree_at items))
+
+abbrev pub AreFirstLeast : Kept → List (Bor Item) → Option Broken → Type 0
+AreFirstLeast r items b = b ≡ least (rules_first (roles_at r) (map tree_at items))
+
+abbrev pub AreLastLeast : Kept → List Member → Option Broken → Type 0
+AreLastLeast r members b = b ≡ least (rules_last (roles_at r) (map tree_at r.items.now) (members_tree members))
 
 -- the least pair of others and of the rule on DATA statements
 abbrev pub with_data : List ItemTree → Option Broken → Option Broken

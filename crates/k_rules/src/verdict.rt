@@ -1,19 +1,11 @@
 //! The rules on a whole program unit, and what is known of one that breaks none (ANSI X3.9-1978, chapters 2 to 15).
 
-ghost use Rattle.std.specs.Prelude.{◌≡◌, [], ℕ, List, map, IfOk};
-ghost use Rattle.meaning.specs.Initial.{starts_from};
-ghost use Rattle.meaning.specs.NameRules.{broken_names as broken_names_by};
-ghost use Rattle.meaning.specs.Refusals.{least};
+ghost use Rattle.std.specs.Prelude.{◌≡◌, map, IfOk};
 ghost use Rattle.meaning.specs.Reports.{Gives};
 ghost use Rattle.meaning.specs.Rules.{checked};
-ghost use Rattle.meaning.specs.Scopes.{arrays_of, known_of};
-ghost use Rattle.meaning.specs.Trees.{flatten, members_tree, nested};
-ghost use Rattle.meaning.specs.Types.{types_of};
-ghost use Rattle.meaning.specs.Uses.{roles_of};
-ghost use Rattle.roles.specs.RolesAt.{roles_at};
-ghost use Rattle.data_rules.specs.DataSets.{given_by};
-ghost use Rattle.k_rules.specs.Judged.{HasArrays, HasConstants, HasStarts, IsDecided, arrays_in, constant_in, rules_first, rules_last, starts_in, with_data};
+ghost use Rattle.meaning.specs.Trees.{flatten, nested};
 ghost use Rattle.rule_passes.specs.Listed.{tree_at};
+ghost use Rattle.k_rules.specs.Judged.{AreFirstLeast, AreLastLeast, AreNamesLeast, HasArrays, HasConstants, HasStarts, IsDecided, with_data};
 
 use data_rules::{Filling, Passed, Start, given_by_data};
 use expressions::Dimension;
@@ -53,7 +45,7 @@ impl Drop for Facts<'_> {
 
 /// The least pair of the rules on names.
 fn broken_names(alloc: Global, roles: &Roles, items: &[&Item]) -> Result<Option<Broken>, AllocError>
-    ensures { IfOk result (λ b. b ≡ least (broken_names_by (roles_at roles.now) (map tree_at items.now))) }
+    ensures { IfOk result (AreNamesLeast roles.now items.now) }
 {
     let real = real_name(alloc, roles, items)?;
     let disputed = disputed_name(alloc, roles, items)?;
@@ -70,7 +62,7 @@ fn broken_names(alloc: Global, roles: &Roles, items: &[&Item]) -> Result<Option<
 
 /// The least pair of the rules on the statements in their order that stand before that on DATA statements.
 fn broken_first(alloc: Global, roles: &Roles, items: &[&Item]) -> Result<Option<Broken>, AllocError>
-    ensures { IfOk result (λ b. b ≡ least (rules_first (roles_at roles.now) (map tree_at items.now))) }
+    ensures { IfOk result (AreFirstLeast roles.now items.now) }
 {
     let repeated = repeated_label(alloc, items)?;
     let names = broken_names(alloc, roles, items)?;
@@ -87,7 +79,7 @@ fn broken_last(
     roles: &Roles,
     members: &[Member],
 ) -> Result<Option<Broken>, AllocError>
-    ensures { IfOk result (λ b. b ≡ least (rules_last (roles_at roles.now) (map tree_at roles.now.items.now) (members_tree members.now))) }
+    ensures { IfOk result (AreLastLeast roles.now members.now) }
 {
     let output = bad_output(alloc, roles)?;
     let missed = missed_label(alloc, roles, roles.items, members)?;

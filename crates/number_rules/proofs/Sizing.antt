@@ -4,7 +4,7 @@ use Rattle.std.specs.Prelude.{sum_by}
 use Rattle.std.proofs.lemmas.List.{append-nil, drop_all}
 use Rattle.std.proofs.lemmas.List.Sums.{sum_by-append}
 use Rattle.meaning.specs.declared.syntax.Declarator.{Declarator}
-use Rattle.meaning.specs.Syntax.{DeclaratorTree, ItemTree, declarator_tree}
+use Rattle.meaning.specs.Syntax.{ItemTree, declarator_tree}
 use Rattle.meaning.specs.NumberRules.{elements_in, elements_of, have_too_large, is_too_large, known_behind_all}
 use Rattle.meaning.specs.Scopes.{declarators_in}
 use Rattle.meaning.specs.Types.{Types}

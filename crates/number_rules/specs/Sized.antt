@@ -1,5 +1,5 @@
 -- The dimensions of arrays, and how many elements they have, by the constants of a table.
-use Rattle.std.specs.Prelude.{◌≡◌, ◌+◌, ℕ, ℤ, Bool, List, [], map, nat_lt, sum_by}
+use Rattle.std.specs.Prelude.{◌+◌, ℕ, ℤ, Bool, List, [], map, nat_lt, sum_by}
 use Rattle.meaning.specs.declared.syntax.Bounds.{Bounds}
 use Rattle.meaning.specs.declared.syntax.Declarator.{Declarator}
 use Rattle.meaning.specs.declared.syntax.Expr.{Expr}

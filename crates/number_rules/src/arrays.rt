@@ -72,7 +72,8 @@ pub struct Declared<'a> {
     pub arrays: IndexMap<Vec<u8>, Vec<Dimension>>,
 }
 
-/// The constants and the arrays of the statements.
+/// The constants and the arrays that the statements of a unit define (ANSI X3.9-1978, 5.1 and 8.6). The `AllocError` comes where a
+/// growth was refused.
 pub fn declared_in<'a>(alloc: Global, roles: &'a Roles<'a>) -> Result<Declared<'a>, AllocError>
     ensures roles { IfOk result (λ declared. declared.table.roles.now ≡ roles.now) }
     ensures constants { IfOk result (λ declared. AreConstants roles.now (known_at declared.table)) }

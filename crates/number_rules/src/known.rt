@@ -11,7 +11,7 @@ use meaning::syntax::{DataType, Expr, Item, NamedConstant, Shape};
 use roles::{Roles, type_of_name};
 use std::alloc::{AllocError, Global};
 
-/// The value of an expression of constants, if it has one.
+/// The value of an expression of constants, if it has one; none where it faults.
 pub fn value_of<C: Constants>(constants: &C, expression: &Expr) -> Option<Value>
     requires { C.is_sound constants.now }
     ensures { result ≡ value_at (C.types constants.now) (C.known constants.now) expression.now }
@@ -50,7 +50,7 @@ impl Constants for Table<'_> {
     }
 }
 
-/// In front of all statements.
+/// The table in front of all statements, which has no constants.
 pub fn table_of<'a>(alloc: Global, roles: &'a Roles<'a>) -> Table<'a>
     ensures roles { result.roles.now ≡ roles.now }
     ensures behind { IsBehind result [] }
@@ -92,7 +92,7 @@ fn put_constants(
     Ok(())
 }
 
-/// Passes a statement.
+/// Passes a statement: the table has its constants, too. The `AllocError` comes where a growth was refused.
 pub fn pass_constants(table: &mut Table, alloc: Global, item: &Item) -> Result<(), AllocError>
     ensures known { OnOk result (known_at table.new ≡ known_passing table.old item.now) }
     ensures roles { OnOk result (table.new.roles ≡ table.old.roles) }
@@ -107,14 +107,18 @@ pub fn pass_constants(table: &mut Table, alloc: Global, item: &Item) -> Result<(
 /// A name of one's own, and its value if it has one.
 #[derive(Clone, Copy)]
 pub struct Own<'a> {
+    /// The name.
     pub name: &'a [u8],
+    /// Its value, if it has one.
     pub value: Option<Value>,
 }
 
 /// The constants so far, and names of one's own in front of them.
 #[derive(Drop)]
 pub struct Scope<'a> {
+    /// The constants so far.
     pub table: &'a Table<'a>,
+    /// The names of one's own, the last one first when one is sought.
     pub own: Vec<Own<'a>>,
 }
 
@@ -140,7 +144,7 @@ impl Constants for Scope<'_> {
     }
 }
 
-/// The constants so far alone.
+/// The scope of the constants so far alone.
 pub fn scope_of<'a>(alloc: Global, table: &'a Table<'a>) -> Scope<'a>
     ensures table { result.table.now ≡ table.now }
     ensures own { result.own.items ≡ [] }
@@ -151,7 +155,7 @@ pub fn scope_of<'a>(alloc: Global, table: &'a Table<'a>) -> Scope<'a>
     }
 }
 
-/// Puts a name of one's own in front.
+/// Puts a name of one's own in front of what is known. The `AllocError` comes where a growth was refused.
 pub fn enter_name<'a: 'b, 'b>(
     scope: &mut Scope<'b>,
     name: &'a [u8],

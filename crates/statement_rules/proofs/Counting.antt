@@ -10,12 +10,8 @@ use Rattle.meaning.specs.Surroundings.{head_of, own_items}
 use Rattle.meaning.specs.Syntax.{ItemTree}
 use Rattle.meaning.specs.Trees.{Members, arms_tree, item_tree, member_before, members_tree}
 use Rattle.meaning.proofs.Ranges.{member_before-block, member_before-loop, left_more}
-use Rattle.statement_rules.specs.Counted.{one_more, one_less}
+use Rattle.statement_rules.specs.Counted.{one_more, one_less, times}
 use Rattle.statement_rules.specs.Reached.{Counts}
-
--- how often a label stands in a list directly
-abbrev pub times : ℕ → Members → ℕ
-times s ms = count_by (has_label s) (own_items ms)
 
 pub count_step : (f : ItemTree → Bool) (x : ItemTree) (xs : List ItemTree) → count_by f (x ∷ xs) ≡ one_more (f x) (count_by f xs)
 count_step f x xs = sum_by-cons (λ y. cond (f y) 1 0) x xs ∙ ones (f x) (count_by f xs)

@@ -1,4 +1,5 @@
 pub mod Counted
+pub mod Labels
 pub mod Reached
 pub mod Counters
 pub mod FormatLabels

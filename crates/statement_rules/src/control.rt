@@ -3,15 +3,14 @@
 
 ghost use Rattle.std.specs.Prelude.{◌≡◌, [], map, reverse, IfOk};
 ghost use Rattle.std.specs.List.{list_any};
-ghost use Rattle.meaning.specs.LoopRules.{breaks_loops, has_nested_variable, resets_in, variables_set};
-ghost use Rattle.meaning.specs.Refusals.{least};
-ghost use Rattle.meaning.specs.Surroundings.{in_body, loop_variables, told_in};
+ghost use Rattle.meaning.specs.LoopRules.{breaks_loops, has_nested_variable, resets_in};
+ghost use Rattle.meaning.specs.Surroundings.{loop_variables};
 ghost use Rattle.meaning.specs.Syntax.{data_set_tree, list_items_tree, shape_tree};
-ghost use Rattle.meaning.specs.Trees.{members_tree};
 ghost use Rattle.meaning.specs.Uses.{is_one_of};
 ghost use Rattle.roles.specs.RolesAt.{roles_at};
-ghost use Rattle.statement_rules.specs.Counters.{counters};
-ghost use Rattle.statement_rules.specs.Implied.{misuses_by, stands_in_own};
+ghost use Rattle.statement_rules.specs.Counters.{counters, has_one_in, sets_one};
+ghost use Rattle.statement_rules.specs.Implied.{misuses_one, stands_in_own};
+ghost use Rattle.statement_rules.specs.Reached.{IsLeastIn};
 
 use crate::counters::{enter_counter, is_counter};
 use crate::loops::{counts_by_none, leave_counter};
@@ -98,7 +97,7 @@ fn has_reset(shape: &Shape) -> bool
 /// Whether an implied DO in a list has one of the variables.
 #[tactic(auto, using(rule_passes::proofs::Missing::any_both))]
 fn has_counter_in(variables: &[Vec<u8>], items: &ListItems) -> bool
-    ensures { result ≡ list_any (is_one_of (counters variables.now)) (loop_variables (list_items_tree items.now)) }
+    ensures { result ≡ has_one_in variables.now items.now }
 {
     match items {
         ListItems::Empty => false,
@@ -119,7 +118,7 @@ fn has_counter_in(variables: &[Vec<u8>], items: &ListItems) -> bool
 
 /// Whether a statement sets one of the variables.
 fn sets_counter(variables: &[Vec<u8>], shape: &Shape) -> bool
-    ensures { result ≡ list_any (is_one_of (counters variables.now)) (variables_set (shape_tree shape.now)) }
+    ensures { result ≡ sets_one variables.now shape.now }
 {
     match shape {
         Shape::Assignment {
@@ -140,7 +139,7 @@ fn sets_counter(variables: &[Vec<u8>], shape: &Shape) -> bool
 
 /// Whether a statement breaks the rule, by the variables of the DO statements around.
 fn misuses_variable(roles: &Roles, variables: &[Vec<u8>], shape: &Shape) -> bool
-    ensures { result ≡ misuses_by (roles_at roles.now) (counters variables.now) (shape_tree shape.now) }
+    ensures { result ≡ misuses_one roles.now variables.now shape.now }
 {
     counts_by_none(roles, shape) || sets_counter(variables, shape) || has_reset(shape)
 }
@@ -184,7 +183,7 @@ pub fn misused_variable(
     roles: &Roles,
     members: &[Member],
 ) -> Result<Option<Broken>, AllocError>
-    ensures { IfOk result (λ b. b ≡ least (told_in (breaks_loops (roles_at roles.now)) Rule.K9 (in_body (members_tree members.now)) (members_tree members.now))) }
+    ensures { IfOk result (IsLeastIn (breaks_loops (roles_at roles.now)) Rule.K9 members.now) }
 {
     let mut controlled = Controlled {
         alloc,

@@ -1,12 +1,10 @@
 //! The variables of the DO statements around a statement (ANSI X3.9-1978, 11.10.5).
 
-ghost use Rattle.std.specs.Prelude.{◌≡◌, ◌++◌, ◌∷◌, [], ℕ, List, map, OnOk};
-ghost use Rattle.std.specs.List.{list_any};
-ghost use Rattle.std.specs.Str.{bytes_eq};
+ghost use Rattle.std.specs.Prelude.{◌≡◌, OnOk};
 ghost use Rattle.meaning.specs.Surroundings.{counted_by};
 ghost use Rattle.meaning.specs.Syntax.{shape_tree};
 ghost use Rattle.meaning.specs.Uses.{is_one_of};
-ghost use Rattle.statement_rules.specs.Counters.{counters, shape_variable};
+ghost use Rattle.statement_rules.specs.Counters.{EntersCounter, counters, shape_variable};
 
 use meaning::syntax::Shape;
 use std::alloc::{AllocError, Global};
@@ -39,7 +37,7 @@ pub fn enter_counter(
     alloc: Global,
     shape: &Shape,
 ) -> Result<(), AllocError>
-    ensures { OnOk result (counters variables.new.items ≡ counters variables.old.items ++ counted_by (shape_tree shape.now)) }
+    ensures { OnOk result (EntersCounter shape.now variables.old.items variables.new.items) }
 {
     match counter_of(shape) {
         Some(variable) => {

@@ -2,7 +2,7 @@
 
 ghost use Rattle.std.specs.Prelude.{◌≡◌, ◌≤◌, ◌^◌, ℕ, false, OnOk};
 ghost use Rattle.meaning.specs.LabelRules.{is_label_at};
-ghost use Rattle.statement_rules.specs.Counted.{count_in, one_more, one_less};
+ghost use Rattle.statement_rules.specs.Counted.{AddsLabel, TakesLabel, count_in};
 
 use std::alloc::AllocError;
 use std::collections::BTreeMap;
@@ -20,7 +20,7 @@ pub fn count_of(counts: &BTreeMap<u32, u64>, label: u32) -> u64
 /// Counts a label once more, if there is one. The `AllocError` comes where a growth was refused; a label stands less than
 /// 2^64-1 times.
 pub fn add_label(counts: &mut BTreeMap<u32, u64>, label: Option<u32>) -> Result<(), AllocError>
-    ensures counted { OnOk result ((s : ℕ) → count_in counts.new s ≡ one_more (is_label_at label s) (count_in counts.old s)) }
+    ensures counted { OnOk result (AddsLabel label counts.old counts.new) }
     ensures small { (s : ℕ) → 2 ^ 32 ≤ s → is_label_at label s ≡ false }
 {
     match label {
@@ -37,7 +37,7 @@ pub fn add_label(counts: &mut BTreeMap<u32, u64>, label: Option<u32>) -> Result<
 
 /// Counts a label once less, if there is one.
 pub fn take_label(counts: &mut BTreeMap<u32, u64>, label: Option<u32>)
-    ensures { (s : ℕ) → count_in counts.new s ≡ one_less (is_label_at label s) (count_in counts.old s) }
+    ensures { TakesLabel label counts.old counts.new }
 {
     match label {
         None => {}

@@ -1,21 +1,13 @@
 //! Units and formats (ANSI X3.9-1978, 12.3, 12.4 and 13.1).
 
-ghost use Rattle.std.specs.Prelude.{◌≡◌, ◌^◌, ◌≤◌, ℕ, [], false, List, map, IfOk, is_none, is_some, option_map};
-ghost use Rattle.std.specs.List.{list_any};
-ghost use Rattle.std.specs.Ordering.{nat_cmp};
-ghost use Rattle.std.specs.BTreeSet.{contains};
-ghost use Rattle.meaning.specs.Characters.{number_of};
+ghost use Rattle.std.specs.Prelude.{◌≡◌, ◌^◌, ◌≤◌, ℕ, false, map, IfOk, is_none, is_some, option_map};
 ghost use Rattle.meaning.specs.Formats.{descriptors_of, format_in, undoubled};
-ghost use Rattle.meaning.specs.LabelRules.{has_bad_output, is_allowed as is_format_allowed, is_format_at, is_label_at, is_misformed as is_broken_by, is_six as is_value_six, is_unit as is_unit_by};
-ghost use Rattle.meaning.specs.NameRules.{told};
-ghost use Rattle.meaning.specs.Refusals.{least};
-ghost use Rattle.meaning.specs.Syntax.{ItemTree, format_tree, shape_tree, unit_tree};
 ghost use Rattle.meaning.specs.Trees.{item_tree};
 ghost use Rattle.format_edit.specs.Formatted.{descriptors};
-ghost use Rattle.statement_rules.specs.FormatLabels.{KnowsFormats};
 ghost use Rattle.rule_passes.specs.Listed.{tree_at};
-ghost use Rattle.number_rules.specs.Tables.{IsBehind, known_at, types_in};
-ghost use Rattle.roles.specs.RolesAt.{roles_at};
+ghost use Rattle.meaning.specs.LabelRules.{is_format_at, is_label_at, is_six as is_value_six};
+ghost use Rattle.rule_passes.specs.Telling.{Finds, IsLeast};
+ghost use Rattle.statement_rules.specs.FormatLabels.{AreFormats, FindsOk, HasFormats, KnowsOutput, breaks_output, is_allowed_by, is_format_of, is_misformed_at, is_unit_at};
 
 use crate::transfers::label_of;
 use format_edit::{Format, FormatFault};
@@ -44,7 +36,7 @@ fn format_label(item: &Item) -> Option<u32>
 
 /// The labels of the FORMAT statements.
 fn format_labels(alloc: Global, items: &[&Item]) -> Result<BTreeSet<u32>, AllocError>
-    ensures { IfOk result (λ labels. KnowsFormats (contains nat_cmp labels) (map tree_at items.now)) }
+    ensures { IfOk result (λ labels. AreFormats labels (map tree_at items.now)) }
 {
     let mut labels = BTreeSet::new(alloc);
     for item in items {
@@ -96,7 +88,7 @@ fn is_six(value: Option<Value>) -> bool
 
 /// Whether a unit is an asterisk or a constant expression of value 6.
 fn is_unit(table: &Table, unit: &Unit) -> bool
-    ensures { result ≡ is_unit_by (types_in table.now) (known_at table.now) (unit_tree unit.now) }
+    ensures { result ≡ is_unit_at table.now unit.now }
 {
     match unit {
         Unit::Star => true,
@@ -106,7 +98,7 @@ fn is_unit(table: &Table, unit: &Unit) -> bool
 
 /// Whether a FORMAT statement has the label that digits spell.
 fn is_format_label(labels: &BTreeSet<u32>, digits: &[u8]) -> bool
-    ensures { (all : List ItemTree) → KnowsFormats (contains nat_cmp labels.now) all → result ≡ list_any (is_format_at (number_of digits.now)) all }
+    ensures { Finds (AreFormats labels.now) (is_format_of digits.now) result }
 {
     match label_of(digits) {
         Some(label) => labels.contains(&label),
@@ -120,7 +112,7 @@ fn is_allowed(
     labels: &BTreeSet<u32>,
     source: &FormatSource,
 ) -> Result<bool, AllocError>
-    ensures { (all : List ItemTree) → KnowsFormats (contains nat_cmp labels.now) all → IfOk result (λ b. b ≡ is_format_allowed all (format_tree source.now)) }
+    ensures { FindsOk (AreFormats labels.now) (is_allowed_by source.now) result }
 {
     match source {
         FormatSource::Label(digits) => Ok(is_format_label(labels, digits)),
@@ -144,7 +136,7 @@ fn is_no_format(alloc: Global, text: &[u8]) -> Result<bool, AllocError>
 
 /// What breaks the rule on units and formats.
 #[derive(Drop)]
-struct BadOutput<'a> {
+pub struct BadOutput<'a> {
     alloc: Global,
     table: Table<'a>,
     labels: BTreeSet<u32>,
@@ -152,7 +144,7 @@ struct BadOutput<'a> {
 
 /// Whether a statement has a unit or a format that isn't allowed.
 fn is_misformed(output: &BadOutput, label: Option<u32>, shape: &Shape) -> Result<bool, AllocError>
-    ensures { (all : List ItemTree) → KnowsFormats (contains nat_cmp output.now.labels) all → IfOk result (λ b. b ≡ is_broken_by (roles_at output.now.table.roles.now) all (known_at output.now.table) label (shape_tree shape.now)) }
+    ensures { FindsOk (HasFormats output.now) (is_misformed_at output.now label shape.now) result }
 {
     match shape {
         Shape::Write { control, list: _ } => {
@@ -173,9 +165,9 @@ fn is_misformed(output: &BadOutput, label: Option<u32>, shape: &Shape) -> Result
 }
 
 impl Behind for BadOutput<'_> {
-    ghost breaks = { λ s before x. has_bad_output (roles_at s.table.roles.now) (map tree_at s.table.roles.now.items.now) before x };
+    ghost breaks = { λ s before x. breaks_output s.table.roles.now before x };
 
-    ghost knows = { λ s before. record { table : IsBehind s.table before; labels : KnowsFormats (contains nat_cmp s.labels) (map tree_at s.table.roles.now.items.now) } };
+    ghost knows = { λ s before. KnowsOutput s before };
 
     fn is_broken(&self, item: &Item) -> Result<bool, AllocError> {
         is_misformed(self, item.label, &item.form.shape)
@@ -188,7 +180,7 @@ impl Behind for BadOutput<'_> {
 
 /// K11: the least line at which a unit, a format label or a format isn't allowed.
 pub fn bad_output(alloc: Global, roles: &Roles) -> Result<Option<Broken>, AllocError>
-    ensures { IfOk result (λ b. b ≡ least (told (has_bad_output (roles_at roles.now) (map tree_at roles.now.items.now)) Rule.K11 [] (map tree_at roles.now.items.now))) }
+    ensures { IfOk result (IsLeast (breaks_output roles.now) Rule.K11 roles.now.items.now) }
 {
     let labels = format_labels(alloc, roles.items)?;
     let mut output = BadOutput {

@@ -1,13 +1,9 @@
 //! Statement labels (ANSI X3.9-1978, 3.4).
 
-ghost use Rattle.std.specs.Prelude.{◌≡◌, ℕ, [], map, IfOk};
-ghost use Rattle.std.specs.Ordering.{nat_cmp};
-ghost use Rattle.std.specs.BTreeSet.{contains};
-ghost use Rattle.std.specs.List.{list_any};
-ghost use Rattle.meaning.specs.LabelRules.{has_label, has_repeated_label};
-ghost use Rattle.meaning.specs.NameRules.{told};
-ghost use Rattle.meaning.specs.Refusals.{least};
-ghost use Rattle.rule_passes.specs.Listed.{tree_at};
+ghost use Rattle.std.specs.Prelude.{IfOk};
+ghost use Rattle.meaning.specs.LabelRules.{has_repeated_label};
+ghost use Rattle.rule_passes.specs.Telling.{IsLeast};
+ghost use Rattle.statement_rules.specs.Labels.{AreLabels};
 
 use meaning::refusal::{Broken, Rule};
 use meaning::syntax::Item;
@@ -24,7 +20,7 @@ struct Labels {
 impl Behind for Labels {
     ghost breaks = { λ _ before x. has_repeated_label before x };
 
-    ghost knows = { λ s before. (n : ℕ) → contains nat_cmp s.known n ≡ list_any (has_label n) before };
+    ghost knows = { λ s before. AreLabels before s.known };
 
     fn is_broken(&self, item: &Item) -> Result<bool, AllocError> {
         match item.label {
@@ -46,7 +42,7 @@ impl Behind for Labels {
 
 /// K1: the least line at which an earlier statement's label stands again.
 pub fn repeated_label(alloc: Global, items: &[&Item]) -> Result<Option<Broken>, AllocError>
-    ensures { IfOk result (λ b. b ≡ least (told has_repeated_label Rule.K1 [] (map tree_at items.now))) }
+    ensures { IfOk result (IsLeast has_repeated_label Rule.K1 items.now) }
 {
     let mut labels = Labels {
         known: BTreeSet::new(alloc),

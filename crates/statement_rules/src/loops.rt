@@ -1,13 +1,9 @@
 //! The variables of DO statements and implied DOs (ANSI X3.9-1978, 11.10.5 and 12.8.2.3).
 
-ghost use Rattle.std.specs.Prelude.{◌≡◌, ◌++◌, ℕ, List};
-ghost use Rattle.std.specs.List.{list_any};
+ghost use Rattle.std.specs.Prelude.{◌≡◌};
 ghost use Rattle.meaning.specs.LoopRules.{is_no_counter as is_no_counter_by};
-ghost use Rattle.meaning.specs.Surroundings.{controlled_by, counted_by, loop_variables};
-ghost use Rattle.meaning.specs.Syntax.{list_items_tree, shape_tree};
 ghost use Rattle.roles.specs.RolesAt.{roles_at};
-ghost use Rattle.meaning.specs.Trees.{item_tree};
-ghost use Rattle.statement_rules.specs.Counters.{counters};
+ghost use Rattle.statement_rules.specs.Counters.{LeavesCounter, counts_by_none_in, has_none_in};
 
 use crate::counters::counter_of;
 use meaning::syntax::{DataType, Item, ListItem, ListItems, Shape};
@@ -15,7 +11,7 @@ use roles::{Roles, is_other_name, type_of_name};
 
 /// Leaves the variable of a DO statement.
 pub fn leave_counter(variables: &mut Vec<Vec<u8>>, item: &Item)
-    ensures { (outer : List (List ℕ)) → counters variables.old.items ≡ outer ++ counted_by (item_tree item.now).shape → counters variables.new.items ≡ outer }
+    ensures { LeavesCounter item.now variables.old.items variables.new.items }
 {
     match counter_of(&item.form.shape) {
         Some(_) => {
@@ -39,7 +35,7 @@ fn is_no_counter(roles: &Roles, name: &[u8]) -> bool
 /// Whether the variable of an implied DO in a list is none.
 #[tactic(auto, using(rule_passes::proofs::Missing::any_both))]
 fn has_no_counter(roles: &Roles, items: &ListItems) -> bool
-    ensures { result ≡ list_any (is_no_counter_by (roles_at roles.now)) (loop_variables (list_items_tree items.now)) }
+    ensures { result ≡ has_none_in roles.now items.now }
 {
     match items {
         ListItems::Empty => false,
@@ -60,7 +56,7 @@ fn has_no_counter(roles: &Roles, items: &ListItems) -> bool
 
 /// Whether the variable of a DO statement or of an implied DO is none.
 pub fn counts_by_none(roles: &Roles, shape: &Shape) -> bool
-    ensures { result ≡ list_any (is_no_counter_by (roles_at roles.now)) (controlled_by (shape_tree shape.now)) }
+    ensures { result ≡ counts_by_none_in roles.now shape.now }
 {
     match shape {
         Shape::Do { variable, .. } => is_no_counter(roles, variable),

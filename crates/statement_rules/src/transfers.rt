@@ -1,22 +1,11 @@
 //! Transfers of control and the statements that they reach (ANSI X3.9-1978, 11.1, 11.2, 11.4 and 11.10.8).
 
-ghost use Rattle.std.specs.Prelude.{◌≡◌, ◌≤◌, ◌^◌, ◌||◌, [], if◌then◌else◌, ℕ, List, count_by, map, MatchOption, IfOk, OnOk};
-ghost use Rattle.std.specs.List.{list_any};
-ghost use Rattle.std.specs.Ordering.{nat_cmp};
-ghost use Rattle.std.specs.BTreeSet.{contains};
+ghost use Rattle.std.specs.Prelude.{◌≡◌, ◌≤◌, ◌^◌, MatchOption, IfOk, OnOk};
 ghost use Rattle.meaning.specs.Characters.{number_of};
-ghost use Rattle.meaning.specs.LabelRules.{breaks_transfers, has_label, is_label_at, not_executable, transfers_of};
-ghost use Rattle.meaning.specs.Refusals.{least};
-ghost use Rattle.meaning.specs.Surroundings.{Around, in_body, told_in};
-ghost use Rattle.meaning.specs.Scopes.{is_specification as is_specification_statement};
-ghost use Rattle.meaning.specs.Syntax.{ItemTree, shape_tree};
-ghost use Rattle.meaning.specs.Trees.{item_tree, members_tree};
-ghost use Rattle.meaning.specs.Uses.{is_defining};
-ghost use Rattle.roles.specs.RolesAt.{roles_at};
 ghost use Rattle.roles.specs.Stages.{IsBehind};
-ghost use Rattle.statement_rules.specs.Counted.{count_in};
-ghost use Rattle.rule_passes.specs.Listed.{tree_at};
-ghost use Rattle.statement_rules.specs.Reached.{Counts, is_missed};
+ghost use Rattle.rule_passes.specs.Telling.{Finds};
+ghost use Rattle.statement_rules.specs.Counted.{AreCounts};
+ghost use Rattle.statement_rules.specs.Reached.{AreClosed, Closes, IsAround, MissesLeast, is_not_executable, misses_by, misses_label, misses_one_of, shape_misses};
 
 use crate::counts::{add_label, count_of};
 use crate::reach::{add_list, take_list};
@@ -42,7 +31,7 @@ pub fn label_of(digits: &[u8]) -> Option<u32>
 
 /// What is known of labels while transfers are looked at.
 #[derive(Drop)]
-struct Transfers<'a> {
+pub struct Transfers<'a> {
     /// How often each stands in the program unit.
     all: &'a BTreeMap<u32, u64>,
     /// Those of statements that aren't executable.
@@ -53,7 +42,7 @@ struct Transfers<'a> {
 
 /// Whether a transfer misses the label that digits spell.
 fn misses(transfers: &Transfers, digits: &[u8]) -> bool
-    ensures { (a : Around) → Counts (count_in transfers.now.reach) a.items → result ≡ is_missed (count_in transfers.now.all.now) (contains nat_cmp transfers.now.closed.now) a.items (number_of digits.now) }
+    ensures { Finds (IsAround transfers.now) (misses_label transfers.now digits.now) result }
 {
     match label_of(digits) {
         None => true,
@@ -68,7 +57,7 @@ fn misses(transfers: &Transfers, digits: &[u8]) -> bool
 
 /// Whether a transfer misses one of the labels.
 fn misses_one(transfers: &Transfers, labels: &[Vec<u8>]) -> bool
-    ensures { (a : Around) → Counts (count_in transfers.now.reach) a.items → result ≡ list_any (λ l. is_missed (count_in transfers.now.all.now) (contains nat_cmp transfers.now.closed.now) a.items (number_of l.items)) labels.now }
+    ensures { Finds (IsAround transfers.now) (misses_one_of transfers.now labels.now) result }
 {
     for label in labels {
         if misses(transfers, label) {
@@ -80,7 +69,7 @@ fn misses_one(transfers: &Transfers, labels: &[Vec<u8>]) -> bool
 
 /// Whether a statement transfers to a label that it can't reach.
 fn transfer_misses(transfers: &Transfers, shape: &Shape) -> bool
-    ensures { (a : Around) → Counts (count_in transfers.now.reach) a.items → result ≡ list_any (is_missed (count_in transfers.now.all.now) (contains nat_cmp transfers.now.closed.now) a.items) (transfers_of (shape_tree shape.now)) }
+    ensures { Finds (IsAround transfers.now) (shape_misses transfers.now shape.now) result }
 {
     match shape {
         Shape::GoTo(label) => misses(transfers, label),
@@ -105,9 +94,9 @@ fn transfer_misses(transfers: &Transfers, shape: &Shape) -> bool
 }
 
 impl Within for Transfers<'_> {
-    ghost breaks = { λ s a x. list_any (is_missed (count_in s.all.now) (contains nat_cmp s.closed.now) a.items) (transfers_of x.shape) };
+    ghost breaks = { λ s a x. misses_by s x.shape a };
 
-    ghost knows = { λ s a. Counts (count_in s.reach) a.items };
+    ghost knows = { λ s a. IsAround s a };
 
     fn is_broken(&self, item: &Item) -> bool {
         transfer_misses(self, &item.form.shape)
@@ -132,7 +121,7 @@ impl Within for Transfers<'_> {
 
 /// How often labels stand at statements.
 fn counts_of(alloc: Global, items: &[&Item]) -> Result<BTreeMap<u32, u64>, AllocError>
-    ensures { IfOk result (λ counts. (s : ℕ) → count_in counts s ≡ count_by (has_label s) (map tree_at items.now)) }
+    ensures { IfOk result (AreCounts items.now) }
 {
     let mut counts = BTreeMap::new(alloc);
     for item in items {
@@ -143,7 +132,7 @@ fn counts_of(alloc: Global, items: &[&Item]) -> Result<BTreeMap<u32, u64>, Alloc
 
 /// Whether a statement isn't executable.
 fn is_closed(roles: &Roles, stage: &Stage, item: &Item) -> bool
-    ensures { (before : List ItemTree) → IsBehind roles.now stage.now before → result ≡ (is_specification_statement (shape_tree item.now.form.shape) || is_defining (roles_at roles.now) before (item_tree item.now)) }
+    ensures { Finds (IsBehind roles.now stage.now) (is_not_executable roles.now item.now) result }
 {
     is_specification(&item.form.shape) || stage.is_defining(roles, item)
 }
@@ -154,7 +143,7 @@ fn close_label(
     closes: bool,
     label: Option<u32>,
 ) -> Result<(), AllocError>
-    ensures { OnOk result ((s : ℕ) → contains nat_cmp closed.new s ≡ (if closes then (contains nat_cmp closed.old s || is_label_at label s) else contains nat_cmp closed.old s)) }
+    ensures { OnOk result (Closes closes label closed.old closed.new) }
 {
     if !closes {
         return Ok(());
@@ -170,7 +159,7 @@ fn close_label(
 
 /// The labels of the statements that aren't executable.
 fn closed_labels(alloc: Global, roles: &Roles, items: &[&Item]) -> Result<BTreeSet<u32>, AllocError>
-    ensures { IfOk result (λ closed. (s : ℕ) → contains nat_cmp closed s ≡ list_any (has_label s) (not_executable (roles_at roles.now) [] (map tree_at items.now))) }
+    ensures { IfOk result (AreClosed roles.now items.now) }
 {
     let mut closed = BTreeSet::new(alloc);
     let mut stage = Stage::new();
@@ -189,7 +178,7 @@ pub fn missed_label(
     items: &[&Item],
     members: &[Member],
 ) -> Result<Option<Broken>, AllocError>
-    ensures { IfOk result (λ b. b ≡ least (told_in (breaks_transfers (roles_at roles.now) (map tree_at items.now)) Rule.K2 (in_body (members_tree members.now)) (members_tree members.now))) }
+    ensures { IfOk result (MissesLeast roles.now items.now members.now) }
 {
     let all = counts_of(alloc, items)?;
     let closed = closed_labels(alloc, roles, items)?;

@@ -1,20 +1,20 @@
-use Rattle.std.proofs.Common.{◌≡◌, ℕ, ◌+◌, ℤ, pos, ◌+ℤ◌, ◌*ℤ◌, option_map, Some, None, rules, FitsSigned, to_z, sym, ap, ◌∙◌}
+use Rattle.std.proofs.Common.{◌≡◌, ℕ, ◌+◌, ℤ, pos, ◌+ℤ◌, ◌*ℤ◌, option_map, Some, None, rules, FitsSigned, to_z, sym, ap, ap₂, ◌∙◌}
 use Rattle.std.specs.Int.{w32, w64}
 use Rattle.std.proofs.lemmas.Int.{to_z-of_z}
 use Rattle.meaning.specs.declared.ending.Value.TheVariants.{Int}
 use Rattle.std.specs.Prelude.{if◌then◌else◌}
-use Rattle.meaning.specs.Initial.{and_also, targets_in, with_value}
+use Rattle.meaning.specs.Initial.{and_also, is_counter, targets_in, with_value}
 use Rattle.meaning.specs.Syntax.{limits_tree, list_item_tree, list_items_tree}
 use Rattle.roles.specs.RolesAt.{roles_at}
 use Rattle.data_rules.specs.DataGiving.{known_there, roles_in, stage_of}
-use Rattle.data_rules.specs.DataItems.{item_targets}
+use Rattle.data_rules.specs.DataItems.{item_targets, trips_targets}
 use Rattle.data_rules.specs.DataStages.{filled}
 use Rattle.data_rules.specs.DataTrips.{trips_by}
 use Rattle.number_rules.specs.KnownNames.{with_name}
 use Rattle.data_rules.specs.SameScope.{IsSameScope}
 use Rattle.number_rules.specs.Tables.{scope_known}
 use Rattle.data_rules.proofs.DataFilling.{same_given}
-use Rattle.data_rules.proofs.DataListing.{filled_more, filled_none, left, next_value, no_trips, same_known, trip_more}
+use Rattle.data_rules.proofs.DataListing.{filled_more, filled_none, left, next_value, no_trips, same_known, trip_more, with_trips}
 use Rattle.data_rules.proofs.data_lists.+data_lists.Goals as goal
 
 pub give_item-returns-in-None-clause-filled : goal.give_item-returns-in-None-clause-filled
@@ -24,6 +24,21 @@ give_item-returns-in-None-clause-filled t c =
     let none = sym c.trips_of.ensures ∙ ap (option_map trips_by) c.in-None.is in
     ap (λ x. filled r.names (item_targets r (list_item_tree x) (known_there g)) (stage_of g)) c.in-Loop.is
     ∙ no_trips r (list_items_tree c.in-Loop.items.value) c.in-Loop.variable.items (limits_tree c.in-Loop.limits) (known_there g) (stage_of g) none
+
+pub give_item-returns-in-Some-clause-filled : goal.give_item-returns-in-Some-clause-filled
+give_item-returns-in-Some-clause-filled t c =
+    let g = c.args.giving.now in
+    let r = roles_in g in
+    let k = known_there g in
+    let s = stage_of g in
+    let is = trips_by c.in-Some.trips in
+    let can = ap (is_counter r) (sym c.deref.ensures.value) ∙ sym c.is_counter.ensures ∙ c.if-not-is_counter.false in
+    let some = sym c.trips_of.ensures ∙ ap (option_map trips_by) c.in-Some.is in
+    same_given c.give_trips.result _
+    (ap (λ x. filled r.names (item_targets r (list_item_tree x) k) s) c.in-Loop.is
+    ∙ with_trips r (list_items_tree c.in-Loop.items.value) c.in-Loop.variable.items (limits_tree c.in-Loop.limits) k is s can some
+    ∙ ap₂ (λ xs v. filled r.names (trips_targets r (list_items_tree xs) v k is) s) (sym c.deref-in-Some.ensures) (sym c.deref-in-Some-2.ensures.value))
+    c.give_trips.ensures.filled
 
 pub give_items-returns-in-Empty-clause-filled : goal.give_items-returns-in-Empty-clause-filled
 give_items-returns-in-Empty-clause-filled t c =

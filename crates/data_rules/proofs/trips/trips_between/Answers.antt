@@ -1,4 +1,4 @@
-use Rattle.std.proofs.Common.{◌≡◌, rules, pos, ◌+ℤ◌, ◌*ℤ◌, map, Some, ap₂, ◌∙◌, ap, FitsSigned, of_z}
+use Rattle.std.proofs.Common.{rules, pos, ◌+ℤ◌, ◌*ℤ◌, map, Some, ap₂, ◌∙◌, ap, FitsSigned, of_z}
 use Rattle.std.specs.Int.{w32}
 use Rattle.std.specs.List.{range_with_len}
 use Rattle.std.proofs.lemmas.Int.{to_z-of_z}
@@ -11,9 +11,9 @@ returns-else-count-eq0 c =
     let first : FitsSigned w32 c.args.first = search rules in
     let step : FitsSigned w32 c.args.step = search rules in
     let last : FitsSigned w32 c.args.last = search rules in
-    let n = c.count_of-count.result in
+    let n = c.trip_count-count.result in
     let a = to_z-of_z w32 c.args.first first in
     let b = to_z-of_z w32 c.args.last last in
     let s = to_z-of_z w32 c.args.step step in
     ap₂ (λ x y. Some (map (λ k. x +ℤ pos k *ℤ y) (range_with_len 0 n))) a s
-    ∙ trips_there c.args.first c.args.last c.args.step n (c.count_of-count.ensures ∙ (λ i. trip_count (a i) (b i) (s i))) (λ e. c.if-step-eq0.false (ap (of_z w32) e)) c.if-count-eq0.false
+    ∙ trips_there c.args.first c.args.last c.args.step n (c.trip_count-count.ensures ∙ (λ i. trip_count (a i) (b i) (s i))) (λ e. c.if-step-eq0.false (ap (of_z w32) e)) c.if-count-eq0.false

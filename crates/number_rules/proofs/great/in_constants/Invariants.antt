@@ -1,5 +1,4 @@
 use Rattle.std.proofs.Common.{◌≡◌, map, drop}
-use Rattle.std.specs.Prelude.{flat_map}
 use Rattle.std.specs.List.{list_any}
 use Rattle.meaning.specs.Syntax.{constant_tree}
 use Rattle.meaning.specs.Typing.{Names, expected}

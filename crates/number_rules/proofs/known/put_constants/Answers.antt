@@ -1,4 +1,4 @@
-use Rattle.std.proofs.Common.{sym, ap, ◌∙◌}
+use Rattle.std.proofs.Common.{ap, ◌∙◌}
 use Rattle.meaning.specs.Scopes.{constant_value}
 use Rattle.meaning.specs.Syntax.{expr_tree}
 use Rattle.roles.specs.RolesAt.{roles_at}

@@ -4,8 +4,8 @@ use Rattle.meaning.specs.LabelRules.{has_label, is_label_at}
 use Rattle.meaning.specs.Surroundings.{head_of}
 use Rattle.meaning.specs.Trees.{arms_tree, item_tree, members_tree}
 use Rattle.std.specs.Prelude.{count_by}
-use Rattle.statement_rules.specs.Counted.{count_in, one_more}
-use Rattle.statement_rules.proofs.Counting.{times, plain_times, loop_times, block_times, moved_on, moved_both, left_times, zero_sum}
+use Rattle.statement_rules.specs.Counted.{count_in, one_more, times}
+use Rattle.statement_rules.proofs.Counting.{plain_times, loop_times, block_times, moved_on, moved_both, left_times, zero_sum}
 use Rattle.std.proofs.lemmas.List.{drop_all}
 use Rattle.statement_rules.proofs.reach.add_list.Goals as goal
 use Rattle.statement_rules.proofs.reach.add_list.Goals.{in-Plain+in_ok-add_label-in-Plain, in-Loop+in_ok-add_label-in-Loop, in-Block+in_ok-add_label-in-Block+in_ok-add_label-in-Block-2}

@@ -4,8 +4,8 @@ use Rattle.meaning.specs.LabelRules.{has_label, is_label_at}
 use Rattle.meaning.specs.Surroundings.{head_of}
 use Rattle.meaning.specs.Trees.{arms_tree, item_tree, members_tree}
 use Rattle.std.specs.Prelude.{count_by}
-use Rattle.statement_rules.specs.Counted.{count_in, one_more, one_less}
-use Rattle.statement_rules.proofs.Counting.{times, plain_times, loop_times, block_times, taken_on, taken_both, left_times}
+use Rattle.statement_rules.specs.Counted.{count_in, one_more, one_less, times}
+use Rattle.statement_rules.proofs.Counting.{plain_times, loop_times, block_times, taken_on, taken_both, left_times}
 use Rattle.statement_rules.proofs.reach.take_list.Goals as goal
 use Rattle.statement_rules.proofs.reach.take_list.Goals.{in-Plain, in-Loop, in-Block}
 
