@@ -1,10 +1,14 @@
 pub mod Placed
 pub mod Wholes
-pub mod Turned
 pub mod Assigned
+pub mod Targets
 pub mod Limiting
 pub mod Quotients
+pub mod Composed
+pub mod Turning
+pub mod Executed
+pub mod Picked
+pub mod Labelled
 pub mod Looped
-pub mod Quietly
 pub mod Silent
-pub mod Targets
+pub mod Listed
