@@ -8,7 +8,7 @@ use Rattle.meaning.specs.Stores.{Cells, World, Reads, Does}
 use Rattle.meaning.specs.Execution.{Ran, Follow, Ways, onward, at_label, ended, more, goes_on, goes_on_by, leads_on, leads_on_by}
 use Rattle.meaning.proofs.Running.{more-more, more-none}
 use Rattle.meaning.proofs.Stores.{later-same, does_read, does_then}
-use Rattle.evaluator.specs.Statements.{Leaves, Passes, Moves, Reaches, Comes}
+use Rattle.evaluator.specs.Statements.{ran_by, Leaves, Passes, Moves, Reaches, Comes}
 
 -- turns in front of a run that wrote nothing
 pub leaves_more : (r : Ran) (n given t : ℕ) (new : Map) (left : ℕ) (o : Outcome) → n + t ≡ given → Leaves r t new left o → Leaves (more [] n r) given new left o
@@ -57,6 +57,14 @@ leaves_on r given new left (outcomes.Stopped line) x =
     λ go. subst (λ s. Leaves s given new left (outcomes.Stopped line)) (sym (ap (λ o. leads_on_by o r given go) x.outcome)) x
 leaves_on r given new left (outcomes.Fault f) x =
     λ go. subst (λ s. Leaves s given new left (outcomes.Fault f)) (sym (ap (λ o. leads_on_by o r given go) x.outcome)) x
+
+-- a run with the turns that it used
+pub leaves_runs : (r : Ran) (given : ℕ) (new : Map) (left : ℕ) (o : Outcome) (used : ℕ) → used ≡ given - left → Leaves r given new left o → r ≡ ran_by (record { outcome = o; turns_used = used }) new
+leaves_runs r given new left o used same x =
+    λ i. record { outcome = x.outcome i; map = x.after i; pieces = x.nothing i; used = (what_was_used r.used left given x.turns ∙ sym same) i }
+  where
+    what_was_used : (a b c : ℕ) → a + b ≡ c → a ≡ c - b
+    what_was_used a b c e = omega arith
 
 -- a normal end, and then the rest of the trips
 pub leaves_along : (r : Ran) (given : ℕ) (new : Map) (left : ℕ) → Leaves r given new left outcomes.Normal → (go : Follow) → goes_on r given go ≡ more [] r.used (go new left)

@@ -1,5 +1,5 @@
 -- Lists of statements, the trips of a DO statement, and the arms of a block IF.
-use Rattle.std.proofs.Common.{◌≡◌, append_assoc, Bool, true, false, Result, Ok, ℕ, ℤ, pos, zero, suc, ◌+◌, ◌<◌, ◌≤◌, List, [], ◌∷◌, ◌++◌, length, get_or, drop, if◌then◌else◌, Option, Some, None, Err, refl, sym, ap, ◌∙◌, arith, subst}
+use Rattle.std.proofs.Common.{◌≡◌, append_assoc, Bool, true, false, Result, Ok, ℕ, ℤ, pos, zero, suc, ◌+◌, ◌-◌, ◌<◌, ◌≤◌, List, [], ◌∷◌, ◌++◌, length, get_or, drop, if◌then◌else◌, Option, Some, None, Err, refl, sym, ap, ◌∙◌, arith, subst}
 use Rattle.std.specs.Prelude.{IsTrue, not}
 use Rattle.std.specs.List.{AllByRecursion}
 use mathlib.Core.Path.{fun_ext}
@@ -25,11 +25,11 @@ use Rattle.meaning.specs.Execution.{Ran, Meaning, Follow, Ways, onward, at_label
 use Rattle.meaning.proofs.Running.{exec_is}
 use Rattle.meaning.proofs.Stores.{does_then}
 use Rattle.meaning.proofs.Ranges.{range_is, row_arms-items, member_before-block, left_arms}
-use Rattle.evaluator.specs.Quiet.{is_doing}
+use Rattle.evaluator.specs.Quiet.{is_doing, variable_of}
 use Rattle.evaluator.specs.Member.{member_does}
-use Rattle.evaluator.specs.Over.{values_by}
-use Rattle.evaluator.specs.Statements.{Leaves, Passes, Moves, Reaches, Comes, Picks, Adds}
-use Rattle.evaluator.proofs.Composed.{leaves_behind, reaches_end, reaches_more, leaves_on, leaves_along, IsEnd, ends_there, moves_behind, moves_same, comes_then, reads_and_does}
+use Rattle.evaluator.specs.Over.{values_by, trips_as, repeated_as}
+use Rattle.evaluator.specs.Statements.{ran_by, Leaves, Passes, Moves, Reaches, Comes, Picks, Adds}
+use Rattle.evaluator.proofs.Composed.{leaves_runs, leaves_behind, reaches_end, reaches_more, leaves_on, leaves_along, IsEnd, ends_there, moves_behind, moves_same, comes_then, reads_and_does}
 use Rattle.evaluator.proofs.Executed.{added_goes, added_fails, fault_at, one_less, turn_none, turn_fails, turn_goes}
 
 -- ---- what holds of each statement
@@ -212,6 +212,11 @@ pub unless_do : (s : ShapeTree) (scope : Scope) (rec : Meaning) (line : ℕ) (ra
 unfolding looped
 unless_do (doing label comma variable limits) scope rec line range m t h go = absurd (false≢true h)
 unless_do s scope rec line range m t h go = refl
+
+-- a range by itself, when the variable has its first value
+pub repeated_runs : (all : List ItemTree) (l : LoopOf) (first by : ℤ) (count : ℕ) (label : List ℕ) (comma : Bool) (variable : List ℕ) (limits : LimitsTree) → shape_tree (out-Loop l).head.form.shape ≡ doing label comma variable limits → (m n k : Map) (t left : ℕ) (o : Outcome) (used : ℕ) → used ≡ t - left → n ≡ put m variable [] first → Leaves (trips_as all l variable first by count n t) t k left o → repeated_as all l first by count m t ≡ ran_by (record { outcome = o; turns_used = used }) k
+repeated_runs all l first by count label comma variable limits is m n k t left o used same set x =
+    (λ i. trips_as all l (variable_of (is i)) first by count (put m (variable_of (is i)) [] first) t) ∙ ap (λ y. trips_as all l variable first by count y t) (sym set) ∙ leaves_runs (trips_as all l variable first by count n t) t k left o used same x
 
 -- ---- over any store
 

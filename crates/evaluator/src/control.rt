@@ -1,7 +1,7 @@
 //! Statements that stand by themselves and write nothing (ANSI X3.9-1978, 10.1, 11.1 to 11.5, 11.11 and 11.12), and the
 //! conditions of block IFs (11.6 and 11.7).
 
-ghost use Rattle.std.specs.Prelude.{◌≡◌, ◌<◌, ◌≤◌, List, IsOk, IsTrue, IfOk, map, not, option_map};
+ghost use Rattle.std.specs.Prelude.{◌≡◌, ◌<◌, ◌≤◌, Bool, List, IsOk, IsTrue, IfOk, map, not};
 ghost use Rattle.std.specs.List.{AllByRecursion};
 ghost use Rattle.meaning.specs.Characters.{number_of};
 ghost use Rattle.meaning.specs.Execution.{at_label, by_count, by_sign, simple, step};
