@@ -1,5 +1,5 @@
 -- Runs without output, one after another, and over any store.
-use Rattle.std.proofs.Common.{◌≡◌, ℕ, ℤ, Bool, suc, ◌+◌, ◌-◌, ◌<◌, ◌≤◌, List, [], Result, Ok, Err, refl, sym, ap, ◌∙◌, arith, subst}
+use Rattle.std.proofs.Common.{◌≡◌, ℕ, ◌+◌, ◌-◌, [], Result, Ok, Err, refl, sym, ap, ◌∙◌, arith, subst}
 use Rattle.std.specs.Prelude.{IfOk}
 use Rattle.meaning.specs.declared.ending.Outcome.{Outcome}
 use Rattle.meaning.specs.declared.ending.Outcome.TheVariants as outcomes
@@ -8,7 +8,7 @@ use Rattle.meaning.specs.Stores.{Cells, World, Reads, Does}
 use Rattle.meaning.specs.Execution.{Ran, Follow, Ways, onward, at_label, ended, more, goes_on, goes_on_by, leads_on, leads_on_by}
 use Rattle.meaning.proofs.Running.{more-more, more-none}
 use Rattle.meaning.proofs.Stores.{later-same, does_read, does_then}
-use Rattle.evaluator.specs.Statements.{ran_by, Leaves, Passes, Moves, Reaches, Comes}
+use Rattle.evaluator.specs.Statements.{ran_by, Leaves, Moves, Reaches, Comes}
 
 -- turns in front of a run that wrote nothing
 pub leaves_more : (r : Ran) (n given t : ℕ) (new : Map) (left : ℕ) (o : Outcome) → n + t ≡ given → Leaves r t new left o → Leaves (more [] n r) given new left o

@@ -1,10 +1,9 @@
 -- One statement that takes a turn.
-use Rattle.std.proofs.Common.{◌≡◌, ℕ, ℤ, suc, ◌+◌, ◌+ℤ◌, ◌||◌, Bool, true, false, if◌then◌else◌, List, [], ◌∷◌, ◌++◌, Option, Some, None, Result, Ok, Err, refl, sym, ap, ◌∙◌, subst, arith}
+use Rattle.std.proofs.Common.{◌≡◌, ℕ, ℤ, suc, ◌+◌, ◌+ℤ◌, ◌||◌, Bool, true, false, if◌then◌else◌, List, [], Option, Some, None, Result, Ok, Err, refl, sym, ap, ◌∙◌, subst, arith}
 use Rattle.std.specs.Prelude.{not, IsSome, IsTrue, is_some}
 use Rattle.std.proofs.lemmas.Bool.{false≢true}
 use Rattle.meaning.specs.declared.ending.FaultKind.{FaultKind}
 use Rattle.meaning.specs.declared.ending.FaultKind.TheVariants.{F4}
-use Rattle.meaning.specs.declared.ending.Fault.{Fault}
 use Rattle.meaning.specs.declared.ending.Value.{Value}
 use Rattle.meaning.specs.declared.ending.Outcome.{Outcome}
 use Rattle.meaning.specs.declared.ending.Outcome.TheVariants as outcomes
@@ -18,7 +17,7 @@ use Rattle.meaning.specs.Values.{Scope, dimensions_in, subscripts, value, as_int
 use Rattle.meaning.specs.Execution.{Ran, more, Ways, onward, at_label, turn, with_ok, failed, added, assigned, unless_defined, simple, step, condition_of, truth_of, holds, turn_if, tested}
 use Rattle.meaning.proofs.Running.{more-none}
 use Rattle.evaluator.specs.Quiet.{writes, is_logical_if}
-use Rattle.evaluator.specs.Statements.{Puts, Sums, target_and_value, Leaves, Passes, Moves, Comes, Picks, Tests}
+use Rattle.evaluator.specs.Statements.{Puts, Sums, target_and_value, Leaves, Passes, Moves, Tests}
 use Rattle.evaluator.proofs.Composed.{moves_behind, moves_same}
 
 abbrev pub fault_at : FaultKind → ℕ → Outcome

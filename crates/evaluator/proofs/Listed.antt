@@ -1,6 +1,5 @@
 -- The values of output lists, one item behind another, over any store.
-use Rattle.std.proofs.Common.{◌≡◌, ℕ, zero, suc, ◌+◌, ◌<◌, ◌≤◌, ℤ, pos, ◌+ℤ◌, List, [], ◌∷◌, ◌++◌, length, drop, append_assoc, append-nil, Result, Ok, Err, refl, sym, ap, ◌∙◌, subst, arith}
-use Rattle.std.specs.Global.{Vec}
+use Rattle.std.proofs.Common.{◌≡◌, ℕ, suc, ◌+◌, ◌<◌, ◌≤◌, ℤ, pos, ◌+ℤ◌, List, [], ◌++◌, length, drop, append_assoc, append-nil, Result, Ok, Err, refl, sym, ap, ◌∙◌, arith}
 use Rattle.std.proofs.lemmas.List.{drop_more, drop_all, length-map}
 use Rattle.std.proofs.lemmas.List.FromFn.{length-range_with_len}
 use Rattle.meaning.specs.declared.ending.FaultKind.{FaultKind}
@@ -9,14 +8,14 @@ use Rattle.meaning.specs.declared.ending.Value.{Value}
 use Rattle.meaning.specs.declared.syntax.Tree.{Tree}
 use Rattle.meaning.specs.Lists.{Listed, behind, followed, item_value, stepped, trips_listed, listed}
 use Rattle.meaning.specs.Maps.{Map, put}
-use Rattle.meaning.specs.Stores.{Cells, World, Reads, Does}
+use Rattle.meaning.specs.Stores.{World, Reads, Does}
 use Rattle.meaning.specs.Syntax.{ExprTree, LimitsTree, ListItemTree, value_item, loop_item, ListItemsTree, no_items, more_items}
 use Rattle.meaning.specs.Trips.{Span, span_of, trips, trip_count}
-use Rattle.meaning.specs.Values.{Scope, as_integer, integer, and_then}
+use Rattle.meaning.specs.Values.{Scope, integer, and_then}
 use Rattle.meaning.proofs.Stores.{does_read, does_then}
 use Rattle.expressions.specs.Listed.{AddsItem}
 use Rattle.values.specs.Programs.{map_at}
-use Rattle.evaluator.specs.Listing.{Items, item_listed, Finds, FindsOver, Gives, ListIs}
+use Rattle.evaluator.specs.Listing.{Items, item_listed, Finds, FindsOver, Gives}
 use Rattle.evaluator.specs.Statements.{Sums, Adds}
 use Rattle.evaluator.proofs.Composed.{does_so, does_nothing, reads_and_does}
 

@@ -13,11 +13,10 @@ use Rattle.meaning.specs.Execution.{Ran, Ways, exec, fold_trips, looped, arms_fr
 use Rattle.meaning.specs.Lists.{listed, list_limit}
 use Rattle.meaning.specs.Maps.{Map, put}
 use Rattle.meaning.specs.Scopes.{scope_of}
-use Rattle.meaning.specs.Stores.{Cells, World, Reads, Does}
+use Rattle.meaning.specs.Stores.{Cells, World, Does}
 use Rattle.meaning.specs.Syntax.{ExprTree, ExprsTree, ItemTree, LimitsTree, ListItemsTree, ShapeTree, shape_tree}
 use Rattle.meaning.specs.Trees.{Members, Arms, members_tree}
 use Rattle.meaning.specs.Trips.{span_of}
-use Rattle.checker.specs.Checked.{items_in}
 use Rattle.checker.specs.Starts.{map_of}
 use Rattle.values.specs.Programs.{map_at, scope_in}
 use Rattle.evaluator.specs.declared.limits.Span.{Span}

@@ -1,8 +1,7 @@
 -- Where in a list a transfer of control goes on (ANSI X3.9-1978, 11.1 to 11.4).
-use Rattle.std.specs.Prelude.{ℕ, Bool, true, false, Option, Some, None, List}
+use Rattle.std.specs.Prelude.{ℕ, Bool, true, false, Option, Some, None}
 use Rattle.meaning.specs.declared.syntax.Member.{Member, Plain, Loop', Block}
 use Rattle.meaning.specs.declared.syntax.Block.{Block'}
-use Rattle.meaning.specs.Characters.{number_of}
 use Rattle.meaning.specs.Execution.{Next, onward, at_label, heads}
 use Rattle.meaning.specs.LabelRules.{has_label}
 use Rattle.meaning.specs.Trees.{item_tree, row_arms}

@@ -62,12 +62,7 @@ pub fn item_whole(program: &Program, item: &Item, cells: &mut Whole, turns: &mut
 }
 
 /// Executes a DO statement with its range, which writes nothing; what is no DO statement is passed over.
-pub fn loop_whole(
-    program: &Program,
-    repeated: &Loop,
-    cells: &mut Whole,
-    turns: &mut u64,
-) -> Outcome
+pub fn loop_whole(program: &Program, repeated: &Loop, cells: &mut Whole, turns: &mut u64) -> Outcome
     requires named { AreKnown program.now
         (flat (members_tree (out-Loop repeated.now).range.items)) }
     requires quiet { WritesNothing (members_tree (out-Loop repeated.now).range.items) }

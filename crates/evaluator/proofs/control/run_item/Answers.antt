@@ -1,14 +1,10 @@
-use Rattle.std.proofs.Common.{ap, sym, ◌∙◌, subst, Ok, Err}
-use Rattle.std.specs.Prelude.{IfOk}
 use Rattle.meaning.specs.declared.ending.FaultKind.TheVariants.{F4}
 use Rattle.meaning.specs.declared.ending.Outcome.TheVariants as outcomes
 use Rattle.meaning.specs.Syntax.{logical_if, shape_tree, expr_tree}
-use Rattle.meaning.specs.Stores.{Does}
 use Rattle.meaning.specs.Execution.{simple, step}
 use Rattle.meaning.proofs.Stores.{does_read}
 use Rattle.checker.specs.Checked.{items_in}
 use Rattle.values.specs.Programs.{map_at}
-use Rattle.evaluator.specs.Statements.{Moves}
 use Rattle.evaluator.proofs.Executed.{fault_at, step_as, if_unexecuted, if_fails, if_true, if_false, unless_logical}
 use Rattle.evaluator.proofs.Composed.{does_nothing, does_so, reads_and_does, moves_same, if_ok_so}
 use Rattle.evaluator.proofs.control.run_item.Goals as goal

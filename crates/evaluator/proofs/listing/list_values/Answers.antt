@@ -1,4 +1,3 @@
-use Rattle.std.proofs.Common.{Ok}
 use Rattle.meaning.specs.Lists.{listed, list_limit}
 use Rattle.meaning.specs.Syntax.{list_items_tree}
 use Rattle.values.specs.Programs.{scope_in}

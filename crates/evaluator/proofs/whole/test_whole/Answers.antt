@@ -1,6 +1,6 @@
 use Rattle.meaning.specs.Trees.{item_tree}
 use Rattle.evaluator.specs.Over.{TestsAt}
-use Rattle.evaluator.proofs.Wholes.{reads_whole, kept_whole}
+use Rattle.evaluator.proofs.Wholes.{reads_whole}
 use Rattle.evaluator.proofs.whole.test_whole.Goals as goal
 
 pub returns-clause-tests : goal.returns-clause-tests
