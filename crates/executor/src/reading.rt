@@ -6,9 +6,8 @@ ghost use Rattle.meaning.specs.Statements.{entry_of};
 ghost use Rattle.meaning.specs.Trees.{item_tree};
 ghost use Rattle.meaning.specs.Answers.{member_of, members_of, program_of};
 ghost use Rattle.checker.specs.Checked.{tree_of};
-ghost use Rattle.executor.specs.Run.{IsRun};
+ghost use Rattle.executor.specs.Labelled.{AreLabelled, IsLabel, IsLabelled};
 
-use crate::unrun::unrun_statement;
 use checker::{Program, check};
 use lexer::bare;
 use meaning::refusal::{Broken, Refusal, lesser};
@@ -21,7 +20,8 @@ use std::alloc::Global;
 
 // What one statement says, in its place.
 fn member_in(alloc: Global, statement: &Statement) -> Result<Item, Refusal>
-    ensures { Gives item_tree result (member_of (entry_of statement.now)) }
+    ensures exact { Gives item_tree result (member_of (entry_of statement.now)) }
+    ensures labelled { IfOk result (λ x. IsLabel x.label) }
 {
     let text = bare(alloc, statement)?;
     let form = form(alloc, &text)?;
@@ -34,7 +34,8 @@ fn member_in(alloc: Global, statement: &Statement) -> Result<Item, Refusal>
 
 // What the statements say, or the least rule that one of them breaks.
 fn members_in(alloc: Global, found: &[Statement]) -> Result<Vec<Item>, Refusal>
-    ensures { Gives (λ v. map item_tree v.items) result (members_of (map entry_of found.now)) }
+    ensures exact { Gives (λ v. map item_tree v.items) result (members_of (map entry_of found.now)) }
+    ensures labelled { IfOk result (λ v. AreLabelled (map item_tree v.items)) }
 {
     let mut members = Vec::new(alloc);
     let mut broken = None;
@@ -66,22 +67,15 @@ fn members_in(alloc: Global, found: &[Statement]) -> Result<Vec<Item>, Refusal>
     }
 }
 
-/// The program that a source spells, all of whose statements are run, or why it is refused: the least broken rule of the first
-/// phase that has one, or `Memory` where a growth was refused.
+/// The program that a source spells, or why it is refused: the least broken rule of the first phase that has one, or `Memory`
+/// where a growth was refused.
 #[tactic(auto, unfolding(meaning::specs::Answers::program_of))]
 pub fn program_in(alloc: Global, source: &[u8]) -> Result<Program, Refusal>
     ensures exact { Gives tree_of result (program_of source.now) }
-    ensures run { IfOk result IsRun }
+    ensures labelled { IfOk result IsLabelled }
 {
     let found = statements(alloc, source)?;
     let members = members_in(alloc, &found)?;
-    let unrun = unrun_statement(&members);
     let unit = tree(alloc, members)?;
-    match unrun {
-        None => check(alloc, unit),
-        Some(Broken { line, rule }) => {
-            drop(unit);
-            Err(Refusal::Rule { rule, line })
-        }
-    }
+    check(alloc, unit)
 }

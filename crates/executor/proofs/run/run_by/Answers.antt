@@ -1,6 +1,6 @@
 use Rattle.checker.specs.Checked.{tree_of}
 use Rattle.executor.proofs.Promised.{keeps_refused, keeps_spelled}
-use Rattle.executor.proofs.run.run.Goals as goal
+use Rattle.executor.proofs.run.run_by.Goals as goal
 
 pub returns-in-Err-Rule-clause-promise : goal.returns-in-Err-Rule-clause-promise
 returns-in-Err-Rule-clause-promise g c =
