@@ -5,4 +5,4 @@ pub mod Listed
 pub mod Promised
 pub mod Known
 pub mod Nested
-pub mod Stopping
+pub mod Located

@@ -2,4 +2,4 @@ pub mod Puts
 pub mod Walk
 pub mod Recorded
 pub mod Labelled
-pub mod Stopping
+pub mod Located

@@ -6,7 +6,7 @@ ghost use Rattle.meaning.specs.Formats.{undoubled};
 ghost use Rattle.meaning.specs.Syntax.{shape_tree, stop_tree};
 ghost use Rattle.meaning.specs.Trees.{none, flat, flat_arms, item_tree, arms_tree, member_before, members_tree};
 ghost use Rattle.checker.specs.Checked.{items_in};
-ghost use Rattle.executor.specs.Stopping.{item_at};
+ghost use Rattle.executor.specs.Located.{item_at};
 
 use checker::Program;
 use meaning::ending::StopMessage;

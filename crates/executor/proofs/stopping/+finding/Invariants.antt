@@ -1,6 +1,6 @@
 use Rattle.std.proofs.Common.{◌≡◌, drop}
 use Rattle.meaning.specs.Trees.{arms_tree, flat, flat_arms, members_tree}
-use Rattle.executor.specs.Stopping.{item_at}
+use Rattle.executor.specs.Located.{item_at}
 use Rattle.executor.proofs.stopping.+finding.Given as goal
 
 abbrev pub invariant-find_in_list-loop-member : goal.invariant-find_in_list-loop-member

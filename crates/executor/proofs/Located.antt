@@ -10,7 +10,7 @@ use Rattle.meaning.specs.Answers.{message_of, message_at}
 use Rattle.meaning.specs.Syntax.{ItemTree}
 use Rattle.meaning.specs.Trees.{Members, none, flat, flat_arms, item_tree, member_before, members_tree, arms_tree, row_members, row_arms}
 use Rattle.meaning.proofs.Ranges.{range_is, left_more, left_arms, member_before-block}
-use Rattle.executor.specs.Stopping.{item_at}
+use Rattle.executor.specs.Located.{item_at}
 
 -- the first of two
 abbrev or_then : Option ItemTree → Option ItemTree → Option ItemTree
