@@ -270,11 +270,11 @@ a_target s (Some own) h e = subst IsTarget (eqb-true own s e) h
 -- one of statements has the label
 found_target : (s : ℕ) (xs : List ItemTree) → AreLabelled xs → (count_by (has_label s) xs == 0) ≡ false → IsTarget s
 found_target s [] h e = absurd (true≢false e)
-found_target s (x ∷ xs) h e = by (has_label s x) refl
+found_target s (x ∷ xs) h e = by (has_label s x) refl (found_target s xs h.1)
   where
-    by : (b : Bool) → has_label s x ≡ b → IsTarget s
-    by true is = a_target s x.label h.0 is
-    by false is = found_target s xs h.1 (subst (λ b. ((if b then suc (count_by (has_label s) xs) else count_by (has_label s) xs) == 0) ≡ false) is e)
+    by : (b : Bool) → has_label s x ≡ b → ((count_by (has_label s) xs == 0) ≡ false → IsTarget s) → IsTarget s
+    by true is rest = a_target s x.label h.0 is
+    by false is rest = rest (subst (λ b. ((if b then suc (count_by (has_label s) xs) else count_by (has_label s) xs) == 0) ≡ false) is e)
 
 reached : (s : ℕ) (all reach : List ItemTree) → AreLabelled all → is_out_of_reach all reach s ≡ false → IsTarget s
 reached s all reach h e =

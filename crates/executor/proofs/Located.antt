@@ -20,11 +20,11 @@ or_then (Some x) o = Some x
 item_at-append : (line : ℕ) (xs ys : List ItemTree) → item_at line (xs ++ ys) ≡ or_then (item_at line xs) (item_at line ys)
 unfolding item_at
 item_at-append line [] ys = refl
-item_at-append line (x ∷ xs) ys = by (x.line == line)
+item_at-append line (x ∷ xs) ys = by (x.line == line) (item_at-append line xs ys)
   where
-    by : (b : Bool) → (if b then Some x else item_at line (xs ++ ys)) ≡ or_then (if b then Some x else item_at line xs) (item_at line ys)
-    by true = refl
-    by false = item_at-append line xs ys
+    by : (b : Bool) → item_at line (xs ++ ys) ≡ or_then (item_at line xs) (item_at line ys) → (if b then Some x else item_at line (xs ++ ys)) ≡ or_then (if b then Some x else item_at line xs) (item_at line ys)
+    by true rest = refl
+    by false rest = rest
 
 -- found in the first, or not there
 pub found_front : (line : ℕ) (xs ys : List ItemTree) (x : ItemTree) → Some x ≡ item_at line xs → item_at line (xs ++ ys) ≡ Some x
@@ -63,8 +63,22 @@ told_at (Some x) = message_of x.shape
 pub message_told : (line : ℕ) (xs : List ItemTree) → message_at xs line ≡ told_at (item_at line xs)
 unfolding item_at message_at
 message_told line [] = refl
-message_told line (x ∷ xs) = by (x.line == line)
+message_told line (x ∷ xs) = by (x.line == line) (message_told line xs)
   where
-    by : (b : Bool) → (if b then message_of x.shape else message_at xs line) ≡ told_at (if b then Some x else item_at line xs)
-    by true = refl
-    by false = message_told line xs
+    by : (b : Bool) → message_at xs line ≡ told_at (item_at line xs) → (if b then message_of x.shape else message_at xs line) ≡ told_at (if b then Some x else item_at line xs)
+    by true rest = refl
+    by false rest = rest
+
+-- ---- one statement
+
+pub at_one : (line : ℕ) (x : ItemTree) → (x.line == line) ≡ true → Some x ≡ item_at line (x ∷ [])
+unfolding item_at
+at_one line x h = ap (λ b. if b then Some x else None) (sym h)
+
+pub not_at_one : (line : ℕ) (x : ItemTree) → (x.line == line) ≡ false → None ≡ item_at line (x ∷ [])
+unfolding item_at
+not_at_one line x h = ap (λ b. if b then Some x else None) (sym h)
+
+pub at_none : (line : ℕ) → item_at line [] ≡ None
+unfolding item_at
+at_none line = refl

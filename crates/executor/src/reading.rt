@@ -18,6 +18,17 @@ use parser::form;
 use source_columns::statements;
 use std::alloc::Global;
 
+// The label of a statement.
+fn label_of(statement: &Statement) -> Option<u32>
+    ensures same { result ≡ statement.now.label }
+    ensures labelled { IsLabel result }
+{
+    match statement.label {
+        Some(label) => Some(label),
+        None => None,
+    }
+}
+
 // What one statement says, in its place.
 fn member_in(alloc: Global, statement: &Statement) -> Result<Item, Refusal>
     ensures exact { Gives item_tree result (member_of (entry_of statement.now)) }
@@ -27,7 +38,7 @@ fn member_in(alloc: Global, statement: &Statement) -> Result<Item, Refusal>
     let form = form(alloc, &text)?;
     Ok(Item {
         line: statement.line,
-        label: statement.label,
+        label: label_of(statement),
         form,
     })
 }

@@ -1,6 +1,6 @@
 //! Single statements (ANSI X3.9-1978, 10.1, 11.5, 11.11 and 12.8).
 
-ghost use Rattle.std.specs.Prelude.{◌≡◌, Some, false, length, unwrap_or, IfOk};
+ghost use Rattle.std.specs.Prelude.{◌≡◌, Some, false, not, length, unwrap_or, IfOk, IsTrue};
 ghost use Rattle.meaning.specs.Syntax.{ShapeTree, expr_tree, format_tree, list_items_tree, logical_if, shape_tree};
 ghost use Rattle.meaning.specs.Trees.{item_tree};
 ghost use Rattle.meaning.specs.Execution.{parts_for, step};
@@ -12,7 +12,7 @@ ghost use Rattle.checker.specs.Checked.{items_in, count_in};
 ghost use Rattle.checker.specs.Starts.{map_of};
 ghost use Rattle.values.specs.Programs.{scope_in};
 ghost use Rattle.evaluator.specs.Known.{IsCounted, IsKnown};
-ghost use Rattle.evaluator.specs.Quiet.{output_in};
+ghost use Rattle.evaluator.specs.Quiet.{is_logical_if, output_in};
 ghost use Rattle.evaluator.specs.Statements.{Spends};
 ghost use Rattle.executor.specs.Walk.{StepsIn, output_as};
 ghost use Rattle.executor.specs.Recorded.{AreEdited, AreRecorded, recorded};
@@ -25,7 +25,7 @@ use evaluator::{item_whole, list_whole, logical_if_of, output_of, take_turn};
 use expressions::as_logical;
 use format_edit::{EditFault, Format, FormatFault, edit};
 use meaning::ending::{Fault, FaultKind, Outcome, Value};
-use meaning::syntax::{Expr, FormatSource, Item, ListItems};
+use meaning::syntax::{Expr, FormatSource, Item, ListItems, Shape};
 use std::alloc::{AllocError, Global};
 use values::value;
 
@@ -205,6 +205,63 @@ fn execute_if<S: Sink>(
     }
 }
 
+// Executes a logical IF.
+fn execute_under<S: Sink>(
+    alloc: Global,
+    program: &Program,
+    item: &Item,
+    condition: &Expr,
+    statement: &Shape,
+    cells: &mut Whole,
+    turns: &mut u64,
+    sink: &mut S,
+) -> Result<Outcome, Halt>
+    requires logical { shape_tree item.now.form.shape ≡
+        logical_if (expr_tree condition.now) (shape_tree statement.now) }
+    requires known { IsKnown program.now (item_tree item.now) }
+    requires sized { length cells.old ≡ count_in program.now }
+    requires unrefused { (S.told sink.old).refused ≡ false }
+    ensures steps { StepsIn program.now cells.old cells.new
+        (step (items_in program.now) (shape_tree item.now.form.shape) item.now.line)
+        turns.old turns.new result (S.told sink.old) (S.told sink.new) }
+    ensures spends { IfOk result (λ o. Spends o turns.old turns.new) }
+    ensures len { length cells.new ≡ length cells.old }
+{
+    match output_of(statement) {
+        Some((source, list)) => execute_if(
+            alloc, program, item.line, condition, source, list, cells, turns, sink,
+        ),
+        None => Ok(item_whole(program, item, cells, turns)),
+    }
+}
+
+// Executes a statement that is no logical IF.
+fn execute_alone<S: Sink>(
+    alloc: Global,
+    program: &Program,
+    item: &Item,
+    cells: &mut Whole,
+    turns: &mut u64,
+    sink: &mut S,
+) -> Result<Outcome, Halt>
+    requires alone { IsTrue (not (is_logical_if (shape_tree item.now.form.shape))) }
+    requires known { IsKnown program.now (item_tree item.now) }
+    requires sized { length cells.old ≡ count_in program.now }
+    requires unrefused { (S.told sink.old).refused ≡ false }
+    ensures steps { StepsIn program.now cells.old cells.new
+        (step (items_in program.now) (shape_tree item.now.form.shape) item.now.line)
+        turns.old turns.new result (S.told sink.old) (S.told sink.new) }
+    ensures spends { IfOk result (λ o. Spends o turns.old turns.new) }
+    ensures len { length cells.new ≡ length cells.old }
+{
+    match output_of(&item.form.shape) {
+        Some((source, list)) => execute_output(
+            alloc, program, item.line, source, list, cells, turns, sink,
+        ),
+        None => Ok(item_whole(program, item, cells, turns)),
+    }
+}
+
 /// Executes one statement that stands by itself, or passes over one that isn't executable. Answers how it ended.
 pub fn execute_item<S: Sink>(
     alloc: Global,
@@ -223,19 +280,10 @@ pub fn execute_item<S: Sink>(
     ensures spends { IfOk result (λ o. Spends o turns.old turns.new) }
     ensures len { length cells.new ≡ length cells.old }
 {
-    let line = item.line;
     match logical_if_of(&item.form.shape) {
-        Some((condition, statement)) => match output_of(statement) {
-            Some((source, list)) => execute_if(
-                alloc, program, line, condition, source, list, cells, turns, sink,
-            ),
-            None => Ok(item_whole(program, item, cells, turns)),
-        },
-        None => match output_of(&item.form.shape) {
-            Some((source, list)) => execute_output(
-                alloc, program, line, source, list, cells, turns, sink,
-            ),
-            None => Ok(item_whole(program, item, cells, turns)),
-        },
+        Some((condition, statement)) => execute_under(
+            alloc, program, item, condition, statement, cells, turns, sink,
+        ),
+        None => execute_alone(alloc, program, item, cells, turns, sink),
     }
 }

@@ -32,16 +32,15 @@ use Rattle.meaning.proofs.syntax.Member.TheLaws.{the_size}
 use Rattle.meaning.proofs.syntax.Arm.TheLaws.{the_size as arm_size}
 use Rattle.meaning.specs.declared.syntax.Member.TheViews.{sized-Loop, sized-Block, size_is-Arm, size_is-Block, weight-Arm-body, weight-Block-arms}
 use Rattle.executor.specs.Walk.{Runs, Steps, Halts}
-use Rattle.executor.proofs.Composed.{so_far_none, steps_same, steps_quietly, member_goes, member_jumps, member_leaves, member_ends, member_halts, last_member, last_trip, range_halts, range_ends, trip_goes, sum_faults, do_runs, arm_steps}
+use Rattle.executor.proofs.Composed.{front_none, so_far_none, steps_same, steps_quietly, member_goes, member_jumps, member_leaves, member_ends, member_halts, last_member, last_trip, range_halts, range_ends, trip_goes, sum_faults, do_runs, arm_steps}
 use Rattle.executor.proofs.walk.+members.Goals as goal
 
 pub walk_arms-loop-arm-init : goal.walk_arms-loop-arm-init
 walk_arms-loop-arm-init g t c =
     record { so_far = comes_none _ c.args.turns.now; sized = c.requires.sized; len = refl; same = refl; fewer = omega arith; taken = λ e. absurd (false≢true (sym e)) }
 
-pub walk_arms-test_whole-requires-clause-sized : goal.walk_arms-test_whole-requires-clause-sized
-walk_arms-test_whole-requires-clause-sized g t c =
-    c.loop-arm.invariant.sized
+pub walk_arms-test_whole-requires : goal.walk_arms-test_whole-requires
+walk_arms-test_whole-requires g t c = record { sized = c.loop-arm.invariant.sized }
 
 pub walk_arms-walk_list-requires : goal.walk_arms-walk_list-requires
 walk_arms-walk_list-requires g t c =
@@ -559,6 +558,11 @@ walk_loop-returns-then-is_quiet_list-clause-steps g t c =
     let told = g.S.Sink.told in
     let y = c.run_loop in
     steps_quietly _ c.args.turns.now (map_of p y.new.cells) y.new.turns c.in_ok-outcome.outcome (told c.args.sink.now) c.in_ok-outcome.ensures.moves
+
+pub walk_loop-returns-in_err-outcome-clause-steps : goal.walk_loop-returns-in_err-outcome-clause-steps
+walk_loop-returns-in_err-outcome-clause-steps g t c =
+    let q = err_from_is_err_and c.from_residual.result c.from_residual.ensures.1 in
+    rw (q.1, q.2) (λ go. front_none _ (g.S.Sink.told c.args.sink.now))
 
 pub walk_loop-walk_do-requires : goal.walk_loop-walk_do-requires
 walk_loop-walk_do-requires g t c =
