@@ -1,6 +1,6 @@
 -- In a program unit that breaks no rule, what assignments, DO statements and implied DOs set has a cell, and transfers go to labels
 -- that statements can have.
-use Rattle.std.proofs.Common.{◌≡◌, ℕ, ℤ, suc, zero, Bool, true, false, ◌||◌, ◌&&◌, not, List, [], ◌∷◌, ◌++◌, length, map, Option, Some, None, Ok, refl, sym, ap, subst, ◌∙◌}
+use Rattle.std.proofs.Common.{◌≡◌, ◌+◌, arith, ℕ, ℤ, suc, zero, Bool, true, false, ◌||◌, ◌&&◌, not, List, [], ◌∷◌, ◌++◌, length, map, Option, Some, None, Ok, refl, sym, ap, subst, ◌∙◌}
 use mathlib.Core.Path.{fun_ext}
 use Rattle.std.specs.Prelude.{◌==◌, count_by, if◌then◌else◌, is_some, is_none}
 use Rattle.std.specs.List.{AllByRecursion, filter, list_any}
@@ -8,6 +8,7 @@ use Rattle.std.specs.Str.{bytes_eq}
 use Rattle.std.proofs.lemmas.Bool.{true≢false, eqb-true}
 use Rattle.std.proofs.lemmas.Option.{same_Some}
 use Rattle.std.proofs.lemmas.List.{map-append}
+use Rattle.std.proofs.lemmas.List.Sums.{sum_by-cons}
 use Rattle.std.proofs.lemmas.List.Folds.{list_any-append}
 use Rattle.std.proofs.lemmas.Map.Views.{any-filter_same}
 use Rattle.std.proofs.lemmas.Slice.Eq.{bytes_eq-Decides}
@@ -267,6 +268,9 @@ a_target : (s : ℕ) (o : Option ℕ) → IsLabel o → is_label_at o s ≡ true
 a_target s None h e = absurd (true≢false (sym e))
 a_target s (Some own) h e = subst IsTarget (eqb-true own s e) h
 
+nothing_more : (n : ℕ) → (if false then 1 else 0) + n ≡ n
+nothing_more n = omega arith
+
 -- one of statements has the label
 found_target : (s : ℕ) (xs : List ItemTree) → AreLabelled xs → (count_by (has_label s) xs == 0) ≡ false → IsTarget s
 found_target s [] h e = absurd (true≢false e)
@@ -274,7 +278,8 @@ found_target s (x ∷ xs) h e = by (has_label s x) refl (found_target s xs h.1)
   where
     by : (b : Bool) → has_label s x ≡ b → ((count_by (has_label s) xs == 0) ≡ false → IsTarget s) → IsTarget s
     by true is rest = a_target s x.label h.0 is
-    by false is rest = rest (subst (λ b. ((if b then suc (count_by (has_label s) xs) else count_by (has_label s) xs) == 0) ≡ false) is e)
+    by false is rest =
+        rest (subst (λ n. (n == 0) ≡ false) (sum_by-cons (λ y. if has_label s y then 1 else 0) x xs ∙ ap (λ b. (if b then 1 else 0) + count_by (has_label s) xs) is ∙ nothing_more (count_by (has_label s) xs)) e)
 
 reached : (s : ℕ) (all reach : List ItemTree) → AreLabelled all → is_out_of_reach all reach s ≡ false → IsTarget s
 reached s all reach h e =

@@ -6,6 +6,7 @@ ghost use Rattle.meaning.specs.Statements.{entry_of};
 ghost use Rattle.meaning.specs.Trees.{item_tree};
 ghost use Rattle.meaning.specs.Answers.{member_of, members_of, program_of};
 ghost use Rattle.checker.specs.Checked.{tree_of};
+ghost use Rattle.evaluator.specs.Known.{IsTarget};
 ghost use Rattle.executor.specs.Labelled.{AreLabelled, IsLabel, IsLabelled};
 
 use checker::{Program, check};
@@ -18,13 +19,21 @@ use parser::form;
 use source_columns::statements;
 use std::alloc::Global;
 
+// A label, as any number of its type a statement can have.
+fn labelled(label: u32) -> u32
+    ensures same { result ≡ label }
+    ensures fits { IsTarget result }
+{
+    label
+}
+
 // The label of a statement.
 fn label_of(statement: &Statement) -> Option<u32>
     ensures same { result ≡ statement.now.label }
     ensures labelled { IsLabel result }
 {
     match statement.label {
-        Some(label) => Some(label),
+        Some(label) => Some(labelled(label)),
         None => None,
     }
 }
