@@ -17,11 +17,7 @@ use std::alloc::{AllocError, Global};
 fn if_at(item: &Item, line: u32) -> Option<&Item>
     ensures { option_map (λ x. item_tree x.now) result ≡ item_at line (item_tree item.now ∷ []) }
 {
-    if item.line == line {
-        Some(item)
-    } else {
-        None
-    }
+    if item.line == line { Some(item) } else { None }
 }
 
 // The first statement of arms that begins at the line.
