@@ -1,22 +1,29 @@
 -- What is done between two states of a store, whatever values it stands on.
-use Rattle.std.specs.Prelude.{◌≡◌, ℕ, ℤ, List, [], Option, Result}
+use Rattle.std.specs.Prelude.{◌≡◌, ℕ, ℤ, pos, ◌+ℤ◌, ◌*ℤ◌, Bool, true, List, [], map, Result}
+use Rattle.std.specs.Global.{Vec}
+use Rattle.std.specs.List.{range_with_len}
 use Rattle.meaning.specs.declared.ending.Fault.{Fault}
 use Rattle.meaning.specs.declared.ending.FaultKind.{FaultKind}
+use Rattle.meaning.specs.declared.ending.Outcome.{Outcome}
+use Rattle.meaning.specs.declared.ending.Run.{Run}
+use Rattle.meaning.specs.declared.ending.Value.{Value}
 use Rattle.meaning.specs.declared.syntax.Loop.{Loop, out-Loop}
 use Rattle.meaning.specs.declared.syntax.Tree.{Tree}
-use Rattle.meaning.specs.Execution.{Ran, Follow, exec, fold_trips, looped}
+use Rattle.meaning.specs.Execution.{Ran, Ways, exec, fold_trips, looped, arms_from, tested}
+use Rattle.meaning.specs.Lists.{listed, list_limit}
 use Rattle.meaning.specs.Maps.{Map, put}
 use Rattle.meaning.specs.Scopes.{scope_of}
 use Rattle.meaning.specs.Stores.{Cells, World, Does}
-use Rattle.meaning.specs.Syntax.{ExprTree, ExprsTree, ItemTree, LimitsTree, ShapeTree}
-use Rattle.meaning.specs.Trees.{Members, members_tree}
-use Rattle.meaning.specs.Trips.{span_of, trips}
-use Rattle.checker.specs.Checked.{items_in}
+use Rattle.meaning.specs.Syntax.{ExprTree, ExprsTree, ItemTree, LimitsTree, ListItemsTree, ShapeTree, shape_tree}
+use Rattle.meaning.specs.Trees.{Members, Arms, members_tree}
+use Rattle.meaning.specs.Trips.{span_of}
 use Rattle.checker.specs.Starts.{map_of}
 use Rattle.values.specs.Programs.{map_at, scope_in}
 use Rattle.evaluator.specs.declared.limits.Span.{Span}
 use Rattle.evaluator.specs.Limited.{SpanIs}
-use Rattle.evaluator.specs.Statements.{Adds, Assigns, Leaves, Moves}
+use Rattle.evaluator.specs.Listing.{ListIs}
+use Rattle.evaluator.specs.Quiet.{variable_of}
+use Rattle.evaluator.specs.Statements.{Adds, Assigns, Leaves, Moves, Tests, ran_by}
 
 -- ---- the parts of a statement
 
@@ -27,44 +34,78 @@ SetsOver t u v n x = Does u v (λ m k. map_at t k ≡ put (map_at t m) n [] x)
 abbrev pub AssignsOver : Tree → World → World → List ℕ → ExprsTree → ExprTree → Result (Unit {0}) FaultKind → Type 0
 AssignsOver t u v n es e r = Does u v (λ m k. Assigns (scope_in t) n es e (map_at t m) (map_at t k) r)
 
--- told at whatever line
 abbrev pub AddsOver : Tree → World → World → List ℕ → ℤ → Result (Unit {0}) FaultKind → Type 0
-AddsOver t u v n by r = Does u v (λ m k. (line : ℕ) → Adds line n by (map_at t m) (map_at t k) r)
+AddsOver t u v n by r = Does u v (λ m k. Adds n by (map_at t m) (map_at t k) r)
 
 -- the values of limits, or their fault
 abbrev pub IsSpanAt : Tree → LimitsTree → Result Span FaultKind → Cells → Type 0
 IsSpanAt t l r m = SpanIs r (span_of (scope_in t) l (map_at t m))
 
--- ---- DO statements and their ranges
+-- the values of a list, and the map behind them, or their fault
+abbrev pub ListsOver : Tree → World → World → ListItemsTree → Result (Vec Value) FaultKind → Type 0
+ListsOver t u v list r = Does u v (λ m k. ListIs r (map_at t k) (listed (scope_in t) list (map_at t m) list_limit))
+
+-- ---- DO statements, block IFs and lists
 
 -- a DO statement with its range
-abbrev pub loop_as : List ItemTree → ShapeTree → Loop → Map → ℕ → Follow → Ran
+abbrev pub loop_as : List ItemTree → ShapeTree → Loop → Map → ℕ → Ways → Ran
 loop_as all s l m t go = looped (scope_of all) (exec all) s (out-Loop l).head.line (members_tree (out-Loop l).range.items) m t go
 
--- its range, once for each trip
-abbrev pub trips_as : List ItemTree → Loop → List ℕ → Span → Map → ℕ → Ran
-trips_as all l variable s m t =
-    fold_trips (exec all) (out-Loop l).head.line variable s.step (members_tree (out-Loop l).range.items) (trips s.first s.last s.step) m t
+-- the values of a DO variable from the first one on, so many
+abbrev pub values_by : ℤ → ℤ → ℕ → List ℤ
+values_by first step count = map (λ k. first +ℤ pos k *ℤ step) (range_with_len 0 count)
+
+-- its range, executed so often
+abbrev pub trips_as : List ItemTree → Loop → List ℕ → ℤ → ℤ → ℕ → Map → ℕ → Ran
+trips_as all l variable first step count m t =
+    fold_trips (exec all) (out-Loop l).head.line variable step (members_tree (out-Loop l).range.items) (values_by first step count) m t
+
+-- the same, when its variable has its first value
+abbrev pub repeated_as : List ItemTree → Loop → ℤ → ℤ → ℕ → Map → ℕ → Ran
+repeated_as all l first step count m t =
+    let variable = variable_of (shape_tree (out-Loop l).head.form.shape) in
+    trips_as all l variable first step count (put m variable [] first) t
+
+-- the arms of a block IF
+abbrev pub arms_as : List ItemTree → Arms → Map → ℕ → Ways → Ran
+arms_as all arms m t go = arms_from (scope_of all) (exec all) true arms m t go
+
+-- a list by itself
+abbrev pub list_as : List ItemTree → Members → Map → ℕ → Ran
+list_as all ms m t = exec all ms ms m t
 
 -- ---- what writes nothing, from turns that are given
 
 -- a statement, before whatever follows it
-abbrev pub MovesOver : Tree → World → World → (Map → ℕ → Follow → Ran) → ℕ → ℕ → Option Fault → Type 0
-MovesOver t u v does given left o = Does u v (λ m n. Moves (λ go. does (map_at t m) given go) given (map_at t n) left o)
+abbrev pub MovesAt : Tree → (Map → ℕ → Ways → Ran) → ℕ → ℕ → Outcome → Cells → Cells → Type 0
+MovesAt t does given left o m n = Moves (λ go. does (map_at t m) given go) given (map_at t n) left o
+
+abbrev pub MovesOver : Tree → World → World → (Map → ℕ → Ways → Ran) → ℕ → ℕ → Outcome → Type 0
+MovesOver t u v does given left o = Does u v (MovesAt t does given left o)
+
+-- one that changes no value
+abbrev pub StaysAt : Tree → (Map → ℕ → Ways → Ran) → ℕ → ℕ → Outcome → Cells → Type 0
+StaysAt t does given left o m = MovesAt t does given left o m m
 
 -- a run by itself
-abbrev pub LeavesOver : Tree → World → World → (Map → ℕ → Ran) → ℕ → ℕ → Option Fault → Type 0
-LeavesOver t u v does given left o = Does u v (λ m n. Leaves (does (map_at t m) given) given (map_at t n) left o)
+abbrev pub LeavesAt : Tree → (Map → ℕ → Ran) → ℕ → ℕ → Outcome → Cells → Cells → Type 0
+LeavesAt t does given left o m n = Leaves (does (map_at t m) given) given (map_at t n) left o
 
--- a list of statements, wherever it stands
-abbrev pub ListOver : Tree → World → World → Members → ℕ → ℕ → Option Fault → Type 0
-ListOver t u v ms given left o =
-    Does u v (λ m n. (all : Members) → Leaves (exec (items_in t) all ms (map_at t m) given) given (map_at t n) left o)
+abbrev pub LeavesOver : Tree → World → World → (Map → ℕ → Ran) → ℕ → ℕ → Outcome → Type 0
+LeavesOver t u v does given left o = Does u v (LeavesAt t does given left o)
+
+-- the same with the turns that it used
+abbrev pub RunsOver : Tree → World → World → (Map → ℕ → Ran) → ℕ → Run → Type 0
+RunsOver t u v does given r = Does u v (λ m n. does (map_at t m) given ≡ ran_by r (map_at t n))
+
+-- the test of an arm
+abbrev pub TestsAt : Tree → Bool → ItemTree → ℕ → ℕ → Result Bool Fault → Cells → Type 0
+TestsAt t first x given left r m = Tests (λ go. tested (scope_in t) first x (map_at t m) given go) given (map_at t m) left r
 
 -- ---- the same over the values of a whole store
 
-abbrev pub MovesIn : Tree → List ℤ → List ℤ → (Map → ℕ → Follow → Ran) → ℕ → ℕ → Option Fault → Type 0
+abbrev pub MovesIn : Tree → List ℤ → List ℤ → (Map → ℕ → Ways → Ran) → ℕ → ℕ → Outcome → Type 0
 MovesIn t old new does given left o = Moves (λ go. does (map_of t old) given go) given (map_of t new) left o
 
-abbrev pub LeavesIn : Tree → List ℤ → List ℤ → (Map → ℕ → Ran) → ℕ → ℕ → Option Fault → Type 0
-LeavesIn t old new does given left o = Leaves (does (map_of t old) given) given (map_of t new) left o
+abbrev pub TestsIn : Tree → List ℤ → Bool → ItemTree → ℕ → ℕ → Result Bool Fault → Type 0
+TestsIn t values first x given left r = Tests (λ go. tested (scope_in t) first x (map_of t values) given go) given (map_of t values) left r

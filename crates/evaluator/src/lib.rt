@@ -1,14 +1,22 @@
-//! Statements without output, executed over any store, and over a whole store (ANSI X3.9-1978, 10.1, 11.10 and 11.11).
+//! Statements without output, executed over any store, and over a whole store (ANSI X3.9-1978, 10.1, chapter 11 and 12.8.2).
 #![tactic(auto)]
 
 mod assignment;
+mod control;
 mod limits;
+mod listing;
+mod places;
 mod quiet;
 mod shapes;
 mod whole;
 
 pub use assignment::{add_to, assign, set_variable, target_of};
+pub use control::{run_item, take_turn, test_arm};
 pub use limits::{Span, count_of, values_of_limits};
-pub use quiet::{run_item, run_list, run_trips, take_turn};
-pub use shapes::{do_of, is_quiet_list, output_of};
-pub use whole::{add_whole, item_whole, limits_whole, set_whole, trips_whole, values_whole};
+pub use listing::list_values;
+pub use places::place_of;
+pub use quiet::{run_list, run_loop, run_trips};
+pub use shapes::{condition_of, do_of, is_quiet_list, logical_if_of, output_of, statement_of};
+pub use whole::{
+    add_whole, item_whole, limits_whole, list_whole, loop_whole, set_whole, test_whole,
+};

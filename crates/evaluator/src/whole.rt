@@ -1,6 +1,6 @@
 //! What is proved over any store, over a whole store, which refuses no write.
 
-ghost use Rattle.std.specs.Prelude.{◌≡◌, ◌≢◌, ℕ, [], false, IsTrue, length, not, pos, IfOk};
+ghost use Rattle.std.specs.Prelude.{◌≡◌, ◌<◌, ◌≤◌, [], IsTrue, length, not, IfOk};
 ghost use Rattle.meaning.specs.declared.syntax.Loop.{out-Loop};
 ghost use Rattle.meaning.specs.Execution.{step};
 ghost use Rattle.meaning.specs.Lists.{listed, list_limit};
@@ -8,26 +8,26 @@ ghost use Rattle.meaning.specs.Maps.{put};
 ghost use Rattle.meaning.specs.Syntax.{limits_tree, list_items_tree, shape_tree};
 ghost use Rattle.meaning.specs.Trees.{flat, item_tree, members_tree};
 ghost use Rattle.meaning.specs.Trips.{span_of};
-ghost use Rattle.meaning.specs.Unrun.{has_loop};
-ghost use Rattle.expressions.specs.Listed.{Listed};
 ghost use Rattle.checker.specs.Checked.{items_in, count_in};
 ghost use Rattle.checker.specs.Starts.{map_of};
 ghost use Rattle.values.specs.Programs.{scope_in};
-ghost use Rattle.evaluator.specs.Known.{HasCellsIn, IsKnown, AreKnown};
+ghost use Rattle.evaluator.specs.Known.{HasCellsIn, IsCounted, IsKnown, AreKnown};
 ghost use Rattle.evaluator.specs.Limited.{SpanIs};
-ghost use Rattle.evaluator.specs.Over.{MovesIn, LeavesIn, trips_as};
+ghost use Rattle.evaluator.specs.Listing.{ListIs};
+ghost use Rattle.evaluator.specs.Over.{MovesIn, TestsIn, loop_as};
 ghost use Rattle.evaluator.specs.Quiet.{WritesNothing, is_writing};
-ghost use Rattle.evaluator.specs.Statements.{Adds};
+ghost use Rattle.evaluator.specs.Statements.{Adds, Spends};
 
 use crate::assignment::{add_to, set_variable};
+use crate::control::{run_item, test_arm};
 use crate::limits::{Span, values_of_limits};
-use crate::quiet::{run_item, run_trips};
+use crate::listing::list_values;
+use crate::quiet::run_loop;
 use array_store::Whole;
 use checker::Program;
-use meaning::ending::{Fault, FaultKind, Value};
+use meaning::ending::{Fault, FaultKind, Outcome, Value};
 use meaning::syntax::{Item, Limits, ListItems, Loop};
 use std::alloc::{AllocError, Global};
-use values::values;
 
 /// Gives a variable a value.
 pub fn set_whole(program: &Program, name: &[u8], x: i32, cells: &mut Whole)
@@ -43,53 +43,63 @@ pub fn set_whole(program: &Program, name: &[u8], x: i32, cells: &mut Whole)
     }
 }
 
-/// Executes one statement that stands by itself and is no WRITE statement, or passes over one that isn't executable.
-pub fn item_whole(
-    program: &Program,
-    item: &Item,
-    cells: &mut Whole,
-    turns: &mut u64,
-) -> Option<Fault>
+/// Executes one statement that stands by itself and writes nothing, or passes over one that isn't executable.
+pub fn item_whole(program: &Program, item: &Item, cells: &mut Whole, turns: &mut u64) -> Outcome
     requires known { IsKnown program.now (item_tree item.now) }
     requires quiet { IsTrue (not (is_writing (shape_tree item.now.form.shape))) }
     requires sized { length cells.old ≡ count_in program.now }
     ensures moves { MovesIn program.now cells.old cells.new
         (step (items_in program.now) (shape_tree item.now.form.shape) item.now.line)
         turns.old turns.new result }
+    ensures spends { Spends result turns.old turns.new }
     ensures len { length cells.new ≡ length cells.old }
 {
     match run_item(program, item, cells, turns) {
         Ok(outcome) => outcome,
         // A whole store refuses no write.
-        Err(_) => None,
+        Err(_) => Outcome::Normal,
     }
 }
 
-/// Executes a range without output once for each trip of its DO statement, whose variable has its first value.
-pub fn trips_whole(
-    program: &Program,
-    repeated: &Loop,
-    variable: &[u8],
-    span: Span,
-    cells: &mut Whole,
-    turns: &mut u64,
-) -> Option<Fault>
+/// Executes a DO statement with its range, which writes nothing; what is no DO statement is passed over.
+pub fn loop_whole(program: &Program, repeated: &Loop, cells: &mut Whole, turns: &mut u64) -> Outcome
     requires named { AreKnown program.now
         (flat (members_tree (out-Loop repeated.now).range.items)) }
     requires quiet { WritesNothing (members_tree (out-Loop repeated.now).range.items) }
-    requires held { HasCellsIn program.now variable.now 0 }
+    requires head { IsKnown program.now (item_tree (out-Loop repeated.now).head) }
     requires sized { length cells.old ≡ count_in program.now }
-    requires some { span.step ≢ pos 0 }
-    ensures leaves { LeavesIn program.now cells.old cells.new
-        (trips_as (items_in program.now) repeated.now variable.now span)
+    ensures moves { MovesIn program.now cells.old cells.new
+        (loop_as (items_in program.now) (shape_tree (out-Loop repeated.now).head.form.shape)
+        repeated.now)
         turns.old turns.new result }
+    ensures spends { Spends result turns.old turns.new }
     ensures len { length cells.new ≡ length cells.old }
 {
-    match run_trips(program, repeated, variable, span, cells, turns) {
+    match run_loop(program, repeated, cells, turns) {
         Ok(outcome) => outcome,
         // A whole store refuses no write.
-        Err(_) => None,
+        Err(_) => Outcome::Normal,
     }
+}
+
+/// Whether an arm of a block IF is executed, or the fault of its test. The block IF takes a turn, so its first arm does in any
+/// case; each ELSE IF that is tested takes another, and ELSE none. The cells keep their values.
+pub fn test_whole(
+    program: &Program,
+    first: bool,
+    head: &Item,
+    cells: &mut Whole,
+    turns: &mut u64,
+) -> Result<bool, Fault>
+    requires sized { length cells.old ≡ count_in program.now }
+    ensures tests { TestsIn program.now cells.old first (item_tree head.now)
+        turns.old turns.new result }
+    ensures spends { turns.new ≤ turns.old }
+    ensures first { IfOk result (λ _. IsTrue first → turns.new < turns.old) }
+    ensures kept { map_of program.now cells.new ≡ map_of program.now cells.old }
+    ensures len { length cells.new ≡ length cells.old }
+{
+    test_arm(program, first, head, cells, turns)
 }
 
 /// Adds to a variable. A sum outside INTEGER is F2, and the variable stays.
@@ -101,7 +111,7 @@ pub fn add_whole(
 ) -> Result<(), FaultKind>
     requires held { HasCellsIn program.now name.now 0 }
     requires sized { length cells.old ≡ count_in program.now }
-    ensures adds { (line : ℕ) → Adds line name.now by
+    ensures adds { Adds name.now by
         (map_of program.now cells.old) (map_of program.now cells.new) result }
     ensures len { length cells.new ≡ length cells.old }
 {
@@ -127,21 +137,20 @@ pub fn limits_whole(
     values_of_limits(program, limits, cells)
 }
 
-/// The values of a list without implied DOs, or the leftmost fault. The cells keep their values.
-pub fn values_whole(
+/// The values of an output list, first to last, or the leftmost fault, as `list_values` tells them. The `AllocError` comes where
+/// a growth was refused.
+pub fn list_whole(
     alloc: Global,
-    list: &ListItems,
     program: &Program,
+    list: &ListItems,
     cells: &mut Whole,
 ) -> Result<Result<Vec<Value>, FaultKind>, AllocError>
-    requires plain { has_loop (list_items_tree list.now) ≡ false }
+    requires counted { IsCounted program.now (list_items_tree list.now) }
     requires sized { length cells.old ≡ count_in program.now }
-    ensures values { IfOk result (λ r. Listed r (map_of program.now cells.old)
+    ensures values { IfOk result (λ r. ListIs r (map_of program.now cells.new)
         (listed (scope_in program.now) (list_items_tree list.now)
         (map_of program.now cells.old) list_limit)) }
-    ensures kept { IfOk result (λ _. map_of program.now cells.new ≡ map_of program.now cells.old) }
     ensures len { length cells.new ≡ length cells.old }
 {
-    let found = values(alloc, program, list, cells)?;
-    Ok(found)
+    list_values(alloc, program, list, cells)
 }

@@ -1,9 +1,8 @@
 pub mod Taken
 pub mod Composed
-pub mod Executed
-pub mod Repeated
+pub mod Written
 pub mod Listed
-pub mod Searched
 pub mod Promised
 pub mod Known
 pub mod Nested
+pub mod Located

@@ -1,4 +1,5 @@
 pub mod Puts
 pub mod Walk
 pub mod Recorded
-pub mod Run
+pub mod Labelled
+pub mod Located

@@ -1,12 +1,14 @@
 //! The run of a source: from its bytes to the records that it writes into a sink (ANSI X3.9-1978, chapters 10 to 12).
 #![tactic(auto)]
 
-mod execute;
 mod halt;
+mod quiet_loops;
 mod reading;
 pub mod run;
 mod sink;
 mod statement;
-mod unrun;
+mod stopping;
+mod walk;
 
+pub use quiet_loops::{InOrder, QuietLoops};
 pub use sink::{Out, Refused, Sink, put_all};

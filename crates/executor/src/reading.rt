@@ -6,9 +6,9 @@ ghost use Rattle.meaning.specs.Statements.{entry_of};
 ghost use Rattle.meaning.specs.Trees.{item_tree};
 ghost use Rattle.meaning.specs.Answers.{member_of, members_of, program_of};
 ghost use Rattle.checker.specs.Checked.{tree_of};
-ghost use Rattle.executor.specs.Run.{IsRun};
+ghost use Rattle.evaluator.specs.Known.{IsTarget};
+ghost use Rattle.executor.specs.Labelled.{AreLabelled, IsLabel, IsLabelled};
 
-use crate::unrun::unrun_statement;
 use checker::{Program, check};
 use lexer::bare;
 use meaning::refusal::{Broken, Refusal, lesser};
@@ -19,22 +19,43 @@ use parser::form;
 use source_columns::statements;
 use std::alloc::Global;
 
+// A label, as any number of its type a statement can have.
+fn labelled(label: u32) -> u32
+    ensures same { result ≡ label }
+    ensures fits { IsTarget result }
+{
+    label
+}
+
+// The label of a statement.
+fn label_of(statement: &Statement) -> Option<u32>
+    ensures same { result ≡ statement.now.label }
+    ensures labelled { IsLabel result }
+{
+    match statement.label {
+        Some(label) => Some(labelled(label)),
+        None => None,
+    }
+}
+
 // What one statement says, in its place.
 fn member_in(alloc: Global, statement: &Statement) -> Result<Item, Refusal>
-    ensures { Gives item_tree result (member_of (entry_of statement.now)) }
+    ensures exact { Gives item_tree result (member_of (entry_of statement.now)) }
+    ensures labelled { IfOk result (λ x. IsLabel x.label) }
 {
     let text = bare(alloc, statement)?;
     let form = form(alloc, &text)?;
     Ok(Item {
         line: statement.line,
-        label: statement.label,
+        label: label_of(statement),
         form,
     })
 }
 
 // What the statements say, or the least rule that one of them breaks.
 fn members_in(alloc: Global, found: &[Statement]) -> Result<Vec<Item>, Refusal>
-    ensures { Gives (λ v. map item_tree v.items) result (members_of (map entry_of found.now)) }
+    ensures exact { Gives (λ v. map item_tree v.items) result (members_of (map entry_of found.now)) }
+    ensures labelled { IfOk result (λ v. AreLabelled (map item_tree v.items)) }
 {
     let mut members = Vec::new(alloc);
     let mut broken = None;
@@ -66,22 +87,15 @@ fn members_in(alloc: Global, found: &[Statement]) -> Result<Vec<Item>, Refusal>
     }
 }
 
-/// The program that a source spells, all of whose statements are run, or why it is refused: the least broken rule of the first
-/// phase that has one, or `Memory` where a growth was refused.
+/// The program that a source spells, or why it is refused: the least broken rule of the first phase that has one, or `Memory`
+/// where a growth was refused.
 #[tactic(auto, unfolding(meaning::specs::Answers::program_of))]
 pub fn program_in(alloc: Global, source: &[u8]) -> Result<Program, Refusal>
     ensures exact { Gives tree_of result (program_of source.now) }
-    ensures run { IfOk result IsRun }
+    ensures labelled { IfOk result IsLabelled }
 {
     let found = statements(alloc, source)?;
     let members = members_in(alloc, &found)?;
-    let unrun = unrun_statement(&members);
     let unit = tree(alloc, members)?;
-    match unrun {
-        None => check(alloc, unit),
-        Some(Broken { line, rule }) => {
-            drop(unit);
-            Err(Refusal::Rule { rule, line })
-        }
-    }
+    check(alloc, unit)
 }

@@ -1,30 +1,35 @@
-//! Single statements (ANSI X3.9-1978, 10.1, 11.11 and 12.8).
+//! Single statements (ANSI X3.9-1978, 10.1, 11.5, 11.11 and 12.8).
 
-ghost use Rattle.std.specs.Prelude.{◌≡◌, false, length, unwrap_or, IfOk};
-ghost use Rattle.meaning.specs.Syntax.{format_tree, list_items_tree, shape_tree};
+ghost use Rattle.std.specs.Prelude.{◌≡◌, Some, false, not, length, unwrap_or, IfOk, IsTrue};
+ghost use Rattle.meaning.specs.Syntax.{ShapeTree, expr_tree, format_tree, list_items_tree, logical_if, shape_tree};
 ghost use Rattle.meaning.specs.Trees.{item_tree};
-ghost use Rattle.meaning.specs.Execution.{output, parts_for, step};
+ghost use Rattle.meaning.specs.Execution.{parts_for, step};
 ghost use Rattle.meaning.specs.Records.{edited};
 ghost use Rattle.meaning.specs.Formats.{format_in, no_parts, undoubled};
-ghost use Rattle.meaning.specs.Unrun.{has_loop};
+ghost use Rattle.meaning.specs.Values.{value as value_of};
 ghost use Rattle.format_edit.specs.Formatted.{descriptors};
 ghost use Rattle.checker.specs.Checked.{items_in, count_in};
 ghost use Rattle.checker.specs.Starts.{map_of};
-ghost use Rattle.evaluator.specs.Known.{IsKnown};
-ghost use Rattle.executor.specs.Walk.{StepsIn};
+ghost use Rattle.values.specs.Programs.{scope_in};
+ghost use Rattle.evaluator.specs.Known.{IsCounted, IsKnown};
+ghost use Rattle.evaluator.specs.Quiet.{is_logical_if, output_in};
+ghost use Rattle.evaluator.specs.Statements.{Spends};
+ghost use Rattle.executor.specs.Walk.{StepsIn, output_as};
 ghost use Rattle.executor.specs.Recorded.{AreEdited, AreRecorded, recorded};
 
 use crate::halt::Halt;
 use crate::sink::{Sink, put_all};
 use array_store::Whole;
 use checker::Program;
-use evaluator::{item_whole, output_of, take_turn, values_whole};
+use evaluator::{item_whole, list_whole, logical_if_of, output_of, take_turn};
+use expressions::as_logical;
 use format_edit::{EditFault, Format, FormatFault, edit};
-use meaning::ending::{Fault, FaultKind, Value};
-use meaning::syntax::{FormatSource, Item, ListItems};
+use meaning::ending::{Fault, FaultKind, Outcome, Value};
+use meaning::syntax::{Expr, FormatSource, Item, ListItems, Shape};
 use std::alloc::{AllocError, Global};
+use values::value;
 
-// The records of a WRITE or PRINT statement, or its fault. The cells keep their values.
+// The records of a WRITE or PRINT statement, or its fault; implied DOs set their variables.
 fn recorded_list(
     alloc: Global,
     program: &Program,
@@ -32,15 +37,14 @@ fn recorded_list(
     list: &ListItems,
     cells: &mut Whole,
 ) -> Result<Result<Vec<u8>, FaultKind>, AllocError>
-    requires plain { has_loop (list_items_tree list.now) ≡ false }
+    requires counted { IsCounted program.now (list_items_tree list.now) }
     requires sized { length cells.old ≡ count_in program.now }
-    ensures recorded { IfOk result (λ r. AreRecorded r (map_of program.now cells.old)
+    ensures recorded { IfOk result (λ r. AreRecorded r (map_of program.now cells.new)
         (recorded (items_in program.now) (format_tree source.now) (list_items_tree list.now)
         (map_of program.now cells.old))) }
-    ensures kept { IfOk result (λ _. map_of program.now cells.new ≡ map_of program.now cells.old) }
     ensures len { length cells.new ≡ length cells.old }
 {
-    match values_whole(alloc, list, program, cells)? {
+    match list_whole(alloc, program, list, cells)? {
         Ok(found) => edited_list(alloc, program, source, &found),
         Err(kind) => Ok(Err(kind)),
     }
@@ -119,17 +123,19 @@ fn execute_output<S: Sink>(
     cells: &mut Whole,
     turns: &mut u64,
     sink: &mut S,
-) -> Result<Option<Fault>, Halt>
-    requires plain { has_loop (list_items_tree list.now) ≡ false }
+) -> Result<Outcome, Halt>
+    requires counted { IsCounted program.now (list_items_tree list.now) }
     requires sized { length cells.old ≡ count_in program.now }
     requires unrefused { (S.told sink.old).refused ≡ false }
     ensures steps { StepsIn program.now cells.old cells.new
-        (output (items_in program.now) (format_tree source.now) (list_items_tree list.now) line)
+        (output_as (items_in program.now) (format_tree source.now)
+        (list_items_tree list.now) line)
         turns.old turns.new result (S.told sink.old) (S.told sink.new) }
+    ensures spends { IfOk result (λ o. Spends o turns.old turns.new) }
     ensures len { length cells.new ≡ length cells.old }
 {
     if !take_turn(turns) {
-        return Ok(Some(Fault {
+        return Ok(Outcome::Fault(Fault {
             kind: FaultKind::F4,
             line,
         }));
@@ -137,28 +143,115 @@ fn execute_output<S: Sink>(
     match recorded_list(alloc, program, source, list, cells)? {
         Ok(records) => {
             put_all(sink, &records)?;
-            Ok(None)
+            Ok(Outcome::Normal)
         }
-        Err(kind) => Ok(Some(Fault { kind, line })),
+        Err(kind) => Ok(Outcome::Fault(Fault { kind, line })),
     }
 }
 
-/// Executes one statement that stands by itself, or passes over one that isn't executable. Answers its fault, if it
-/// faults.
-pub fn execute_item<S: Sink>(
+// The value of a condition, or its fault. The cells keep their values.
+fn condition_value(
+    program: &Program,
+    condition: &Expr,
+    cells: &mut Whole,
+) -> Result<Value, FaultKind>
+    requires sized { length cells.old ≡ count_in program.now }
+    ensures is { value_of (scope_in program.now) (expr_tree condition.now)
+        (map_of program.now cells.old) ≡ result }
+    ensures kept { map_of program.now cells.new ≡ map_of program.now cells.old }
+    ensures len { length cells.new ≡ length cells.old }
+{
+    value(program, condition, cells)
+}
+
+// Executes a logical IF over a WRITE or PRINT statement: it takes a turn, and the statement, where the condition is true,
+// another.
+fn execute_if<S: Sink>(
     alloc: Global,
     program: &Program,
-    item: &Item,
+    line: u32,
+    condition: &Expr,
+    source: &FormatSource,
+    list: &ListItems,
     cells: &mut Whole,
     turns: &mut u64,
     sink: &mut S,
-) -> Result<Option<Fault>, Halt>
+) -> Result<Outcome, Halt>
+    requires counted { IsCounted program.now (list_items_tree list.now) }
+    requires sized { length cells.old ≡ count_in program.now }
+    requires unrefused { (S.told sink.old).refused ≡ false }
+    ensures steps { (s : ShapeTree) →
+        Some (format_tree source.now, list_items_tree list.now) ≡ output_in s →
+        StepsIn program.now cells.old cells.new
+        (step (items_in program.now) (logical_if (expr_tree condition.now) s) line)
+        turns.old turns.new result (S.told sink.old) (S.told sink.new) }
+    ensures spends { IfOk result (λ o. Spends o turns.old turns.new) }
+    ensures len { length cells.new ≡ length cells.old }
+{
+    if !take_turn(turns) {
+        return Ok(Outcome::Fault(Fault {
+            kind: FaultKind::F4,
+            line,
+        }));
+    }
+    match condition_value(program, condition, cells) {
+        Ok(x) => {
+            if as_logical(x) {
+                return execute_output(alloc, program, line, source, list, cells, turns, sink);
+            }
+            Ok(Outcome::Normal)
+        }
+        Err(kind) => Ok(Outcome::Fault(Fault { kind, line })),
+    }
+}
+
+// Executes a logical IF.
+fn execute_under<S: Sink>(
+    alloc: Global,
+    program: &Program,
+    item: &Item,
+    condition: &Expr,
+    statement: &Shape,
+    cells: &mut Whole,
+    turns: &mut u64,
+    sink: &mut S,
+) -> Result<Outcome, Halt>
+    requires logical { shape_tree item.now.form.shape ≡
+        logical_if (expr_tree condition.now) (shape_tree statement.now) }
     requires known { IsKnown program.now (item_tree item.now) }
     requires sized { length cells.old ≡ count_in program.now }
     requires unrefused { (S.told sink.old).refused ≡ false }
     ensures steps { StepsIn program.now cells.old cells.new
         (step (items_in program.now) (shape_tree item.now.form.shape) item.now.line)
         turns.old turns.new result (S.told sink.old) (S.told sink.new) }
+    ensures spends { IfOk result (λ o. Spends o turns.old turns.new) }
+    ensures len { length cells.new ≡ length cells.old }
+{
+    match output_of(statement) {
+        Some((source, list)) => execute_if(
+            alloc, program, item.line, condition, source, list, cells, turns, sink,
+        ),
+        None => Ok(item_whole(program, item, cells, turns)),
+    }
+}
+
+// Executes a statement that is no logical IF.
+fn execute_alone<S: Sink>(
+    alloc: Global,
+    program: &Program,
+    item: &Item,
+    cells: &mut Whole,
+    turns: &mut u64,
+    sink: &mut S,
+) -> Result<Outcome, Halt>
+    requires alone { IsTrue (not (is_logical_if (shape_tree item.now.form.shape))) }
+    requires known { IsKnown program.now (item_tree item.now) }
+    requires sized { length cells.old ≡ count_in program.now }
+    requires unrefused { (S.told sink.old).refused ≡ false }
+    ensures steps { StepsIn program.now cells.old cells.new
+        (step (items_in program.now) (shape_tree item.now.form.shape) item.now.line)
+        turns.old turns.new result (S.told sink.old) (S.told sink.new) }
+    ensures spends { IfOk result (λ o. Spends o turns.old turns.new) }
     ensures len { length cells.new ≡ length cells.old }
 {
     match output_of(&item.form.shape) {
@@ -166,5 +259,31 @@ pub fn execute_item<S: Sink>(
             alloc, program, item.line, source, list, cells, turns, sink,
         ),
         None => Ok(item_whole(program, item, cells, turns)),
+    }
+}
+
+/// Executes one statement that stands by itself, or passes over one that isn't executable. Answers how it ended.
+pub fn execute_item<S: Sink>(
+    alloc: Global,
+    program: &Program,
+    item: &Item,
+    cells: &mut Whole,
+    turns: &mut u64,
+    sink: &mut S,
+) -> Result<Outcome, Halt>
+    requires known { IsKnown program.now (item_tree item.now) }
+    requires sized { length cells.old ≡ count_in program.now }
+    requires unrefused { (S.told sink.old).refused ≡ false }
+    ensures steps { StepsIn program.now cells.old cells.new
+        (step (items_in program.now) (shape_tree item.now.form.shape) item.now.line)
+        turns.old turns.new result (S.told sink.old) (S.told sink.new) }
+    ensures spends { IfOk result (λ o. Spends o turns.old turns.new) }
+    ensures len { length cells.new ≡ length cells.old }
+{
+    match logical_if_of(&item.form.shape) {
+        Some((condition, statement)) => execute_under(
+            alloc, program, item, condition, statement, cells, turns, sink,
+        ),
+        None => execute_alone(alloc, program, item, cells, turns, sink),
     }
 }

@@ -1,12 +1,10 @@
--- What a list's values are.
-use Rattle.std.specs.Prelude.{◌≡◌, ◌<◌, ◌≤◌, ◌+◌, ◌-◌, ◌++◌, ℕ, suc, List, [], ◌∷◌, length, Option, Some, None, Result, Ok, Err}
-use Rattle.std.specs.Global.{Vec}
+-- What the items of a list add to its values.
+use Rattle.std.specs.Prelude.{◌≡◌, ◌<◌, ◌+◌, ◌++◌, ℕ, suc, List, [], ◌∷◌, length, Option, Some, None, Result, Ok, Err}
 use Rattle.meaning.specs.declared.ending.FaultKind.{FaultKind}
 use Rattle.meaning.specs.declared.ending.FaultKind.TheVariants.{F8}
 use Rattle.meaning.specs.declared.ending.Value.{Value}
 use Rattle.meaning.specs.Syntax.{ExprTree, name, number, truth, signed, negated, binary, paren, element, call}
 use Rattle.meaning.specs.Lists as lists
-use Rattle.meaning.specs.Lists.{list_limit}
 use Rattle.meaning.specs.Maps.{Map, CellNumbers, value_at}
 use Rattle.meaning.specs.Values.{Valued, typed}
 use Rattle.meaning.specs.Arrays.{size}
@@ -17,15 +15,6 @@ use Rattle.expressions.specs.Names.{IsArray}
 use Rattle.expressions.specs.declared.place.Place.{Place}
 use Rattle.expressions.specs.Places.{left, from_cell}
 
--- so many values, and the map as it was
-abbrev pub listing : List Value → Map → lists.Listing
-listing vs m = record { values = vs; map = m; left = list_limit - length vs }
-
--- a vector or a fault is what the definition gives, and the map stays
-abbrev pub Listed : Result (Vec Value) FaultKind → Map → lists.Listed → Type 0
-Listed (Ok v) m found = found ≡ Ok (listing v.items m)
-Listed (Err kind) m found = found ≡ Err kind
-
 -- an expression that is an array's name stands for the array
 abbrev pub IsArrayIn : Glossary → CellNumbers → ℕ → ExprTree → Option Variable → Type 0
 IsArrayIn g numbers count (name n) o = IsArray g numbers count n o
@@ -33,21 +22,15 @@ IsArrayIn g numbers count e o = o ≡ None
 
 -- ---- items behind others
 
--- values behind those before, or the fault
-abbrev pub behind_all : List Value → lists.Listed → lists.Listed
-behind_all before (Ok l) = Ok (lists.behind before l)
-behind_all before (Err k) = Err k
-
--- the item has these values, whatever the store stands on
-pub record Adding (u v : World) (item : Cells → lists.Listed) (map : Cells → Map) (before after : List Value) : Type 0 where
+-- the item has these values, whatever the store stands on, and so many may follow
+pub record Adding (u v : World) (item : Cells → lists.Listed) (map : Cells → Map) (before after : List Value) (rest : ℕ) : Type 0 where
   pub values : List Value
   pub behind : after ≡ before ++ values
-  pub fits : length after ≤ list_limit
-  pub reads : Reads u v (λ m. item m ≡ Ok (record { values = values; map = map m; left = list_limit - length after }))
+  pub reads : Reads u v (λ m. item m ≡ Ok (record { values = values; map = map m; left = rest }))
 
-abbrev pub AddsItem : World → World → (Cells → lists.Listed) → (Cells → Map) → List Value → List Value → Result (Unit {0}) FaultKind → Type 0
-AddsItem u v item map before after (Ok t) = Adding u v item map before after
-AddsItem u v item map before after (Err k) = Reads u v (λ m. item m ≡ Err k)
+abbrev pub AddsItem : World → World → (Cells → lists.Listed) → (Cells → Map) → List Value → List Value → ℕ → Result (Unit {0}) FaultKind → Type 0
+AddsItem u v item map before after rest (Ok t) = Adding u v item map before after rest
+AddsItem u v item map before after rest (Err k) = Reads u v (λ m. item m ≡ Err k)
 
 -- ---- the elements of a whole array
 
@@ -70,13 +53,13 @@ pub record Partly (u v : World) (c : Variable) (before now : List Value) (at : �
   pub many : length values ≡ at
   pub reads : Reads u v (λ m. AreValues (element_at c m) 0 values)
 
-pub record AddingElements (u v : World) (c : Variable) (before after : List Value) : Type 0 where
+pub record AddingElements (u v : World) (c : Variable) (before after : List Value) (given rest : ℕ) : Type 0 where
   pub values : List Value
   pub behind : after ≡ before ++ values
   pub many : length values ≡ size (left c.place)
-  pub fits : length before + size (left c.place) ≤ list_limit
+  pub fits : rest + size (left c.place) ≡ given
   pub reads : Reads u v (λ m. AreValues (element_at c m) 0 values)
 
-abbrev pub AddsElements : World → World → Variable → List Value → List Value → Result (Unit {0}) FaultKind → Type 0
-AddsElements u v c before after (Ok t) = AddingElements u v c before after
-AddsElements u v c before after (Err k) = (k ≡ F8) × (list_limit - length before < size (left c.place)) × (v ≡ u)
+abbrev pub AddsElements : World → World → Variable → List Value → List Value → ℕ → ℕ → Result (Unit {0}) FaultKind → Type 0
+AddsElements u v c before after given rest (Ok t) = AddingElements u v c before after given rest
+AddsElements u v c before after given rest (Err k) = (k ≡ F8) × (given < size (left c.place)) × (v ≡ u)

@@ -28,7 +28,7 @@ pub use dimension::Dimension;
 use evaluation::{subscripts_in, value_in as evaluated};
 use frame::Frame;
 pub use intrinsics::{Intrinsic, is_intrinsic};
-pub use listing::values;
+pub use listing::add_item;
 use meaning::ending::{FaultKind, Value};
 use meaning::number::number;
 use meaning::syntax::{DataType, Expr, Exprs, Operator, Sign};

@@ -1,217 +1,318 @@
--- Turns: no more are used than are given, and a run that didn't meet the limit is the same with more of them.
-use Rattle.std.proofs.Common.{◌≡◌, ℕ, zero, suc, ℤ, ◌+◌, ◌-◌, ◌+ℤ◌, ◌≤◌, false, List, [], ◌∷◌, ◌++◌, Option, None, Some, Result, Ok, Err, refl, sym, ap, ◌∙◌, arith}
+-- Turns: no more are used than are given; a run that didn't meet the limit is the same with more of them, and with fewer where
+-- it used no more than those.
+use Rattle.std.proofs.Common.{◌≡◌, ℕ, zero, suc, ℤ, ◌+◌, ◌-◌, ◌+ℤ◌, ◌≤◌, Bool, true, false, if◌then◌else◌, Option, Some, None, List, [], ◌∷◌, ◌++◌, Result, Ok, Err, refl, sym, ap, ◌∙◌, arith}
 use mathlib.Core.Path.{fun_ext}
 use Rattle.meaning.specs.declared.ending.FaultKind.{FaultKind}
 use Rattle.meaning.specs.declared.ending.Value.{Value}
-use Rattle.meaning.specs.Syntax.{ShapeTree, ExprTree, ExprsTree, ListItemsTree, FormatTree, assignment, writing, printing, doing, continuing, ItemTree}
+use Rattle.meaning.specs.Characters.{number_of}
+use Rattle.meaning.specs.Syntax.{ExprTree, ExprsTree, ShapeTree, ListItemsTree, FormatTree, assignment, writing, printing, doing, continuing, going, computed_going, arithmetic_if, logical_if, stopping, ItemTree}
 use Rattle.meaning.specs.Scopes.{scope_of, Definition, defined_by}
 use Rattle.meaning.specs.Lists.{Listing, listed, list_limit}
-use Rattle.meaning.specs.Trees.{Members, none, plain, loop, block}
+use Rattle.meaning.specs.Trees.{Members, none, plain, loop, block, Arms, no_arms, arm}
 use Rattle.meaning.specs.Trips.{span_of, trips}
 use Rattle.meaning.specs.Maps.{Map, put}
-use Rattle.meaning.specs.Values.{Scope, value, subscripts, dimensions_in, as_integer, integer}
+use Rattle.meaning.specs.Values.{Scope, value, subscripts, dimensions_in, as_integer, as_logical, integer}
 use Rattle.meaning.specs.Records.{edited}
-use Rattle.meaning.specs.Execution.{Outcome, normal, fault, Ran, more, ended, turn, with_ok, parts_for, output, assigned, unless_defined, Meaning, Follow, goes_on, goes_on_by, step, added, fold_trips, trips_from, looped, pass_over, fuelled, exec}
+use Rattle.meaning.specs.Execution.{Outcome, normal, jump, stopped, fault, Ran, more, ended, ended_by, turn, with_ok, parts_for, output, assigned, unless_defined, picked_by, by_count, by_sign, Meaning, Follow, Next, onward, at_label, Ways, goes_on, goes_on_by, leads_on, leads_on_by, simple, step, added, fold_trips, trips_from, looped, condition_of, holds, turn_if, tested, arms_from, labelled, goes_at, ways_in, pass_over, fuelled, exec}
 use Rattle.meaning.specs.Turns.{met_limit}
 use Rattle.meaning.proofs.Running.{more-more, more-none, exec-fuelled}
 
--- ---- what is used
+-- a run, by the turns that it is given
+pub record Fair (run : ℕ → Ran) : Type 0 where
+  -- it uses no more
+  pub spares : (t : ℕ) → (run t).used ≤ t
+  -- it is the same with more, where it didn't meet the limit
+  pub steady : (t u : ℕ) → t ≤ u → met_limit (run t).outcome ≡ false → run u ≡ run t
+  -- and with fewer, where these are enough
+  pub frugal : (t u : ℕ) → t ≤ u → (run u).used ≤ t → met_limit (run u).outcome ≡ false → run t ≡ run u
 
--- what follows uses no more than it is given
-abbrev pub Spares : Follow → Type 0
-Spares go = (n : Map) (u : ℕ) → (go n u).used ≤ u
+abbrev pub FairFollow : Follow → Type 0
+FairFollow go = (n : Map) → Fair (λ t. go n t)
 
-abbrev pub SparesAll : Meaning → Type 0
-SparesAll f = (all rest : Members) (m : Map) (t : ℕ) → (f all rest m t).used ≤ t
+abbrev pub FairWays : Ways → Type 0
+FairWays go = (next : Next) → FairFollow (go next)
 
-more-used : (ps : List (List ℕ)) (n : ℕ) (r : Ran) (t : ℕ) → n + r.used ≤ t → (more ps n r).used ≤ t
-unfolding more
-more-used ps n r t h = h
+abbrev pub FairMeaning : Meaning → Type 0
+FairMeaning f = (all rest : Members) (m : Map) → Fair (λ t. f all rest m t)
 
-goes_on_by-used : (o : Outcome) (r : Ran) (t : ℕ) (go : Follow) → r.used ≤ t → Spares go → (goes_on_by o r t go).used ≤ t
-goes_on_by-used normal r t go le spares =
-    more-used r.pieces r.used (go r.map (t - r.used)) t (let h = spares r.map (t - r.used) in omega arith)
-goes_on_by-used (fault k line) r t go le spares = le
+ended_by-fair : (o : Outcome) (m : Map) → Fair (λ t. ended_by o m)
+ended_by-fair o m = record {
+  spares = λ t. omega arith;
+  steady = λ t u le h. refl;
+  frugal = λ t u le used h. refl;
+}
 
-goes_on-used : (r : Ran) (t : ℕ) (go : Follow) → r.used ≤ t → Spares go → (goes_on r t go).used ≤ t
-unfolding goes_on
-goes_on-used r t go le spares = goes_on_by-used r.outcome r t go le spares
+if-fair : (b : Bool) (x y : ℕ → Ran) → Fair x → Fair y → Fair (λ t. if b then x t else y t)
+if-fair true x y h k = h
+if-fair false x y h k = k
 
-with_ok-used : {A : Type 0} (r : Result A FaultKind) (line : ℕ) (m : Map) (t : ℕ) (go : A → Ran) → ((x : A) → (go x).used ≤ t) → (with_ok r line m go).used ≤ t
+with_ok-fair : {A : Type 0} (r : Result A FaultKind) (line : ℕ) (m : Map) (go : A → ℕ → Ran) → ((x : A) → Fair (go x)) → Fair (λ t. with_ok r line m (λ x. go x t))
 unfolding with_ok
-with_ok-used (Ok x) line m t go h = h x
-with_ok-used (Err k) line m t go h = omega arith
+with_ok-fair (Ok x) line m go fair = fair x
+with_ok-fair (Err k) line m go fair = ended_by-fair (fault k line) m
 
-turn-used : (line : ℕ) (m : Map) (t : ℕ) (go : ℕ → Ran) → ((u : ℕ) → (go u).used ≤ u) → (turn line m t go).used ≤ t
-unfolding turn
-turn-used line m zero go h = omega arith
-turn-used line m (suc t) go h = more-used [] 1 (go t) (suc t) (let k = h t in omega arith)
-
-module _ (program : List ItemTree) where
-  output-used : (source : FormatTree) (list : ListItemsTree) (line : ℕ) (m : Map) (t : ℕ) (go : Follow) → Spares go → (output program source list line m t go).used ≤ t
-  output-used source list line m t go h =
-      let records : List Value → Result (List ℕ) FaultKind = λ vs. edited (parts_for program source) vs in
-      turn-used line m t (λ u. with_ok (listed (scope_of program) list m list_limit) line m (λ l. with_ok (records l.values) line m (λ r. more (r ∷ []) 0 (go l.map u)))) (λ u. with_ok-used (listed (scope_of program) list m list_limit) line m u (λ l. with_ok (records l.values) line m (λ r. more (r ∷ []) 0 (go l.map u))) (λ l. with_ok-used (records l.values) line m u (λ r. more (r ∷ []) 0 (go l.map u)) (λ r. more-used (r ∷ []) 0 (go l.map u) u (let k = h l.map u in omega arith))))
-
-  assigned-used : (s : Scope) (target : List ℕ) (es : ExprsTree) (e : ExprTree) (line : ℕ) (m : Map) (t : ℕ) (go : Follow) → Spares go → (assigned s target es e line m t go).used ≤ t
-  assigned-used s target es e line m t go h =
-      let here = subscripts s (dimensions_in (s.arrays target)) es m in
-      let right = value s e m in
-      turn-used line m t (λ u. with_ok here line m (λ ss. with_ok right line m (λ v. go (put m target ss (as_integer v)) u))) (λ u. with_ok-used here line m u (λ ss. with_ok right line m (λ v. go (put m target ss (as_integer v)) u)) (λ ss. with_ok-used right line m u (λ v. go (put m target ss (as_integer v)) u) (λ v. h (put m target ss (as_integer v)) u)))
-
-  unless_defined-used : (o : Option Definition) (r passed : Ran) (t : ℕ) → r.used ≤ t → passed.used ≤ t → (unless_defined o r passed).used ≤ t
-  unless_defined-used None r passed t le over = le
-  unless_defined-used (Some d) r passed t le over = over
-
-  step-used : (s : ShapeTree) (line : ℕ) (m : Map) (t : ℕ) (go : Follow) → Spares go → (step program s line m t go).used ≤ t
-  step-used (assignment target es e) line m t go h =
-      unless_defined-used (defined_by (scope_of program).arrays (assignment target es e)) (assigned (scope_of program) target es e line m t go) (go m t) t (assigned-used (scope_of program) target es e line m t go h) (h m t)
-  step-used (writing control list) line m t go h = output-used control.source list line m t go h
-  step-used (printing source list) line m t go h = output-used source list line m t go h
-  step-used continuing line m t go h = turn-used line m t (λ u. go m u) (λ u. h m u)
-  step-used s line m t go h = h m t
-
-fold_trips-used : (f : Meaning) (line : ℕ) (variable : List ℕ) (by : ℤ) (range : Members) → SparesAll f → (is : List ℤ) (m : Map) (t : ℕ) → (fold_trips f line variable by range is m t).used ≤ t
-unfolding fold_trips
-fold_trips-used f line variable by range all_spared [] m t = omega arith
-fold_trips-used f line variable by range all_spared (i ∷ is) m t =
-    goes_on-used (f range range m t) t (λ n u. added line variable by n (λ k. fold_trips f line variable by range is k u)) (all_spared range range m t) (λ n u. with_ok-used (integer (n variable [] +ℤ by)) line n u (λ v. fold_trips f line variable by range is (put n variable [] (as_integer v)) u) (λ v. fold_trips-used f line variable by range all_spared is (put n variable [] (as_integer v)) u))
-
-looped-used : (scope : Scope) (f : Meaning) → SparesAll f → (s : ShapeTree) (line : ℕ) (range : Members) (m : Map) (t : ℕ) (go : Follow) → Spares go → (looped scope f s line range m t go).used ≤ t
-unfolding looped
-looped-used scope f all_spared (doing label comma variable limits) line range m t go h =
-    turn-used line m t (λ u. with_ok (span_of scope limits m) line m (λ s. goes_on (trips_from f line variable range m u s) u go)) (λ u. with_ok-used (span_of scope limits m) line m u (λ s. goes_on (trips_from f line variable range m u s) u go) (λ s. goes_on-used (trips_from f line variable range m u s) u go (fold_trips-used f line variable s.step range all_spared (trips s.first s.last s.step) (put m variable [] s.first) u) h))
-looped-used scope f all_spared s line range m t go h = h m t
-
-pass_over-used : (program : List ItemTree) (f : Meaning) → SparesAll f → (all rest : Members) (m : Map) (t : ℕ) → (pass_over program f all rest m t).used ≤ t
-unfolding pass_over
-pass_over-used program f all_spared all none m t = omega arith
-pass_over-used program f all_spared all (plain x ms) m t =
-    step-used program x.shape x.line m t (λ n u. pass_over program f all ms n u) (λ n u. pass_over-used program f all_spared all ms n u)
-pass_over-used program f all_spared all (loop x range ms) m t =
-    looped-used (scope_of program) f all_spared x.shape x.line range m t (λ n u. pass_over program f all ms n u) (λ n u. pass_over-used program f all_spared all ms n u)
-pass_over-used program f all_spared all (block arms x ms) m t = pass_over-used program f all_spared all ms m t
-
-fuelled-used : (program : List ItemTree) (n : ℕ) → SparesAll (fuelled program n)
-unfolding fuelled
-fuelled-used program zero all rest m t = omega arith
-fuelled-used program (suc n) all rest m t = pass_over-used program (fuelled program n) (fuelled-used program n) all rest m t
-
-pub exec-used : (program : List ItemTree) (all rest : Members) (m : Map) (t : ℕ) → (exec program all rest m t).used ≤ t
-unfolding exec
-exec-used program all rest m t = fuelled-used program (suc t) all rest m t
-
--- ---- more turns
-
--- a way to go on that is the same with more turns, where it doesn't meet the limit
-abbrev pub Steady : (ℕ → Ran) → Type 0
-Steady go = (t u : ℕ) → t ≤ u → met_limit (go t).outcome ≡ false → go u ≡ go t
-
-abbrev pub SteadyFollow : Follow → Type 0
-SteadyFollow go = (n : Map) → Steady (λ t. go n t)
-
-abbrev pub SteadyMeaning : Meaning → Type 0
-SteadyMeaning f = (all rest : Members) (m : Map) → Steady (λ t. f all rest m t)
+-- ---- behind pieces and turns
 
 more-outcome : (ps : List (List ℕ)) (n : ℕ) (r : Ran) → (more ps n r).outcome ≡ r.outcome
 unfolding more
 more-outcome ps n r = refl
 
-more-steady : (ps : List (List ℕ)) (n : ℕ) (go : ℕ → Ran) → Steady go → Steady (λ t. more ps n (go t))
-more-steady ps n go steady t u le h =
-    ap (λ r. more ps n r) (steady t u le (sym (ap met_limit (more-outcome ps n (go t))) ∙ h))
+more-used : (ps : List (List ℕ)) (n : ℕ) (r : Ran) → (more ps n r).used ≡ n + r.used
+unfolding more
+more-used ps n r = refl
 
-turn-steady : (line : ℕ) (m : Map) (go : ℕ → Ran) → Steady go → Steady (λ t. turn line m t go)
-unfolding turn
-turn-steady line m go steady zero u le h = absurd cc
-turn-steady line m go steady (suc t) zero le h = absurd (omega arith)
-turn-steady line m go steady (suc t) (suc u) le h = more-steady [] 1 go steady t u (omega arith) h
+more-unmet : (ps : List (List ℕ)) (n : ℕ) (r : Ran) → met_limit (more ps n r).outcome ≡ false → met_limit r.outcome ≡ false
+more-unmet ps n r h = sym (ap met_limit (more-outcome ps n r)) ∙ h
 
-with_ok-steady : {A : Type 0} (r : Result A FaultKind) (line : ℕ) (m : Map) (go : A → ℕ → Ran) → ((x : A) → Steady (go x)) → Steady (λ t. with_ok r line m (λ x. go x t))
-unfolding with_ok
-with_ok-steady (Ok x) line m go steady t u le h = steady x t u le h
-with_ok-steady (Err k) line m go steady t u le h = refl
+module _ (ps : List (List ℕ)) (n : ℕ) (go : ℕ → Ran) (fair : Fair go) where
+  more-spares : (t : ℕ) → n ≤ t → (more ps n (go (t - n))).used ≤ t
+  more-spares t within = let e = more-used ps n (go (t - n)) in let h = fair.spares (t - n) in omega arith
 
-goes_on_by-steady : (o : Outcome) (r : Ran) (go : Follow) → SteadyFollow go → Steady (λ t. goes_on_by o r t go)
-goes_on_by-steady normal r go steady t u le h =
-    more-steady r.pieces r.used (λ k. go r.map k) (steady r.map) (t - r.used) (u - r.used) (omega arith) h
-goes_on_by-steady (fault k line) r go steady t u le h = refl
+  more-steady : (t u : ℕ) → t ≤ u → met_limit (more ps n (go (t - n))).outcome ≡ false → more ps n (go (u - n)) ≡ more ps n (go (t - n))
+  more-steady t u le h =
+      ap (λ r. more ps n r) (fair.steady (t - n) (u - n) (omega arith) (more-unmet ps n (go (t - n)) h))
 
-goes_on-steady : (r : Ran) (go : Follow) → SteadyFollow go → Steady (λ t. goes_on r t go)
-unfolding goes_on
-goes_on-steady r go steady t u le h = goes_on_by-steady r.outcome r go steady t u le h
+  more-frugal : (t u : ℕ) → t ≤ u → n ≤ t → (more ps n (go (u - n))).used ≤ t → met_limit (more ps n (go (u - n))).outcome ≡ false → more ps n (go (t - n)) ≡ more ps n (go (u - n))
+  more-frugal t u le within used h =
+      let e = more-used ps n (go (u - n)) in
+      ap (λ r. more ps n r) (fair.frugal (t - n) (u - n) (omega arith) (omega arith) (more-unmet ps n (go (u - n)) h))
 
--- what goes on behind a run that met the limit has met it
-goes_on_by-limit : (o : Outcome) (r : Ran) (t : ℕ) (go : Follow) → r.outcome ≡ o → met_limit (goes_on_by o r t go).outcome ≡ false → met_limit o ≡ false
-goes_on_by-limit normal r t go e h = refl
-goes_on_by-limit (fault k line) r t go e h = ap met_limit (sym e) ∙ h
+less-none : (t : ℕ) → t ≡ t - 0
+less-none t = omega arith
 
-goes_on-limit : (r : Ran) (t : ℕ) (go : Follow) → met_limit (goes_on r t go).outcome ≡ false → met_limit r.outcome ≡ false
-unfolding goes_on
-goes_on-limit r t go h = goes_on_by-limit r.outcome r t go refl h
+piece-fair : (ps : List (List ℕ)) (go : ℕ → Ran) → Fair go → Fair (λ t. more ps 0 (go t))
+piece-fair ps go fair = record {
+  spares = λ t. (let e = more-used ps 0 (go t) in let h = fair.spares t in omega arith);
+  steady = λ t u le h. ap (λ r. more ps 0 r) (fair.steady t u le (more-unmet ps 0 (go t) h));
+  frugal = λ t u le used h. (let e = more-used ps 0 (go u) in ap (λ r. more ps 0 r) (fair.frugal t u le (omega arith) (more-unmet ps 0 (go u) h)));
+}
 
--- a run and then what follows, each the same with more turns
-run_on-steady : (run : ℕ → Ran) (go : Follow) → Steady run → SteadyFollow go → Steady (λ t. goes_on (run t) t go)
-run_on-steady run go steady follow t u le h =
-    ap (λ r. goes_on r u go) (steady t u le (goes_on-limit (run t) t go h)) ∙ goes_on-steady (run t) go follow t u le h
+module _ (line : ℕ) (m : Map) (go : ℕ → Ran) (fair : Fair go) where
+  turn-spares : (t : ℕ) → (turn line m t go).used ≤ t
+  unfolding turn
+  turn-spares zero = omega arith
+  turn-spares (suc t) = let e = more-used [] 1 (go t) in let h = fair.spares t in omega arith
+
+  turn-steady : (t u : ℕ) → t ≤ u → met_limit (turn line m t go).outcome ≡ false → turn line m u go ≡ turn line m t go
+  unfolding turn
+  turn-steady zero u le h = absurd cc
+  turn-steady (suc t) zero le h = absurd (omega arith)
+  turn-steady (suc t) (suc u) le h = ap (λ r. more [] 1 r) (fair.steady t u (omega arith) (more-unmet [] 1 (go t) h))
+
+  turn-frugal : (t u : ℕ) → t ≤ u → (turn line m u go).used ≤ t → met_limit (turn line m u go).outcome ≡ false → turn line m t go ≡ turn line m u go
+  unfolding turn
+  turn-frugal t zero le used h = ap (λ n. turn line m n go) (none_below t le)
+    where
+      none_below : (t : ℕ) → t ≤ 0 → t ≡ 0
+      none_below t le = omega arith
+  turn-frugal zero (suc u) le used h = absurd (let e = more-used [] 1 (go u) in omega arith)
+  turn-frugal (suc t) (suc u) le used h =
+      let e = more-used [] 1 (go u) in
+      ap (λ r. more [] 1 r) (fair.frugal t u (omega arith) (omega arith) (more-unmet [] 1 (go u) h))
+
+  turn-fair : Fair (λ t. turn line m t go)
+  turn-fair = record { spares = turn-spares; steady = turn-steady; frugal = turn-frugal }
+
+turn_if-fair : (b : Bool) (line : ℕ) (m : Map) (go : ℕ → Ran) → Fair go → Fair (λ t. turn_if b line m t go)
+turn_if-fair true line m go fair = turn-fair line m go fair
+turn_if-fair false line m go fair = fair
+
+-- ---- behind a run
+
+-- the run used no more than what goes on behind it, and met the limit only where this did
+abbrev Before : Ran → Ran → Type 0
+Before r whole = met_limit whole.outcome ≡ false → (r.used ≤ whole.used) × (met_limit r.outcome ≡ false)
+
+more-before : (r next : Ran) → met_limit r.outcome ≡ false → Before r (more r.pieces r.used next)
+more-before r next h e = (let k = more-used r.pieces r.used next in omega arith, h)
+
+module _ (go : Follow) (fair : FairFollow go) where
+  goes_on_by-spares : (o : Outcome) (r : Ran) (t : ℕ) → r.used ≤ t → (goes_on_by o r t go).used ≤ t
+  goes_on_by-spares normal r t le = more-spares r.pieces r.used (λ k. go r.map k) (fair r.map) t le
+  goes_on_by-spares (jump s) r t le = le
+  goes_on_by-spares (stopped line) r t le = le
+  goes_on_by-spares (fault k line) r t le = le
+
+  goes_on_by-steady : (o : Outcome) (r : Ran) (t u : ℕ) → t ≤ u → met_limit (goes_on_by o r t go).outcome ≡ false → goes_on_by o r u go ≡ goes_on_by o r t go
+  goes_on_by-steady normal r t u le h = more-steady r.pieces r.used (λ k. go r.map k) (fair r.map) t u le h
+  goes_on_by-steady (jump s) r t u le h = refl
+  goes_on_by-steady (stopped line) r t u le h = refl
+  goes_on_by-steady (fault k line) r t u le h = refl
+
+  goes_on_by-frugal : (o : Outcome) (r : Ran) (t u : ℕ) → t ≤ u → r.used ≤ t → (goes_on_by o r u go).used ≤ t → met_limit (goes_on_by o r u go).outcome ≡ false → goes_on_by o r t go ≡ goes_on_by o r u go
+  goes_on_by-frugal normal r t u le within used h =
+      more-frugal r.pieces r.used (λ k. go r.map k) (fair r.map) t u le within used h
+  goes_on_by-frugal (jump s) r t u le within used h = refl
+  goes_on_by-frugal (stopped line) r t u le within used h = refl
+  goes_on_by-frugal (fault k line) r t u le within used h = refl
+
+  goes_on_by-before : (o : Outcome) (r : Ran) (t : ℕ) → r.outcome ≡ o → Before r (goes_on_by o r t go)
+  goes_on_by-before normal r t e = more-before r (go r.map (t - r.used)) (ap met_limit e)
+  goes_on_by-before (jump s) r t e = λ h. (omega arith, h)
+  goes_on_by-before (stopped line) r t e = λ h. (omega arith, h)
+  goes_on_by-before (fault k line) r t e = λ h. (omega arith, h)
+
+  goes_on-before : (r : Ran) (t : ℕ) → Before r (goes_on r t go)
+  unfolding goes_on
+  goes_on-before r t = goes_on_by-before r.outcome r t refl
+
+  goes_on-fair : (run : ℕ → Ran) → Fair run → Fair (λ t. goes_on (run t) t go)
+  unfolding goes_on
+  goes_on-fair run first = record {
+    spares = λ t. goes_on_by-spares (run t).outcome (run t) t (first.spares t);
+    steady = λ t u le h. ap (λ r. goes_on r u go) (first.steady t u le (goes_on-before (run t) t h).1) ∙ goes_on_by-steady (run t).outcome (run t) t u le h;
+    frugal = λ t u le used h. (let before = goes_on-before (run u) u h in let within : (run u).used ≤ t = (let k = before.0 in omega arith) in ap (λ r. goes_on r t go) (first.frugal t u le within before.1) ∙ goes_on_by-frugal (run u).outcome (run u) t u le within used h);
+  }
+
+module _ (go : Ways) (fair : FairWays go) where
+  leads_on_by-spares : (o : Outcome) (r : Ran) (t : ℕ) → r.used ≤ t → (leads_on_by o r t go).used ≤ t
+  leads_on_by-spares normal r t le = more-spares r.pieces r.used (λ k. go onward r.map k) (fair onward r.map) t le
+  leads_on_by-spares (jump s) r t le = more-spares r.pieces r.used (λ k. go (at_label s) r.map k) (fair (at_label s) r.map) t le
+  leads_on_by-spares (stopped line) r t le = le
+  leads_on_by-spares (fault k line) r t le = le
+
+  leads_on_by-steady : (o : Outcome) (r : Ran) (t u : ℕ) → t ≤ u → met_limit (leads_on_by o r t go).outcome ≡ false → leads_on_by o r u go ≡ leads_on_by o r t go
+  leads_on_by-steady normal r t u le h = more-steady r.pieces r.used (λ k. go onward r.map k) (fair onward r.map) t u le h
+  leads_on_by-steady (jump s) r t u le h =
+      more-steady r.pieces r.used (λ k. go (at_label s) r.map k) (fair (at_label s) r.map) t u le h
+  leads_on_by-steady (stopped line) r t u le h = refl
+  leads_on_by-steady (fault k line) r t u le h = refl
+
+  leads_on_by-frugal : (o : Outcome) (r : Ran) (t u : ℕ) → t ≤ u → r.used ≤ t → (leads_on_by o r u go).used ≤ t → met_limit (leads_on_by o r u go).outcome ≡ false → leads_on_by o r t go ≡ leads_on_by o r u go
+  leads_on_by-frugal normal r t u le within used h =
+      more-frugal r.pieces r.used (λ k. go onward r.map k) (fair onward r.map) t u le within used h
+  leads_on_by-frugal (jump s) r t u le within used h =
+      more-frugal r.pieces r.used (λ k. go (at_label s) r.map k) (fair (at_label s) r.map) t u le within used h
+  leads_on_by-frugal (stopped line) r t u le within used h = refl
+  leads_on_by-frugal (fault k line) r t u le within used h = refl
+
+  leads_on_by-before : (o : Outcome) (r : Ran) (t : ℕ) → r.outcome ≡ o → Before r (leads_on_by o r t go)
+  leads_on_by-before normal r t e = more-before r (go onward r.map (t - r.used)) (ap met_limit e)
+  leads_on_by-before (jump s) r t e = more-before r (go (at_label s) r.map (t - r.used)) (ap met_limit e)
+  leads_on_by-before (stopped line) r t e = λ h. (omega arith, h)
+  leads_on_by-before (fault k line) r t e = λ h. (omega arith, h)
+
+  leads_on-before : (r : Ran) (t : ℕ) → Before r (leads_on r t go)
+  unfolding leads_on
+  leads_on-before r t = leads_on_by-before r.outcome r t refl
+
+  leads_on-fair : (run : ℕ → Ran) → Fair run → Fair (λ t. leads_on (run t) t go)
+  unfolding leads_on
+  leads_on-fair run first = record {
+    spares = λ t. leads_on_by-spares (run t).outcome (run t) t (first.spares t);
+    steady = λ t u le h. ap (λ r. leads_on r u go) (first.steady t u le (leads_on-before (run t) t h).1) ∙ leads_on_by-steady (run t).outcome (run t) t u le h;
+    frugal = λ t u le used h. (let before = leads_on-before (run u) u h in let within : (run u).used ≤ t = (let k = before.0 in omega arith) in ap (λ r. leads_on r t go) (first.frugal t u le within before.1) ∙ leads_on_by-frugal (run u).outcome (run u) t u le within used h);
+  }
+
+-- ---- statements
 
 module _ (program : List ItemTree) where
-  output-steady : (source : FormatTree) (list : ListItemsTree) (line : ℕ) (m : Map) (go : Follow) → SteadyFollow go → Steady (λ t. output program source list line m t go)
-  output-steady source list line m go h =
+  output-fair : (source : FormatTree) (list : ListItemsTree) (line : ℕ) (m : Map) (go : Follow) → FairFollow go → Fair (λ t. output program source list line m t go)
+  output-fair source list line m go h =
       let records : List Value → Result (List ℕ) FaultKind = λ vs. edited (parts_for program source) vs in
-      turn-steady line m (λ u. with_ok (listed (scope_of program) list m list_limit) line m (λ l. with_ok (records l.values) line m (λ r. more (r ∷ []) 0 (go l.map u)))) (with_ok-steady (listed (scope_of program) list m list_limit) line m (λ l u. with_ok (records l.values) line m (λ r. more (r ∷ []) 0 (go l.map u))) (λ l. with_ok-steady (records l.values) line m (λ r u. more (r ∷ []) 0 (go l.map u)) (λ r. more-steady (r ∷ []) 0 (λ u. go l.map u) (h l.map))))
+      let items = listed (scope_of program) list m list_limit in
+      turn-fair line m (λ u. with_ok items line m (λ l. with_ok (records l.values) line m (λ r. more (r ∷ []) 0 (go l.map u)))) (with_ok-fair items line m (λ l u. with_ok (records l.values) line m (λ r. more (r ∷ []) 0 (go l.map u))) (λ l. with_ok-fair (records l.values) line m (λ r u. more (r ∷ []) 0 (go l.map u)) (λ r. piece-fair (r ∷ []) (λ u. go l.map u) (h l.map))))
 
-  assigned-steady : (s : Scope) (target : List ℕ) (es : ExprsTree) (e : ExprTree) (line : ℕ) (m : Map) (go : Follow) → SteadyFollow go → Steady (λ t. assigned s target es e line m t go)
-  assigned-steady s target es e line m go h =
+  assigned-fair : (s : Scope) (target : List ℕ) (es : ExprsTree) (e : ExprTree) (line : ℕ) (m : Map) (go : Follow) → FairFollow go → Fair (λ t. assigned s target es e line m t go)
+  assigned-fair s target es e line m go h =
       let here = subscripts s (dimensions_in (s.arrays target)) es m in
       let right = value s e m in
-      turn-steady line m (λ u. with_ok here line m (λ ss. with_ok right line m (λ v. go (put m target ss (as_integer v)) u))) (with_ok-steady here line m (λ ss u. with_ok right line m (λ v. go (put m target ss (as_integer v)) u)) (λ ss. with_ok-steady right line m (λ v u. go (put m target ss (as_integer v)) u) (λ v. h (put m target ss (as_integer v)))))
+      turn-fair line m (λ u. with_ok here line m (λ ss. with_ok right line m (λ v. go (put m target ss (as_integer v)) u))) (with_ok-fair here line m (λ ss u. with_ok right line m (λ v. go (put m target ss (as_integer v)) u)) (λ ss. with_ok-fair right line m (λ v u. go (put m target ss (as_integer v)) u) (λ v. h (put m target ss (as_integer v)))))
 
-  unless_defined-steady : (o : Option Definition) (run passed : ℕ → Ran) → Steady run → Steady passed → Steady (λ t. unless_defined o (run t) (passed t))
-  unless_defined-steady None run passed steady over = steady
-  unless_defined-steady (Some d) run passed steady over = over
+  unless_defined-fair : (o : Option Definition) (run passed : ℕ → Ran) → Fair run → Fair passed → Fair (λ t. unless_defined o (run t) (passed t))
+  unless_defined-fair None run passed fair over = fair
+  unless_defined-fair (Some d) run passed fair over = over
 
-  step-steady : (s : ShapeTree) (line : ℕ) (m : Map) (go : Follow) → SteadyFollow go → Steady (λ t. step program s line m t go)
-  step-steady (assignment target es e) line m go h =
-      unless_defined-steady (defined_by (scope_of program).arrays (assignment target es e)) (λ t. assigned (scope_of program) target es e line m t go) (λ t. go m t) (assigned-steady (scope_of program) target es e line m go h) (h m)
-  step-steady (writing control list) line m go h = output-steady control.source list line m go h
-  step-steady (printing source list) line m go h = output-steady source list line m go h
-  step-steady continuing line m go h = turn-steady line m (λ u. go m u) (h m)
-  step-steady s line m go h = h m
+  picked-fair : (s : Scope) (e : ExprTree) (pick : Value → Next) (line : ℕ) (m : Map) (go : Ways) → FairWays go → Fair (λ t. picked_by s e pick line m t go)
+  picked-fair s e pick line m go h =
+      turn-fair line m (λ u. with_ok (value s e m) line m (λ v. go (pick v) m u)) (with_ok-fair (value s e m) line m (λ v u. go (pick v) m u) (λ v. h (pick v) m))
 
-fold_trips-steady : (f : Meaning) (line : ℕ) (variable : List ℕ) (by : ℤ) (range : Members) → SteadyMeaning f → (is : List ℤ) (m : Map) → Steady (λ t. fold_trips f line variable by range is m t)
+  simple-fair : (s : ShapeTree) (line : ℕ) (m : Map) (go : Ways) → FairWays go → Fair (λ t. simple program s line m t go)
+  simple-fair (assignment target es e) line m go h =
+      unless_defined-fair (defined_by (scope_of program).arrays (assignment target es e)) (λ t. assigned (scope_of program) target es e line m t (go onward)) (λ t. go onward m t) (assigned-fair (scope_of program) target es e line m (go onward) (h onward)) (h onward m)
+  simple-fair (writing control list) line m go h = output-fair control.source list line m (go onward) (h onward)
+  simple-fair (printing source list) line m go h = output-fair source list line m (go onward) (h onward)
+  simple-fair continuing line m go h = turn-fair line m (λ u. go onward m u) (h onward m)
+  simple-fair (going label) line m go h = turn-fair line m (λ u. go (at_label (number_of label)) m u) (h (at_label (number_of label)) m)
+  simple-fair (computed_going labels comma e) line m go h =
+      picked-fair (scope_of program) e (λ v. by_count labels (as_integer v)) line m go h
+  simple-fair (arithmetic_if e a b c) line m go h = picked-fair (scope_of program) e (λ v. by_sign a b c (as_integer v)) line m go h
+  simple-fair (stopping text) line m go h = turn-fair line m (λ u. ended_by (stopped line) m) (ended_by-fair (stopped line) m)
+  simple-fair s line m go h = h onward m
+
+  step-fair : (s : ShapeTree) (line : ℕ) (m : Map) (go : Ways) → FairWays go → Fair (λ t. step program s line m t go)
+  step-fair (logical_if e s) line m go h =
+      let r = value (scope_of program) e m in
+      turn-fair line m (λ u. with_ok r line m (λ v. if as_logical v then simple program s line m u go else go onward m u)) (with_ok-fair r line m (λ v u. if as_logical v then simple program s line m u go else go onward m u) (λ v. if-fair (as_logical v) (λ u. simple program s line m u go) (λ u. go onward m u) (simple-fair s line m go h) (h onward m)))
+  step-fair s line m go h = simple-fair s line m go h
+
+-- ---- DO statements and block IFs
+
+pub fold_trips-fair : (f : Meaning) (line : ℕ) (variable : List ℕ) (by : ℤ) (range : Members) → FairMeaning f → (is : List ℤ) (m : Map) → Fair (λ t. fold_trips f line variable by range is m t)
 unfolding fold_trips
-fold_trips-steady f line variable by range steady [] m t u le h = refl
-fold_trips-steady f line variable by range steady (i ∷ is) m t u le h =
-    run_on-steady (λ t. f range range m t) (λ n u. added line variable by n (λ k. fold_trips f line variable by range is k u)) (steady range range m) (λ n. with_ok-steady (integer (n variable [] +ℤ by)) line n (λ v u. fold_trips f line variable by range is (put n variable [] (as_integer v)) u) (λ v. fold_trips-steady f line variable by range steady is (put n variable [] (as_integer v)))) t u le h
+fold_trips-fair f line variable by range fair [] m = ended_by-fair normal m
+fold_trips-fair f line variable by range fair (i ∷ is) m =
+    goes_on-fair (λ n u. added line variable by n (λ k. fold_trips f line variable by range is k u)) (λ n. with_ok-fair (integer (n variable [] +ℤ by)) line n (λ v u. fold_trips f line variable by range is (put n variable [] (as_integer v)) u) (λ v. fold_trips-fair f line variable by range fair is (put n variable [] (as_integer v)))) (λ t. f range range m t) (fair range range m)
 
-looped-steady : (scope : Scope) (f : Meaning) → SteadyMeaning f → (s : ShapeTree) (line : ℕ) (range : Members) (m : Map) (go : Follow) → SteadyFollow go → Steady (λ t. looped scope f s line range m t go)
-unfolding looped
-looped-steady scope f steady (doing label comma variable limits) line range m go h =
-    turn-steady line m (λ u. with_ok (span_of scope limits m) line m (λ s. goes_on (trips_from f line variable range m u s) u go)) (with_ok-steady (span_of scope limits m) line m (λ s u. goes_on (trips_from f line variable range m u s) u go) (λ s. run_on-steady (λ u. trips_from f line variable range m u s) go (fold_trips-steady f line variable s.step range steady (trips s.first s.last s.step) (put m variable [] s.first)) h))
-looped-steady scope f steady s line range m go h = h m
+module _ (scope : Scope) (f : Meaning) (fair : FairMeaning f) where
+  looped-fair : (s : ShapeTree) (line : ℕ) (range : Members) (m : Map) (go : Ways) → FairWays go → Fair (λ t. looped scope f s line range m t go)
+  unfolding looped
+  looped-fair (doing label comma variable limits) line range m go h =
+      turn-fair line m (λ u. with_ok (span_of scope limits m) line m (λ s. leads_on (trips_from f line variable range m u s) u go)) (with_ok-fair (span_of scope limits m) line m (λ s u. leads_on (trips_from f line variable range m u s) u go) (λ s. leads_on-fair go h (λ u. trips_from f line variable range m u s) (fold_trips-fair f line variable s.step range fair (trips s.first s.last s.step) (put m variable [] s.first))))
+  looped-fair s line range m go h = h onward m
 
-pass_over-steady : (program : List ItemTree) (f : Meaning) → SteadyMeaning f → SteadyMeaning (pass_over program f)
+  arms_from-fair : (first : Bool) (arms : Arms) (m : Map) (go : Ways) → FairWays go → Fair (λ t. arms_from scope f first arms m t go)
+  unfolding arms_from tested
+  arms_from-fair first no_arms m go h = h onward m
+  arms_from-fair first (arm x body arms) m go h =
+      let c = holds scope (condition_of x.shape) m in
+      turn_if-fair _ x.line m (λ u. with_ok c x.line m (λ b. if b then leads_on (f body body m u) u go else arms_from scope f false arms m u go)) (with_ok-fair c x.line m (λ b u. if b then leads_on (f body body m u) u go else arms_from scope f false arms m u go) (λ b. if-fair b (λ u. leads_on (f body body m u) u go) (λ u. arms_from scope f false arms m u go) (leads_on-fair go h (λ u. f body body m u) (fair body body m)) (arms_from-fair false arms m go h)))
+
+  -- ---- lists
+
+  goes_at-fair : (all : Members) (rest : Option Members) (s : ℕ) → FairFollow (goes_at f all rest s)
+  goes_at-fair all (Some rest) s n = fair all rest n
+  goes_at-fair all None s n = ended_by-fair (jump s) n
+
+  ways-fair : (all : Members) (go : Follow) → FairFollow go → FairWays (ways_in f all go)
+  ways-fair all go h onward n = h n
+  ways-fair all go h (at_label s) n = goes_at-fair all (labelled s all) s n
+
+pass_over-fair : (program : List ItemTree) (f : Meaning) → FairMeaning f → FairMeaning (pass_over program f)
 unfolding pass_over
-pass_over-steady program f steady all none m t u le h = refl
-pass_over-steady program f steady all (plain x ms) m t u le h =
-    step-steady program x.shape x.line m (λ n u. pass_over program f all ms n u) (λ n. pass_over-steady program f steady all ms n) t u le h
-pass_over-steady program f steady all (loop x range ms) m t u le h =
-    looped-steady (scope_of program) f steady x.shape x.line range m (λ n u. pass_over program f all ms n u) (λ n. pass_over-steady program f steady all ms n) t u le h
-pass_over-steady program f steady all (block arms x ms) m t u le h = pass_over-steady program f steady all ms m t u le h
+pass_over-fair program f fair all none m = ended_by-fair normal m
+pass_over-fair program f fair all (plain x ms) m =
+    step-fair program x.shape x.line m _ (ways-fair (scope_of program) f fair all (λ n u. pass_over program f all ms n u) (λ n. pass_over-fair program f fair all ms n))
+pass_over-fair program f fair all (loop x range ms) m =
+    looped-fair (scope_of program) f fair x.shape x.line range m _ (ways-fair (scope_of program) f fair all (λ n u. pass_over program f all ms n u) (λ n. pass_over-fair program f fair all ms n))
+pass_over-fair program f fair all (block arms x ms) m =
+    arms_from-fair (scope_of program) f fair true arms m _ (ways-fair (scope_of program) f fair all (λ n u. pass_over program f all ms n u) (λ n. pass_over-fair program f fair all ms n))
 
-fuelled-steady : (program : List ItemTree) (n : ℕ) → SteadyMeaning (fuelled program n)
+fuelled-fair : (program : List ItemTree) (n : ℕ) → FairMeaning (fuelled program n)
 unfolding fuelled
-fuelled-steady program zero all rest m t u le h = refl
-fuelled-steady program (suc n) all rest m t u le h = pass_over-steady program (fuelled program n) (fuelled-steady program n) all rest m t u le h
+fuelled-fair program zero all rest m = ended_by-fair normal m
+fuelled-fair program (suc n) all rest m = pass_over-fair program (fuelled program n) (fuelled-fair program n) all rest m
 
 module _ (program : List ItemTree) (all rest : Members) (m : Map) where
+  exec-spares : (t : ℕ) → (exec program all rest m t).used ≤ t
+  unfolding exec
+  exec-spares t = (fuelled-fair program (suc t) all rest m).spares t
+
   -- both runs with the greater fuel
-  pub exec-steady : (t u : ℕ) → t ≤ u → met_limit (exec program all rest m t).outcome ≡ false → exec program all rest m u ≡ exec program all rest m t
+  exec-steady : (t u : ℕ) → t ≤ u → met_limit (exec program all rest m t).outcome ≡ false → exec program all rest m u ≡ exec program all rest m t
   unfolding exec
   exec-steady t u le h =
       let e = exec-fuelled program (suc u) all rest m t (omega arith) in
-      fuelled-steady program (suc u) all rest m t u le (ap (λ (r : Ran). met_limit r.outcome) e ∙ h) ∙ e
+      (fuelled-fair program (suc u) all rest m).steady t u le (ap (λ (r : Ran). met_limit r.outcome) e ∙ h) ∙ e
+
+  exec-frugal : (t u : ℕ) → t ≤ u → (exec program all rest m u).used ≤ t → met_limit (exec program all rest m u).outcome ≡ false → exec program all rest m t ≡ exec program all rest m u
+  unfolding exec
+  exec-frugal t u le used h =
+      sym (exec-fuelled program (suc u) all rest m t (omega arith)) ∙ (fuelled-fair program (suc u) all rest m).frugal t u le used h
+
+pub exec-fair : (program : List ItemTree) → FairMeaning (exec program)
+exec-fair program all rest m =
+    record { spares = exec-spares program all rest m; steady = exec-steady program all rest m; frugal = exec-frugal program all rest m }
 
 -- ---- trips one after another
 
@@ -222,6 +323,8 @@ goes_on_by-more : (o : Outcome) (ps : List (List ℕ)) (n : ℕ) (r : Ran) (t : 
 unfolding more
 goes_on_by-more normal ps n r t go =
     ap (λ u. more (ps ++ r.pieces) (n + r.used) (go r.map u)) (sub-add t n r.used) ∙ sym (more-more ps r.pieces n r.used (go r.map ((t - n) - r.used)))
+goes_on_by-more (jump s) ps n r t go = refl
+goes_on_by-more (stopped line) ps n r t go = refl
 goes_on_by-more (fault k line) ps n r t go = refl
 
 goes_on-more : (ps : List (List ℕ)) (n : ℕ) (r : Ran) (t : ℕ) (go : Follow) → goes_on (more ps n r) t go ≡ more ps n (goes_on r (t - n) go)
@@ -231,6 +334,8 @@ goes_on-more ps n r t go = ap (λ o. goes_on_by o (more ps n r) t go) (more-outc
 goes_on_by-goes_on : (o : Outcome) (r : Ran) (t : ℕ) (go on : Follow) → r.outcome ≡ o → goes_on (goes_on_by o r t go) t on ≡ goes_on_by o r t (λ n u. goes_on (go n u) u on)
 unfolding goes_on
 goes_on_by-goes_on normal r t go on e = goes_on-more r.pieces r.used (go r.map (t - r.used)) t on
+goes_on_by-goes_on (jump s) r t go on e = ap (λ o. goes_on_by o r t on) e
+goes_on_by-goes_on (stopped line) r t go on e = ap (λ o. goes_on_by o r t on) e
 goes_on_by-goes_on (fault k line) r t go on e = ap (λ o. goes_on_by o r t on) e
 
 goes_on-goes_on : (r : Ran) (t : ℕ) (go on : Follow) → goes_on (goes_on r t go) t on ≡ goes_on r t (λ n u. goes_on (go n u) u on)
@@ -245,9 +350,6 @@ with_ok-goes_on (Err k) line m t go on = refl
 goes_on-ended : (m : Map) (t : ℕ) (go : Follow) → go m t ≡ goes_on (ended m) t go
 unfolding goes_on
 goes_on-ended m t go = more-none (go m t) ∙ ap (λ u. more [] 0 (go m u)) (less-none t)
-  where
-    less-none : (t : ℕ) → t ≡ t - 0
-    less-none t = omega arith
 
 module _ (f : Meaning) (line : ℕ) (variable : List ℕ) (by : ℤ) (range : Members) (js : List ℤ) where
   abbrev then_others : Follow

@@ -12,7 +12,6 @@ pub mod Reading
 pub mod Nesting
 pub mod RuleTold
 pub mod Rules
-pub mod Unrun
 pub mod Maps
 pub mod Types
 pub mod Values
@@ -33,6 +32,7 @@ pub mod Formats
 pub mod FormatLaws
 pub mod Execution
 pub mod Turns
+pub mod Plans
 pub mod Answers
 pub mod Promise
 pub mod Reports

@@ -1,7 +1,7 @@
 -- The number of a rule in its phase. Of two rules broken at one line the lesser is told.
 use Rattle.std.specs.Prelude.{ℕ}
 use Rattle.meaning.specs.declared.refusal.Rule.{Rule}
-use Rattle.meaning.specs.declared.refusal.Rule.TheVariants.{C1, C2, C3, C4, C5, C6, C7, G1, G2, G3, N1, N2, N3, N4, N5, K0, K1, K2, K3, K4, K5, K6, K7, K8, K9, K10, K11, K12, K13}
+use Rattle.meaning.specs.declared.refusal.Rule.TheVariants.{C1, C2, C3, C4, C5, C6, C7, G1, G2, G3, N1, N2, N3, N4, N5, K1, K2, K3, K4, K5, K6, K7, K8, K9, K10, K11, K12, K13}
 
 abbrev pub rank_of : Rule → ℕ
 rank_of C1 = 1
@@ -19,7 +19,6 @@ rank_of N2 = 2
 rank_of N3 = 3
 rank_of N4 = 4
 rank_of N5 = 5
-rank_of K0 = 0
 rank_of K1 = 1
 rank_of K2 = 2
 rank_of K3 = 3

@@ -1,7 +1,12 @@
 //! Values, faults and how a run ends.
 
+ghost use Rattle.std.specs.Prelude.{◌≡◌, bytes_eq};
+ghost use Rattle.std.specs.Cmp.{partial_equiv_from_equiv};
+ghost use Rattle.std.specs.Cmp.Lexicographic.{nat_list_eq_equiv};
+
 use crate::refusal::Rule;
 use std::fmt;
+use std::marker::Model;
 
 /// A value of an expression.
 #[derive(Clone, Copy, Debug, PartialEq, Eq)]
@@ -56,11 +61,78 @@ pub struct Fault {
     pub line: u32,
 }
 
-/// How a run ends.
+/// How the statements of a list, or one of them, end.
 #[derive(Clone, Copy, Debug, PartialEq, Eq)]
+pub enum Outcome {
+    /// Normally: execution goes on behind them (ANSI X3.9-1978, 11.1).
+    Normal,
+    /// By a transfer of control to the statement with this label, which isn't one of the list (11.1 to 11.4).
+    Left(u32),
+    /// By the STOP statement at this line (11.12).
+    Stopped(u32),
+    /// By a fault.
+    Fault(Fault),
+}
+
+/// How a run of statements ended, and how many turns it used.
+#[derive(Clone, Copy, Debug, PartialEq, Eq)]
+pub struct Run {
+    pub outcome: Outcome,
+    pub turns_used: u64,
+}
+
+/// What a STOP statement tells (ANSI X3.9-1978, 11.12): its digits as they were written, or the characters of its character
+/// constant. It is empty where the statement has neither.
+#[derive(Drop, Debug)]
+pub struct StopMessage {
+    text: Vec<u8>,
+}
+
+impl Model for StopMessage {
+    ghost use Rattle.std.specs.Prelude.{ℕ, List};
+
+    ghost Value = { List ℕ };
+
+    ghost view = { λ s. s.text.items };
+}
+
+impl StopMessage {
+    /// The message with these characters.
+    pub fn new(text: Vec<u8>) -> Self
+        ensures { result ≡ text.items }
+    {
+        StopMessage { text }
+    }
+
+    /// Its characters.
+    pub fn text(&self) -> &[u8]
+        ensures { result.now ≡ self.now }
+    {
+        &self.text
+    }
+}
+
+impl PartialEq for StopMessage {
+    ghost eq = { bytes_eq };
+
+    ghost laws = { partial_equiv_from_equiv nat_list_eq_equiv };
+
+    fn eq(&self, other: &Self) -> bool {
+        self.text == other.text
+    }
+}
+
+impl Eq for StopMessage {
+    ghost laws = { nat_list_eq_equiv };
+}
+
+/// How a run ends.
+#[derive(Drop, Debug, PartialEq, Eq)]
 pub enum Ending {
     /// END was reached.
     Ended,
+    /// A STOP statement was executed.
+    Stopped(StopMessage),
     /// A statement faulted.
     Fault(Fault),
     /// The source broke a rule, and nothing of it was executed.

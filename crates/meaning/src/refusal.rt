@@ -42,8 +42,6 @@ pub enum Rule {
     N4,
     /// A DO or block IF that would be the 33rd open one.
     N5,
-    /// A statement that isn't run yet.
-    K0,
     /// A statement label that an earlier statement has.
     K1,
     /// A transfer to a label that no statement has, or that none may be reached by.
@@ -78,7 +76,6 @@ impl Rule {
         ensures { result ≡ rank_of self }
     {
         match self {
-            Rule::K0 => 0,
             Rule::C1 | Rule::G1 | Rule::N1 | Rule::K1 => 1,
             Rule::C2 | Rule::G2 | Rule::N2 | Rule::K2 => 2,
             Rule::C3 | Rule::G3 | Rule::N3 | Rule::K3 => 3,
@@ -114,7 +111,6 @@ impl fmt::Display for Rule {
             Rule::N3 => "N3",
             Rule::N4 => "N4",
             Rule::N5 => "N5",
-            Rule::K0 => "K0",
             Rule::K1 => "K1",
             Rule::K2 => "K2",
             Rule::K3 => "K3",

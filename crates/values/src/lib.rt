@@ -2,21 +2,20 @@
 //! chapter 15).
 #![tactic(auto)]
 
-ghost use Rattle.std.specs.Prelude.{◌≡◌, false, IfOk};
-ghost use Rattle.meaning.specs.Lists.{listed, list_limit};
+ghost use Rattle.std.specs.Prelude.{◌≡◌, IfOk};
+ghost use Rattle.meaning.specs.Lists.{item_value};
 ghost use Rattle.meaning.specs.Stores.{IsLater, Reads};
-ghost use Rattle.meaning.specs.Syntax.{expr_tree, list_items_tree};
-ghost use Rattle.meaning.specs.Unrun.{has_loop};
+ghost use Rattle.meaning.specs.Syntax.{expr_tree};
 ghost use Rattle.meaning.specs.Values.{value as value_of};
-ghost use Rattle.expressions.specs.Listed.{Listed};
+ghost use Rattle.expressions.specs.Listed.{AddsItem};
 ghost use Rattle.checker.specs.Checked.{count_in};
 ghost use Rattle.values.specs.Programs.{map_at, scope_in};
 
 use array_store::Store;
 use checker::Program;
 use meaning::ending::{FaultKind, Value};
-use meaning::syntax::{Expr, ListItems};
-use std::alloc::{AllocError, Global};
+use meaning::syntax::Expr;
+use std::alloc::AllocError;
 
 /// The value of an expression, or its leftmost fault: F1 where a divisor is zero, F2 where a result leaves the range of
 /// INTEGER, F3 where a subscript is outside its bounds, F6 where zero has an exponent of zero or less.
@@ -32,19 +31,22 @@ pub fn value<S: Store>(
     expressions::value(expression, program, store)
 }
 
-/// The values of a list without implied DOs, first to last, a whole array as its elements in their order; or the leftmost
-/// fault, F8 where an item follows 65,536. The `AllocError` comes where a growth was refused.
-pub fn values<S: Store>(
-    alloc: Global,
+/// Puts the value of an item of an output list behind those found before, or the elements of a whole array in their order.
+/// `room` is how many items may follow, and is lessened by as many; the fault is that of the expression, or F8 where there is
+/// no room. The `AllocError` comes where a growth was refused.
+pub fn add_item<S: Store>(
+    found: &mut Vec<Value>,
+    room: &mut usize,
     program: &Program,
-    list: &ListItems,
+    item: &Expr,
     store: &mut S,
-) -> Result<Result<Vec<Value>, FaultKind>, AllocError>
+) -> Result<Result<(), FaultKind>, AllocError>
     requires sized { (S.world store.old).cells ≡ count_in program.now }
-    requires plain { has_loop (list_items_tree list.now) ≡ false }
-    ensures reads { IfOk result (λ r. Reads (S.world store.old) (S.world store.new) (λ m. Listed r (map_at program.now m) (listed (scope_in program.now) (list_items_tree list.now) (map_at program.now m) list_limit))) }
+    ensures reads { IfOk result (AddsItem (S.world store.old) (S.world store.new)
+        (λ m. item_value (scope_in program.now) (expr_tree item.now) (map_at program.now m) room.old)
+        (map_at program.now) found.old.items found.new.items room.new) }
     ensures later { IsLater (S.world store.old) (S.world store.new) }
     ensures unwritten { (S.world store.new).written ≡ (S.world store.old).written }
 {
-    expressions::values(alloc, list, program, store)
+    expressions::add_item(found, room, item, program, store)
 }

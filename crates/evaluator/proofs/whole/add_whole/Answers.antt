@@ -1,4 +1,4 @@
-use Rattle.std.proofs.Common.{ℕ, subst, to_z, of_z}
+use Rattle.std.proofs.Common.{subst, to_z, of_z}
 use Rattle.std.specs.Int.{w32}
 use Rattle.std.proofs.lemmas.Int.{to_z-of_z}
 use Rattle.checker.specs.Starts.{map_of}
@@ -8,6 +8,6 @@ use Rattle.evaluator.proofs.Wholes.{does_whole}
 use Rattle.evaluator.proofs.whole.add_whole.Goals as goal
 
 pub returns-in-Ok-clause-adds : goal.returns-in-Ok-clause-adds
-returns-in-Ok-clause-adds c = λ line.
+returns-in-Ok-clause-adds c =
     let p = c.args.program.now in
-    subst (λ by. Adds line c.args.name.now by (map_of p c.args.cells.now) (map_of p c.add_to.new.store) c.in-Ok.outcome) (to_z-of_z w32 c.args.by c.ranges.by) (does_whole c.args.cells.now c.add_to.new.store (λ m k. (l : ℕ) → Adds l c.args.name.now (to_z w32 (of_z w32 c.args.by)) (map_at p m) (map_at p k) c.in-Ok.outcome) c.in-Ok.ensures.does line)
+    subst (λ by. Adds c.args.name.now by (map_of p c.args.cells.now) (map_of p c.add_to.new.store) c.in-Ok.outcome) (to_z-of_z w32 c.args.by c.ranges.by) (does_whole c.args.cells.now c.add_to.new.store (λ m k. Adds c.args.name.now (to_z w32 (of_z w32 c.args.by)) (map_at p m) (map_at p k) c.in-Ok.outcome) c.in-Ok.ensures.does)

@@ -1,8 +1,7 @@
 use Rattle.meaning.specs.Execution.{step}
 use Rattle.meaning.specs.Syntax.{shape_tree}
 use Rattle.checker.specs.Checked.{items_in}
-use Rattle.values.specs.Programs.{map_at}
-use Rattle.evaluator.specs.Statements.{Moves}
+use Rattle.evaluator.specs.Over.{MovesAt}
 use Rattle.evaluator.proofs.Wholes.{does_whole}
 use Rattle.evaluator.proofs.whole.item_whole.Goals as goal
 
@@ -10,4 +9,4 @@ pub returns-in-Ok-clause-moves : goal.returns-in-Ok-clause-moves
 returns-in-Ok-clause-moves c =
     let p = c.args.program.now in
     let y = c.run_item in
-    does_whole c.args.cells.now y.new.store (λ m n. Moves (λ go. step (items_in p) (shape_tree c.args.item.now.form.shape) c.args.item.now.line (map_at p m) c.args.turns.now go) c.args.turns.now (map_at p n) y.new.turns c.in-Ok.outcome) c.in-Ok.ensures.does
+    does_whole c.args.cells.now y.new.store (MovesAt p (step (items_in p) (shape_tree c.args.item.now.form.shape) c.args.item.now.line) c.args.turns.now y.new.turns c.in-Ok.outcome) c.in-Ok.ensures.does

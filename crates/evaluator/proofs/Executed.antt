@@ -1,0 +1,246 @@
+-- One statement that takes a turn.
+use Rattle.std.proofs.Common.{◌≡◌, ℕ, ℤ, suc, ◌+◌, ◌+ℤ◌, ◌||◌, Bool, true, false, if◌then◌else◌, List, [], Option, Some, None, Result, Ok, Err, refl, sym, ap, ◌∙◌, subst, arith}
+use Rattle.std.specs.Prelude.{not, IsSome, IsTrue, is_some}
+use Rattle.std.proofs.lemmas.Bool.{false≢true}
+use Rattle.meaning.specs.declared.ending.FaultKind.{FaultKind}
+use Rattle.meaning.specs.declared.ending.FaultKind.TheVariants.{F4}
+use Rattle.meaning.specs.declared.ending.Value.{Value}
+use Rattle.meaning.specs.declared.ending.Outcome.{Outcome}
+use Rattle.meaning.specs.declared.ending.Outcome.TheVariants as outcomes
+use Rattle.meaning.specs.declared.syntax.Shape.{Shape}
+use Rattle.meaning.specs.declared.syntax.Shape.TheVariants as shapes
+use Rattle.meaning.specs.Characters.{number_of}
+use Rattle.meaning.specs.Scopes.{Definition, defined_by, scope_of}
+use Rattle.meaning.specs.Syntax.{ExprTree, ExprsTree, ShapeTree, StopTree, ItemTree, assignment, continuing, going, stopping, logical_if, shape_tree}
+use Rattle.meaning.specs.Maps.{Map, put}
+use Rattle.meaning.specs.Values.{Scope, dimensions_in, subscripts, value, as_integer, as_logical, integer, and_then}
+use Rattle.meaning.specs.Execution.{Ran, more, Ways, onward, at_label, turn, with_ok, failed, added, assigned, unless_defined, simple, step, condition_of, truth_of, holds, turn_if, tested}
+use Rattle.meaning.proofs.Running.{more-none}
+use Rattle.evaluator.specs.Quiet.{writes, is_logical_if}
+use Rattle.evaluator.specs.Statements.{Puts, Sums, target_and_value, Leaves, Passes, Moves, Tests}
+use Rattle.evaluator.proofs.Composed.{moves_behind, moves_same}
+
+abbrev pub fault_at : FaultKind → ℕ → Outcome
+fault_at k line = outcomes.Fault (record { kind = k; line = line })
+
+pub one_less : (t u : ℕ) → t ≡ suc u → 1 + u ≡ t
+one_less t u e = omega arith
+
+module _ (line : ℕ) (m : Map) where
+  -- no turn is left
+  pub turn_none : (t u : ℕ) (does : ℕ → Ran) → t ≡ 0 → u ≡ 0 → Leaves (turn line m t does) t m u (fault_at F4 line)
+  unfolding turn
+  turn_none t u does e f =
+      subst (λ n. Leaves (turn line m n does) t m u (fault_at F4 line)) (sym e) (record { outcome = refl; after = refl; nothing = refl; turns = omega arith })
+
+  -- a turn is taken
+  pub turn_some : (t u : ℕ) (does : ℕ → Ran) → t ≡ suc u → turn line m t does ≡ more [] 1 (does u)
+  unfolding turn
+  turn_some t u does e = ap (λ n. turn line m n does) e
+
+  pub turn_goes : {A : Type 0} (t u : ℕ) (r : Result A FaultKind) (x : A) (does : A → ℕ → Ran) → t ≡ suc u → r ≡ Ok x → turn line m t (λ n. with_ok r line m (λ y. does y n)) ≡ more [] 1 (does x u)
+  unfolding with_ok
+  turn_goes t u r x does e h =
+      turn_some t u (λ n. with_ok r line m (λ y. does y n)) e ∙ ap (λ s. more [] 1 (with_ok s line m (λ y. does y u))) h
+
+  failed-behind : (t u : ℕ) (k : FaultKind) → t ≡ suc u → Leaves (more [] 1 (failed k line m)) t m u (fault_at k line)
+  unfolding more
+  failed-behind t u k e = record { outcome = refl; after = refl; nothing = refl; turns = omega arith }
+
+  pub turn_fails : {A : Type 0} (t u : ℕ) (r : Result A FaultKind) (k : FaultKind) (does : A → ℕ → Ran) → t ≡ suc u → r ≡ Err k → Leaves (turn line m t (λ n. with_ok r line m (λ y. does y n))) t m u (fault_at k line)
+  unfolding with_ok
+  turn_fails t u r k does e h =
+      subst (λ s. Leaves s t m u (fault_at k line)) (sym (turn_some t u (λ n. with_ok r line m (λ y. does y n)) e ∙ ap (λ s. more [] 1 (with_ok s line m (λ y. does y u))) h)) (failed-behind t u k e)
+
+-- ---- an assignment
+
+with_ok-parts : {A B : Type 0} (r : Result A FaultKind) (q : Result B FaultKind) (line : ℕ) (m : Map) (go : A → B → Ran) → with_ok r line m (λ x. with_ok q line m (λ y. go x y)) ≡ with_ok {A = A × B} (and_then r (λ x. and_then q (λ y. Ok (x, y)))) line m (λ p. go p.0 p.1)
+unfolding with_ok and_then
+with_ok-parts (Ok x) (Ok y) line m go = refl
+with_ok-parts (Ok x) (Err k) line m go = refl
+with_ok-parts (Err k) q line m go = refl
+
+module _ (scope : Scope) (n : List ℕ) (es : ExprsTree) (e : ExprTree) (line t : ℕ) (m : Map) where
+  abbrev parts : Result (List ℤ × Value) FaultKind
+  parts = target_and_value scope n es e m
+
+  abbrev puts_them : Ways → List ℤ × Value → ℕ → Ran
+  puts_them go p u = go onward (put m n p.0 (as_integer p.1)) u
+
+  abbrev pub assignment_does : Ways → Ran
+  assignment_does go = assigned scope n es e line m t (go onward)
+
+  assigns : (go : Ways) → assignment_does go ≡ turn line m t (λ u. with_ok parts line m (λ p. puts_them go p u))
+  assigns go = λ i. turn line m t (λ u. with_ok-parts (subscripts scope (dimensions_in (scope.arrays n)) es m) (value scope e m) line m (λ ss v. go onward (put m n ss (as_integer v)) u) i)
+
+  moved : (new : Map) (u : ℕ) → t ≡ suc u → Puts scope n es e m new → (go : Ways) → assignment_does go ≡ more [] 1 (go onward new u)
+  moved new u taken puts go =
+      assigns go ∙ turn_goes line m t u parts puts.given (λ p k. puts_them go p k) taken puts.is ∙ ap (λ x. more [] 1 (go onward x u)) (sym puts.after)
+
+  along : (u : ℕ) (o : Outcome) (go : Ways) → Leaves (turn line m t (λ k. with_ok parts line m (λ p. puts_them go p k))) t m u o → Leaves (assignment_does go) t m u o
+  along u o go x = subst (λ r. Leaves r t m u o) (sym (assigns go)) x
+
+  pub unexecuted : (u : ℕ) → t ≡ 0 → u ≡ 0 → Moves assignment_does t m u (fault_at F4 line)
+  unexecuted u none left go = along u (fault_at F4 line) go (turn_none line m t u (λ k. with_ok parts line m (λ p. puts_them go p k)) none left)
+
+  pub assign_moves : (new : Map) (u : ℕ) → t ≡ suc u → Puts scope n es e m new → Moves assignment_does t new u outcomes.Normal
+  assign_moves new u taken puts = record { used = 1; is = moved new u taken puts; turns = one_less t u taken }
+
+  pub assign_faults : (new : Map) (u : ℕ) (k : FaultKind) → t ≡ suc u → (parts ≡ Err k) × (new ≡ m) → Moves assignment_does t new u (fault_at k line)
+  assign_faults new u k taken h go =
+      subst (λ x. Leaves (assignment_does go) t x u (fault_at k line)) (sym h.1) (along u (fault_at k line) go (turn_fails line m t u parts k (λ p i. puts_them go p i) taken h.0))
+
+-- one that defines no statement function
+pub assignment_moves : (all : List ItemTree) (n : List ℕ) (es : ExprsTree) (e : ExprTree) (line : ℕ) (old new : Map) (t u : ℕ) (o : Outcome) → defined_by (scope_of all).arrays (assignment n es e) ≡ None → Moves (assignment_does (scope_of all) n es e line t old) t new u o → Moves (λ go. simple all (assignment n es e) line old t go) t new u o
+assignment_moves all n es e line old new t u o none h =
+    moves_same (assignment_does (scope_of all) n es e line t old) (λ go. simple all (assignment n es e) line old t go) t new u o (λ go. ap (λ d. unless_defined d (assigned (scope_of all) n es e line old t (go onward)) (go onward old t)) none) h
+
+-- ---- an addition to a DO variable
+
+pub added_goes : (line : ℕ) (n : List ℕ) (by : ℤ) (m new : Map) → Sums n by m new → (go : Map → Ran) → added line n by m go ≡ go new
+unfolding with_ok
+added_goes line n by m new s go =
+    ap (λ r. with_ok r line m (λ v. go (put m n [] (as_integer v)))) s.is ∙ ap go (sym s.after)
+
+pub added_fails : (line : ℕ) (n : List ℕ) (by : ℤ) (m : Map) (k : FaultKind) → integer (m n [] +ℤ by) ≡ Err k → (go : Map → Ran) → added line n by m go ≡ failed k line m
+unfolding with_ok
+added_fails line n by m k is go = ap (λ r. with_ok r line m (λ v. go (put m n [] (as_integer v)))) is
+
+-- ---- other statements
+
+-- a statement that isn't executable
+pub passes_over : (m : Map) (t : ℕ) → Passes (λ go. go onward m t) t onward m t
+passes_over m t = record { used = 0; is = λ go. more-none (go onward m t); turns = omega arith }
+
+-- a statement function's statement
+passed_by : (d : Option Definition) (r passed : Ran) → IsSome d → unless_defined d r passed ≡ passed
+passed_by None r passed h = absurd (false≢true h)
+passed_by (Some d) r passed h = refl
+
+pub defines : (all : List ItemTree) (n : List ℕ) (es : ExprsTree) (e : ExprTree) (line : ℕ) → IsSome (defined_by (scope_of all).arrays (assignment n es e)) → (m : Map) (t : ℕ) → Passes (λ go. simple all (assignment n es e) line m t go) t onward m t
+defines all n es e line some m t =
+    record {
+      used = 0;
+      is = λ go. passed_by (defined_by (scope_of all).arrays (assignment n es e)) (assigned (scope_of all) n es e line m t (go onward)) (go onward m t) some ∙ more-none (go onward m t);
+      turns = omega arith;
+    }
+
+module _ (all : List ItemTree) (line : ℕ) (m : Map) (t u : ℕ) (taken : t ≡ suc u) where
+  pub continues : Passes (λ go. simple all continuing line m t go) t onward m u
+  continues = record { used = 1; is = λ go. turn_some line m t u (λ k. go onward m k) taken; turns = one_less t u taken }
+
+  pub goes_to : (label : List ℕ) (s : ℕ) → s ≡ number_of label → Passes (λ go. simple all (going label) line m t go) t (at_label s) m u
+  goes_to label s is =
+      record { used = 1; is = λ go. turn_some line m t u (λ k. go (at_label (number_of label)) m k) taken ∙ ap (λ n. more [] 1 (go (at_label n) m u)) (sym is); turns = one_less t u taken }
+
+  pub stops : (text : StopTree) → Moves (λ go. simple all (stopping text) line m t go) t m u (outcomes.Stopped line)
+  unfolding more
+  stops text go =
+      subst (λ r. Leaves r t m u (outcomes.Stopped line)) (sym (turn_some line m t u _ taken)) (record { outcome = refl; after = refl; nothing = refl; turns = omega arith })
+
+-- a statement that is written as its shape
+pub simple_as : (all : List ItemTree) (line : ℕ) (old new : Map) (t u : ℕ) (o : Outcome) (s shape : ShapeTree) → shape ≡ s → Moves (λ go. simple all s line old t go) t new u o → Moves (λ go. simple all shape line old t go) t new u o
+simple_as all line old new t u o s shape e h = subst (λ x. Moves (λ go. simple all x line old t go) t new u o) (sym e) h
+
+-- a statement that isn't executed
+pub idles : (all : List ItemTree) (line : ℕ) (s : Shape) → ((n : _) (es : _) (e : _) → s ≡ shapes.Assignment n es e → ⊥) → (s ≡ shapes.Continue → ⊥) → ((n : _) → s ≡ shapes.GoTo n → ⊥) → ((ls : _) (c : _) (e : _) → s ≡ shapes.ComputedGoTo ls c e → ⊥) → ((e : _) (x : _) (y : _) (z : _) → s ≡ shapes.ArithmeticIf e x y z → ⊥) → ((n : _) → s ≡ shapes.Stop n → ⊥) → IsTrue (not (writes (shape_tree s))) → (m : Map) (t : ℕ) → Passes (λ go. simple all (shape_tree s) line m t go) t onward m t
+idles all line (shapes.Assignment n es e) a b c d f h quiet m t = absurd (a n es e refl)
+idles all line shapes.Continue a b c d f h quiet m t = absurd (b refl)
+idles all line (shapes.GoTo n) a b c d f h quiet m t = absurd (c n refl)
+idles all line (shapes.ComputedGoTo labels comma e) a b c d f h quiet m t = absurd (d labels comma e refl)
+idles all line (shapes.ArithmeticIf e x y z) a b c d f h quiet m t = absurd (f e x y z refl)
+idles all line (shapes.Stop n) a b c d f h quiet m t = absurd (h n refl)
+idles all line (shapes.Write control list) a b c d f h quiet m t = absurd (false≢true quiet)
+idles all line (shapes.Print source list) a b c d f h quiet m t = absurd (false≢true quiet)
+idles all line s a b c d f h quiet m t = passes_over m t
+
+-- ---- a logical IF
+
+module _ (all : List ItemTree) (e : ExprTree) (s : ShapeTree) (line : ℕ) (m : Map) (t : ℕ) where
+  abbrev pick : Ways → Value → ℕ → Ran
+  pick go v u = if as_logical v then simple all s line m u go else go onward m u
+
+  abbrev whole : Ways → Ran
+  whole go = step all (logical_if e s) line m t go
+
+  pub if_unexecuted : (u : ℕ) → t ≡ 0 → u ≡ 0 → Moves whole t m u (fault_at F4 line)
+  if_unexecuted u none left go = turn_none line m t u (λ k. with_ok (value (scope_of all) e m) line m (λ v. pick go v k)) none left
+
+  module _ (u : ℕ) (taken : t ≡ suc u) where
+    pub if_fails : (k : FaultKind) → value (scope_of all) e m ≡ Err k → Moves whole t m u (fault_at k line)
+    if_fails k h go = turn_fails line m t u (value (scope_of all) e m) k (λ v n. pick go v n) taken h
+
+    module _ (v : Value) (is : value (scope_of all) e m ≡ Ok v) where
+      picked : (b : Bool) → b ≡ as_logical v → (go : Ways) → whole go ≡ more [] 1 (if b then simple all s line m u go else go onward m u)
+      picked b h go =
+          turn_goes line m t u (value (scope_of all) e m) v (λ x n. pick go x n) taken is ∙ ap (λ x. more [] 1 (if x then simple all s line m u go else go onward m u)) (sym h)
+
+      pub if_true : true ≡ as_logical v → (new : Map) (left : ℕ) (o : Outcome) → Moves (λ go. simple all s line m u go) u new left o → Moves whole t new left o
+      if_true h new left o x =
+          moves_behind whole (λ go. simple all s line m u go) t u new left o (record { used = 1; is = picked true h; turns = one_less t u taken }) x
+
+      pub if_false : false ≡ as_logical v → Passes whole t onward m u
+      if_false h = record { used = 1; is = picked false h; turns = one_less t u taken }
+
+-- what is no logical IF
+pub unless_logical : (all : List ItemTree) (s : ShapeTree) (line : ℕ) (m : Map) (t : ℕ) → IsTrue (not (is_logical_if s)) → (go : Ways) → step all s line m t go ≡ simple all s line m t go
+unless_logical all (logical_if e s) line m t h go = absurd (false≢true h)
+unless_logical all s line m t h go = refl
+
+-- a statement by its shape
+pub step_as : (all : List ItemTree) (line : ℕ) (old new : Map) (t u : ℕ) (o : Outcome) (s shape : ShapeTree) → shape ≡ s → Moves (λ go. step all s line old t go) t new u o → Moves (λ go. step all shape line old t go) t new u o
+step_as all line old new t u o s shape e h = subst (λ x. Moves (λ go. step all x line old t go) t new u o) (sym e) h
+
+-- ---- the test of an arm
+
+module _ (scope : Scope) (first : Bool) (x : ItemTree) (m : Map) (t : ℕ) where
+  abbrev does : (Bool → ℕ → Ran) → Ran
+  does go = tested scope first x m t go
+
+  or-some : (e : ExprTree) (c : Option ExprTree) → c ≡ Some e → first || is_some c ≡ true
+  or-some e c is = ap (λ o. first || is_some o) is ∙ or-true first
+    where
+      or-true : (b : Bool) → b || true ≡ true
+      or-true true = refl
+      or-true false = refl
+
+  module _ (e : ExprTree) (is : condition_of x.shape ≡ Some e) where
+    tests-if : (go : Bool → ℕ → Ran) → does go ≡ turn x.line m t (λ u. with_ok (truth_of (value scope e m)) x.line m (λ b. go b u))
+    unfolding tested
+    tests-if go =
+        ap (λ b. turn_if b x.line m t (λ u. with_ok (holds scope (condition_of x.shape) m) x.line m (λ b. go b u))) (or-some e (condition_of x.shape) is) ∙ ap (λ c. turn x.line m t (λ u. with_ok (holds scope c m) x.line m (λ b. go b u))) is
+
+    pub test_unexecuted : (u : ℕ) → t ≡ 0 → u ≡ 0 → Tests does t m u (Err (record { kind = F4; line = x.line }))
+    test_unexecuted u none left go =
+        subst (λ r. Leaves r t m u (fault_at F4 x.line)) (sym (tests-if go)) (turn_none x.line m t u _ none left)
+
+    module _ (u : ℕ) (taken : t ≡ suc u) where
+      pub test_fails : (k : FaultKind) → value scope e m ≡ Err k → Tests does t m u (Err (record { kind = k; line = x.line }))
+      test_fails k h go =
+          subst (λ r. Leaves r t m u (fault_at k x.line)) (sym (tests-if go)) (turn_fails x.line m t u (truth_of (value scope e m)) k (λ b n. go b n) taken (ap truth_of h))
+
+      pub test_tells : (v : Value) (b : Bool) → value scope e m ≡ Ok v → b ≡ as_logical v → Tests does t m u (Ok b)
+      test_tells v b h same =
+          record {
+            used = 1;
+            is = λ go. tests-if go ∙ turn_goes x.line m t u (truth_of (value scope e m)) (as_logical v) (λ b n. go b n) taken (ap truth_of h) ∙ ap (λ b. more [] 1 (go b u)) (sym same);
+            turns = one_less t u taken;
+          }
+
+  module _ (is : condition_of x.shape ≡ None) where
+    tests-else : (b : Bool) → first ≡ b → (go : Bool → ℕ → Ran) → does go ≡ turn_if (b || false) x.line m t (λ u. go true u)
+    unfolding tested with_ok
+    tests-else b f go =
+        ap (λ c. turn_if (first || is_some c) x.line m t (λ u. with_ok (holds scope c m) x.line m (λ b. go b u))) is ∙ ap (λ b. turn_if (b || false) x.line m t (λ u. go true u)) f
+
+    pub else_unexecuted : first ≡ true → (u : ℕ) → t ≡ 0 → u ≡ 0 → Tests does t m u (Err (record { kind = F4; line = x.line }))
+    else_unexecuted f u none left go =
+        subst (λ r. Leaves r t m u (fault_at F4 x.line)) (sym (tests-else true f go)) (turn_none x.line m t u _ none left)
+
+    pub else_first : first ≡ true → (u : ℕ) → t ≡ suc u → Tests does t m u (Ok true)
+    else_first f u taken =
+        record { used = 1; is = λ go. tests-else true f go ∙ turn_some x.line m t u (λ n. go true n) taken; turns = one_less t u taken }
+
+    pub else_further : first ≡ false → Tests does t m t (Ok true)
+    else_further f =
+        record { used = 0; is = λ go. tests-else false f go ∙ more-none (go true t); turns = omega arith }

@@ -1,0 +1,10 @@
+use Rattle.std.proofs.Common.{◌≡◌, length, drop}
+use Rattle.meaning.specs.Execution.{labelled}
+use Rattle.meaning.specs.Trees.{members_tree}
+use Rattle.evaluator.proofs.places.place_of.Given as goal
+
+abbrev pub invariant-loop-place : goal.invariant-loop-place
+invariant-loop-place l = record {
+  ends : l.place-end ≡ length l.members;
+  so_far : labelled l.label (members_tree (drop l.place l.members)) ≡ labelled l.label (members_tree l.members);
+}

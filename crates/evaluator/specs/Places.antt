@@ -1,0 +1,22 @@
+-- Where in a list a transfer of control goes on (ANSI X3.9-1978, 11.1 to 11.4).
+use Rattle.std.specs.Prelude.{ℕ, Bool, true, false, Option, Some, None}
+use Rattle.meaning.specs.declared.syntax.Member.{Member, Plain, Loop', Block}
+use Rattle.meaning.specs.declared.syntax.Block.{Block'}
+use Rattle.meaning.specs.Execution.{Next, onward, at_label, heads}
+use Rattle.meaning.specs.LabelRules.{has_label}
+use Rattle.meaning.specs.Trees.{item_tree, row_arms}
+
+abbrev pub at_if : Bool → ℕ → Option ℕ → Option ℕ
+at_if true n o = Some n
+at_if false n o = o
+
+-- how far behind the beginning of a member a transfer to a label goes on
+abbrev pub entry : ℕ → Member → Option ℕ
+entry s (Plain x) = at_if (has_label s (item_tree x)) 0 None
+entry s (Loop' head shape range) = at_if (has_label s (item_tree head)) 0 None
+entry s (Block (Block' shape arms end)) = at_if (heads s (row_arms arms)) 0 (at_if (has_label s (item_tree end)) 1 None)
+
+-- to a label, or onward where there is none
+abbrev pub next_of : Option ℕ → Next
+next_of None = onward
+next_of (Some s) = at_label s
