@@ -12,6 +12,7 @@ pub mod Elements
 pub mod Groups
 pub mod Readers
 pub mod RuleExamples
+mod ControlExamples
 mod NameExamples
 mod DataExamples
 pub mod Doubled

@@ -6,7 +6,7 @@ ghost use Rattle.meaning.specs.Arrays.{Dimension, Named, AreOneToOne, HaveOwnCel
 ghost use Rattle.meaning.specs.FormatLaws.{IsReadBack, MoreRepeatsChangeNothing};
 ghost use Rattle.meaning.specs.Lines.{StatementLine};
 ghost use Rattle.meaning.specs.Statements.{IsGrouped};
-ghost use Rattle.meaning.specs.Turns.{IsItsPass, UsesWhatIsGiven, MoreTurnsChangeNothing, TripsSplit};
+ghost use Rattle.meaning.specs.Turns.{IsItsPass, UsesWhatIsGiven, MoreTurnsChangeNothing, EnoughTurnsAreEnough, TripsAreBounded, TripsSplit};
 
 /// The lines of a source that are no comments are, in order, those with no initial line before them and then groups of an
 /// initial line and the continuation lines behind it.
@@ -28,6 +28,17 @@ pub fn turns_used_are_given()
 /// the turns that it uses.
 pub fn more_turns_change_nothing()
     ensures { MoreTurnsChangeNothing }
+{}
+
+/// A run that didn't meet the turn limit is the same with fewer turns, where it used no more than those.
+pub fn enough_turns_are_enough()
+    ensures { EnoughTurnsAreEnough }
+{}
+
+/// Turns do nothing to the trips of a DO but bound them: no more are used than are given, and trips that don't meet the
+/// limit are the same with more turns, and with fewer where they use no more than those.
+pub fn trips_are_bounded()
+    ensures { TripsAreBounded }
 {}
 
 /// The trips of two lists, one after another, are the trips of the first and then, after a normal end, those of the
