@@ -2,6 +2,8 @@ pub mod Least
 pub mod Ranges
 pub mod Running
 pub mod Limits
+pub mod Keeping
+pub mod Advancing
 pub mod Examples
 pub mod FormatExamples
 pub mod NestingExamples

@@ -32,6 +32,7 @@ pub mod Formats
 pub mod FormatLaws
 pub mod Execution
 pub mod Turns
+pub mod LoopLaws
 pub mod Plans
 pub mod Answers
 pub mod Promise

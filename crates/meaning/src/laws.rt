@@ -5,6 +5,7 @@ ghost use Rattle.std.specs.Prelude.{ℕ, List};
 ghost use Rattle.meaning.specs.Arrays.{Dimension, Named, AreOneToOne, HaveOwnCells};
 ghost use Rattle.meaning.specs.FormatLaws.{IsReadBack, MoreRepeatsChangeNothing};
 ghost use Rattle.meaning.specs.Lines.{StatementLine};
+ghost use Rattle.meaning.specs.LoopLaws.{VariableIsLeft, VariableGoesOn, TheirNumberCounts, PutAgain};
 ghost use Rattle.meaning.specs.Statements.{IsGrouped};
 ghost use Rattle.meaning.specs.Turns.{IsItsPass, UsesWhatIsGiven, MoreTurnsChangeNothing, EnoughTurnsAreEnough, TripsAreBounded, TripsSplit};
 
@@ -45,6 +46,27 @@ pub fn trips_are_bounded()
 /// second with what the first left.
 pub fn trips_split()
     ensures { TripsSplit }
+{}
+
+/// A list of statements leaves each variable that none of them sets, however deep it stands.
+pub fn variables_are_left()
+    ensures { VariableIsLeft }
+{}
+
+/// Behind trips that end normally the variable of the DO, which its range never sets, has the value of the trip that would
+/// come next (ANSI X3.9-1978, 11.10).
+pub fn variable_goes_on()
+    ensures { VariableGoesOn }
+{}
+
+/// Only the number of the trips counts: the DO variable counts by itself.
+pub fn their_number_counts()
+    ensures { TheirNumberCounts }
+{}
+
+/// A value that a variable or an element has is put in again, and nothing changes.
+pub fn values_are_put_again()
+    ensures { PutAgain }
 {}
 
 /// Each element of an array has a place of its own, below their number, and each such place has an element.
