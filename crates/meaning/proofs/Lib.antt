@@ -4,6 +4,7 @@ pub mod Running
 pub mod Limits
 pub mod Keeping
 pub mod Advancing
+pub mod Lasting
 pub mod Examples
 pub mod FormatExamples
 pub mod NestingExamples

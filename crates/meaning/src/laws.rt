@@ -5,7 +5,7 @@ ghost use Rattle.std.specs.Prelude.{ℕ, List};
 ghost use Rattle.meaning.specs.Arrays.{Dimension, Named, AreOneToOne, HaveOwnCells};
 ghost use Rattle.meaning.specs.FormatLaws.{IsReadBack, MoreRepeatsChangeNothing};
 ghost use Rattle.meaning.specs.Lines.{StatementLine};
-ghost use Rattle.meaning.specs.LoopLaws.{VariableIsLeft, VariableGoesOn, TheirNumberCounts, PutAgain};
+ghost use Rattle.meaning.specs.LoopLaws.{RangesLeaveVariables, VariableIsLeft, VariableGoesOn, TheirNumberCounts, PutAgain};
 ghost use Rattle.meaning.specs.Statements.{IsGrouped};
 ghost use Rattle.meaning.specs.Turns.{IsItsPass, UsesWhatIsGiven, MoreTurnsChangeNothing, EnoughTurnsAreEnough, TripsAreBounded, TripsSplit};
 
@@ -51,6 +51,11 @@ pub fn trips_split()
 /// A list of statements leaves each variable that none of them sets, however deep it stands.
 pub fn variables_are_left()
     ensures { VariableIsLeft }
+{}
+
+/// In a program unit that breaks no rule the range of a DO statement never sets its variable (ANSI X3.9-1978, 11.10.5).
+pub fn ranges_leave_variables()
+    ensures { RangesLeaveVariables }
 {}
 
 /// Behind trips that end normally the variable of the DO, which its range never sets, has the value of the trip that would
