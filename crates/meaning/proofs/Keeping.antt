@@ -1,5 +1,5 @@
 -- A list of statements leaves each variable that none of them sets.
-use Rattle.std.proofs.Common.{◌≡◌, ℕ, zero, suc, ℤ, pos, ◌+◌, ◌-◌, ◌+ℤ◌, ◌*ℤ◌, ◌≤◌, ◌&&◌, ◌||◌, Bool, true, false, if◌then◌else◌, nat_lt, Option, Some, None, List, [], ◌∷◌, ◌++◌, length, Result, Ok, Err, refl, sym, ap, ◌∙◌, subst, arith, rules}
+use Rattle.std.proofs.Common.{◌≡◌, ℕ, zero, suc, ℤ, ◌-◌, ◌+ℤ◌, ◌&&◌, ◌||◌, Bool, true, false, if◌then◌else◌, nat_lt, Option, Some, None, List, [], ◌∷◌, ◌++◌, length, Result, Ok, Err, refl, sym, ap, ◌∙◌, subst}
 use Rattle.std.proofs.Math.Bool.{and-false}
 use Rattle.std.proofs.lemmas.Bool.{true≢false}
 use Rattle.std.proofs.lemmas.List.Folds.{list_any-append}
@@ -14,19 +14,19 @@ use Rattle.meaning.specs.declared.ending.Value.{Value}
 use Rattle.meaning.specs.Characters.{number_of}
 use Rattle.meaning.specs.Syntax.{ExprTree, name, ExprsTree, no_exprs, exprs, ShapeTree, ListItemsTree, no_items, more_items, value_item, loop_item, FormatTree, assignment, writing, printing, doing, continuing, going, computed_going, arithmetic_if, logical_if, stopping, ItemTree}
 use Rattle.meaning.specs.Arrays.{Dimension, elements}
-use Rattle.meaning.specs.Surroundings.{loop_variables, controlled_by}
+use Rattle.meaning.specs.Surroundings.{loop_variables}
 use Rattle.meaning.specs.Uses.{is_one_of}
 use Rattle.meaning.specs.LoopRules.{set_by, variables_set}
 use Rattle.meaning.specs.LabelRules.{has_label}
 use Rattle.meaning.specs.Scopes.{scope_of, Definition, defined_by}
-use Rattle.meaning.specs.Lists.{Listing, Listed, behind, followed, one_item, element_values, whole_array, one_value, named_value, item_value, stepped, trips_listed, loop_listed, listed, list_limit}
+use Rattle.meaning.specs.Lists.{Listed, behind, followed, one_item, element_values, one_value, named_value, item_value, stepped, trips_listed, loop_listed, listed, list_limit}
 use Rattle.meaning.specs.Trees.{Members, none, plain, loop, block, Arms, no_arms, arm, flat, flat_arms}
-use Rattle.meaning.specs.Trips.{Span, span_of, trips}
+use Rattle.meaning.specs.Trips.{span_of, trips}
 use Rattle.meaning.specs.Maps.{Map, put}
 use Rattle.meaning.specs.Values.{Scope, value, subscripts, dimensions_in, as_integer, as_logical, integer, and_then, in_first, others}
 use Rattle.meaning.specs.Records.{edited}
-use Rattle.meaning.specs.LoopLaws.{sets, NeverSets}
-use Rattle.meaning.specs.Execution.{Outcome, normal, jump, stopped, fault, Ran, more, ended, ended_by, turn, with_ok, parts_for, output, assigned, unless_defined, picked_by, by_count, by_sign, Meaning, Follow, Next, onward, at_label, Ways, goes_on, goes_on_by, leads_on, leads_on_by, simple, step, added, fold_trips, trips_from, looped, condition_of, holds, turn_if, tested, arms_from, heads, labelled, goes_at, ways_in, pass_over, fuelled, exec}
+use Rattle.meaning.specs.LoopLaws.{sets}
+use Rattle.meaning.specs.Execution.{Outcome, normal, jump, stopped, fault, Ran, more, ended_by, turn, with_ok, parts_for, output, assigned, unless_defined, picked_by, by_count, by_sign, Meaning, Follow, Next, onward, at_label, Ways, goes_on, goes_on_by, leads_on, leads_on_by, simple, step, added, fold_trips, trips_from, looped, condition_of, holds, turn_if, tested, arms_from, heads, labelled, goes_at, ways_in, pass_over, fuelled, exec}
 
 -- ---- tests
 

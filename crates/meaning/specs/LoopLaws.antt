@@ -1,5 +1,5 @@
 -- Laws of DO variables and of the trips of a DO (ANSI X3.9-1978, 11.10), for those who build on execution.
-use Rattle.std.specs.Prelude.{◌≡◌, ℕ, ℤ, pos, ◌+ℤ◌, ◌*ℤ◌, Bool, false, List, [], length, Result, Ok}
+use Rattle.std.specs.Prelude.{◌≡◌, ℕ, ℤ, pos, ◌+ℤ◌, ◌*ℤ◌, Bool, false, List, [], length, Ok}
 use Rattle.std.specs.List.{list_any, AllByRecursion}
 use Rattle.meaning.specs.Syntax.{ItemTree}
 use Rattle.meaning.specs.Trees.{Members, none, plain, loop, block, Arms, no_arms, arm, flat, Nested}
