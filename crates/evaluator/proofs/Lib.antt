@@ -1,10 +1,13 @@
 pub mod Placed
 pub mod Wholes
-pub mod Turned
+pub mod Composed
+pub mod Executed
+pub mod Picked
+pub mod Labelled
+pub mod Turning
 pub mod Assigned
 pub mod Limiting
 pub mod Quotients
 pub mod Looped
-pub mod Quietly
 pub mod Silent
 pub mod Targets

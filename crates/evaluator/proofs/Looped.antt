@@ -1,26 +1,36 @@
--- Lists of statements, and the trips of a DO statement.
-use Rattle.std.proofs.Common.{◌≡◌, append_assoc, Bool, Ok, ℕ, ℤ, pos, zero, suc, ◌+◌, ◌<◌, ◌≤◌, List, [], ◌∷◌, ◌++◌, length, get_or, drop, refl, sym, ap, ◌∙◌, arith, subst}
+-- Lists of statements, the trips of a DO statement, and the arms of a block IF.
+use Rattle.std.proofs.Common.{◌≡◌, append_assoc, Bool, true, false, Result, Ok, ℕ, ℤ, pos, zero, suc, ◌+◌, ◌<◌, ◌≤◌, List, [], ◌∷◌, ◌++◌, length, get_or, drop, if◌then◌else◌, Option, Some, None, Err, refl, sym, ap, ◌∙◌, arith, subst}
+use Rattle.std.specs.Prelude.{IsTrue, not}
 use Rattle.std.specs.List.{AllByRecursion}
 use mathlib.Core.Path.{fun_ext}
+use Rattle.std.proofs.lemmas.Bool.{false≢true}
 use Rattle.std.proofs.lemmas.List.{append-nil, drop_more, drop_all, length-map}
 use Rattle.std.proofs.lemmas.List.FromFn.{length-range_with_len}
+use Rattle.meaning.specs.declared.syntax.Arm.{Arm}
 use Rattle.meaning.specs.declared.syntax.Member.{Member, Plain, Loop, Loop', Block}
-use Rattle.meaning.specs.declared.syntax.Block.{Block'}
+use Rattle.meaning.specs.declared.syntax.Block.{Block', out-Block, items_shown-the_row-Arm-1}
 use Rattle.meaning.specs.declared.syntax.Loop.{Loop as LoopOf, out-Loop}
+use Rattle.meaning.specs.declared.ending.FaultKind.{FaultKind}
+use Rattle.meaning.specs.declared.ending.FaultKind.TheVariants.{F4}
+use Rattle.meaning.specs.declared.ending.Outcome.{Outcome}
+use Rattle.meaning.specs.declared.ending.Outcome.TheVariants as outcomes
 use Rattle.meaning.specs.Syntax.{ItemTree, ShapeTree, LimitsTree, doing, shape_tree}
-use Rattle.meaning.specs.Trees.{Members, none, flat, flat_arms, row_arms, item_tree, member_before, row_members, members_tree}
-use Rattle.meaning.specs.Trips.{Span, span_of, trips, trip_count}
+use Rattle.meaning.specs.Trees.{Members, none, Arms, arm, flat, flat_arms, row_arms, item_tree, member_before, row_members, members_tree, arms_tree}
+use Rattle.meaning.specs.Trips.{Span, span_of, trips}
 use Rattle.meaning.specs.Scopes.{scope_of}
 use Rattle.meaning.specs.Values.{Scope}
-use Rattle.meaning.specs.Maps.{Map}
-use Rattle.meaning.specs.Execution.{Ran, Meaning, Follow, ended, more, goes_on, added, fold_trips, trips_from, looped, pass_over, exec}
+use Rattle.meaning.specs.Maps.{Map, put}
+use Rattle.meaning.specs.Stores.{Cells, World, Reads, Does}
+use Rattle.meaning.specs.Execution.{Ran, Meaning, Follow, Ways, onward, at_label, ended, ended_by, jump, more, with_ok, goes_on, leads_on, added, fold_trips, trips_from, looped, tested, arms_from, labelled, goes_at, ways_in, pass_over, exec}
 use Rattle.meaning.proofs.Running.{exec_is}
-use Rattle.meaning.proofs.Ranges.{range_is}
+use Rattle.meaning.proofs.Stores.{does_then}
+use Rattle.meaning.proofs.Ranges.{range_is, row_arms-items, member_before-block, left_arms}
 use Rattle.evaluator.specs.Member.{member_does}
-use Rattle.std.specs.Prelude.{IsTrue, not}
-use Rattle.std.proofs.lemmas.Bool.{false≢true}
 use Rattle.evaluator.specs.Quiet.{is_doing}
-use Rattle.evaluator.proofs.Turned.{turn_goes}
+use Rattle.evaluator.specs.Limited.{counted}
+use Rattle.evaluator.specs.Statements.{Leaves, Passes, Moves, Reaches, Comes, Gives, Adds}
+use Rattle.evaluator.proofs.Composed.{leaves_behind, reaches_end, reaches_more, leaves_on, leaves_along, IsEnd, ends_there, moves_behind, moves_same, comes_then, reads_and_does}
+use Rattle.evaluator.proofs.Executed.{fault_at, one_less, turn_none, turn_fails, turn_goes}
 
 -- ---- what holds of each statement
 
@@ -50,70 +60,224 @@ module _ (P : ItemTree → Type 0) where
   range_known x l is h =
       subst (λ ms. AllByRecursion P (flat ms)) (range_is l) (split-all P _ [] (subst (λ y. AllByRecursion P (flat (member_before y none))) is h).1).0
 
+  -- of the arms of a block IF, and of one of them
+  pub arms_known : (x : Member) (b : _) → x ≡ Block b → AllByRecursion P (flat (member_before x none)) → AllByRecursion P (flat_arms (arms_tree (out-Block b).arms.items))
+  arms_known x b is h =
+      (split-all P (flat_arms (arms_tree (out-Block b).arms.items)) (item_tree (out-Block b).end ∷ []) (subst (λ ms. AllByRecursion P (flat ms)) (ap (λ y. member_before y none) is ∙ member_before-block b none) h)).0
+
+  pub body_known : (arms : List Arm) (i : ℕ) (a : Arm) → i < length arms → a ≡ get_or arms i a → AllByRecursion P (flat_arms (arms_tree arms)) → AllByRecursion P (flat (members_tree a.body.items))
+  body_known [] i a lt is h = absurd (omega arith)
+  body_known (b ∷ bs) zero a lt is h =
+      subst (λ z. AllByRecursion P (flat (members_tree z.body.items))) (sym is) (split-all P (flat (members_tree b.body.items)) (flat_arms (arms_tree bs)) h.1).0
+  body_known (b ∷ bs) (suc i) a lt is h =
+      body_known bs i a (omega arith) is (split-all P (flat (members_tree b.body.items)) (flat_arms (arms_tree bs)) h.1).1
+
 -- ---- lists
 
 module _ (program : List ItemTree) where
-  pub loop_does : (rec : Meaning) (l : LoopOf) (m : Map) (t : ℕ) (go : Follow) → member_does program rec (Loop l) m t go ≡ looped (scope_of program) rec (shape_tree (out-Loop l).head.form.shape) (out-Loop l).head.line (members_tree (out-Loop l).range.items) m t go
+  pub loop_does : (rec : Meaning) (l : LoopOf) (m : Map) (t : ℕ) (go : Ways) → member_does program rec (Loop l) m t go ≡ looped (scope_of program) rec (shape_tree (out-Loop l).head.form.shape) (out-Loop l).head.line (members_tree (out-Loop l).range.items) m t go
   loop_does rec l m t go =
       ap (λ range. looped (scope_of program) rec (shape_tree (out-Loop l).head.form.shape) (out-Loop l).head.line range m t go) (range_is l)
 
-  head-does : (rec : Meaning) (all : Members) (x : Member) (ms : Members) (m : Map) (t : ℕ) → pass_over program rec all (member_before x ms) m t ≡ member_does program rec x m t (λ n u. pass_over program rec all ms n u)
+  pub block_does : (rec : Meaning) (b : _) (m : Map) (t : ℕ) (go : Ways) → member_does program rec (Block b) m t go ≡ arms_from (scope_of program) rec true (arms_tree (out-Block b).arms.items) m t go
+  unfolding out-Block Rattle.meaning.specs.declared.syntax.Member.TheBlock.shown-the_row-Arm-1 denote.Hole.Carrier.out denote.Hole.Carrier.shown
+  block_does rec (Block' shape arms end) m t go =
+      ap (λ xs. arms_from (scope_of program) rec true xs m t go) (row_arms-items _ arms ∙ ap arms_tree (sym (items_shown-the_row-Arm-1 shape arms)))
+
+  head-does : (rec : Meaning) (all : Members) (x : Member) (ms : Members) (m : Map) (t : ℕ) → pass_over program rec all (member_before x ms) m t ≡ member_does program rec x m t (ways_in rec all (λ n u. pass_over program rec all ms n u))
   unfolding pass_over
   head-does rec all (Plain x) ms m t = refl
   head-does rec all (Loop' head shape range) ms m t = refl
   head-does rec all (Block (Block' shape arms end)) ms m t = refl
 
-  module _ (all : Members) (ms : List Member) where
+  module _ (ms : List Member) where
+    abbrev all : Members
+    all = members_tree ms
+
     -- what the members from a place on do
     abbrev pub from_place : ℕ → Map → ℕ → Ran
     from_place i m t = exec program all (members_tree (drop i ms)) m t
 
     -- what follows the member at a place
-    abbrev pub behind_place : ℕ → Follow
-    behind_place i n u = from_place (i + 1) n u
+    abbrev pub behind_place : ℕ → Ways
+    behind_place i = ways_in (exec program) all (λ n u. from_place (i + 1) n u)
 
     pub at_place : (i : ℕ) (x : Member) (m : Map) (t : ℕ) → i < length ms → x ≡ get_or ms i x → from_place i m t ≡ member_does program (exec program) x m t (behind_place i)
     at_place i x m t lt is =
         let rest = members_tree (drop (i + 1) ms) in
-        ap (λ xs. exec program all (members_tree xs) m t) (drop_more ms i x lt ∙ ap (λ y. y ∷ drop (i + 1) ms) (sym is)) ∙ exec_is program all (member_before x rest) m t ∙ head-does (exec program) all x rest m t ∙ ap (λ go. member_does program (exec program) x m t go) (fun_ext (λ n. fun_ext (λ u. sym (exec_is program all rest n u))))
+        ap (λ xs. exec program all (members_tree xs) m t) (drop_more ms i x lt ∙ ap (λ y. y ∷ drop (i + 1) ms) (sym is)) ∙ exec_is program all (member_before x rest) m t ∙ head-does (exec program) all x rest m t ∙ ap (λ go. member_does program (exec program) x m t (ways_in (exec program) all go)) (fun_ext (λ n. fun_ext (λ u. sym (exec_is program all rest n u))))
 
     pub at_end_of : (i : ℕ) (m : Map) (t : ℕ) → length ms ≤ i → from_place i m t ≡ ended m
     unfolding pass_over
     at_end_of i m t le = ap (λ xs. exec program all (members_tree xs) m t) (drop_all i ms le) ∙ exec_is program all none m t
 
+    module _ (whole : Ran) (given i t : ℕ) (m : Map) (s : Reaches whole (from_place i m t) given t) where
+      pub last_member : length ms ≤ i → Leaves whole given m t outcomes.Normal
+      last_member le = reaches_end whole _ given t s m (at_end_of i m t le)
+
+      module _ (x : Member) (new : Map) (left : ℕ) (lt : i < length ms) (is : x ≡ get_or ms i x) where
+        abbrev steps : Ways → Ran
+        steps go = member_does program (exec program) x m t go
+
+        pub member_goes : Passes steps t onward new left → Reaches whole (from_place (i + 1) new left) given left
+        member_goes g =
+            reaches_more whole _ given t s (from_place (i + 1) new left) g.used left (at_place i x m t lt is ∙ g.is (behind_place i)) g.turns
+
+        -- a jump inside the list, and out of it
+        pub member_jumps : (label j : ℕ) → Some (members_tree (drop j ms)) ≡ labelled label all → Passes steps t (at_label label) new left → Reaches whole (from_place j new left) given left
+        member_jumps label j found g =
+            reaches_more whole _ given t s (from_place j new left) g.used left (at_place i x m t lt is ∙ g.is (behind_place i) ∙ ap (λ o. more [] g.used (goes_at (exec program) all o label new left)) (sym found)) g.turns
+
+        pub member_leaves : (label : ℕ) → None ≡ labelled label all → Passes steps t (at_label label) new left → Leaves whole given new left (outcomes.Left label)
+        member_leaves label found g =
+            let r = reaches_more whole _ given t s (ended_by (jump label) new) g.used left (at_place i x m t lt is ∙ g.is (behind_place i) ∙ ap (λ o. more [] g.used (goes_at (exec program) all o label new left)) (sym found)) g.turns in
+            leaves_behind whole (ended_by (jump label) new) given left r new left (outcomes.Left label) (record { outcome = refl; after = refl; nothing = refl; turns = omega arith })
+
+        pub member_ends : (o : Outcome) → ((go : Ways) → Leaves (steps go) t new left o) → Leaves whole given new left o
+        member_ends o h =
+            leaves_behind whole _ given t s new left o (subst (λ r. Leaves r t new left o) (sym (at_place i x m t lt is)) (h (behind_place i)))
+
 -- ---- trips
 
-module _ (rec : Meaning) (line : ℕ) (variable : List ℕ) (first last by : ℤ) (range : Members) where
+module _ (rec : Meaning) (line : ℕ) (variable : List ℕ) (first by : ℤ) (count : ℕ) (range : Members) where
   -- the trips from a place on
   abbrev pub trips_left : ℕ → Map → ℕ → Ran
-  trips_left i m t = fold_trips rec line variable by range (drop i (trips first last by)) m t
+  trips_left i m t = fold_trips rec line variable by range (drop i (counted first by count)) m t
 
   -- what follows the range at a place
   abbrev pub behind_range : ℕ → Follow
   behind_range i n u = added line variable by n (λ k. trips_left (i + 1) k u)
 
-  length-trips : length (trips first last by) ≡ trip_count first last by
-  length-trips = length-map _ _ ∙ length-range_with_len 0 (trip_count first last by)
+  length-trips : length (counted first by count) ≡ count
+  length-trips = length-map _ _ ∙ length-range_with_len 0 (count)
 
-  pub at_trip : (i : ℕ) (m : Map) (t : ℕ) → i < trip_count first last by → trips_left i m t ≡ goes_on (rec range range m t) t (behind_range i)
+  pub at_trip : (i : ℕ) (m : Map) (t : ℕ) → i < count → trips_left i m t ≡ goes_on (rec range range m t) t (behind_range i)
   unfolding fold_trips
   at_trip i m t lt =
-      ap (λ xs. fold_trips rec line variable by range xs m t) (drop_more (trips first last by) i (pos 0) (let e = length-trips in omega arith))
+      ap (λ xs. fold_trips rec line variable by range xs m t) (drop_more (counted first by count) i (pos 0) (let e = length-trips in omega arith))
 
-  pub at_last_trip : (i : ℕ) (m : Map) (t : ℕ) → trip_count first last by ≤ i → trips_left i m t ≡ ended m
+  pub at_last_trip : (i : ℕ) (m : Map) (t : ℕ) → count ≤ i → trips_left i m t ≡ ended m
   unfolding fold_trips
   at_last_trip i m t le =
-      ap (λ xs. fold_trips rec line variable by range xs m t) (drop_all i (trips first last by) (let e = length-trips in omega arith))
+      ap (λ xs. fold_trips rec line variable by range xs m t) (drop_all i (counted first by count) (let e = length-trips in omega arith))
+
+  module _ (whole : Ran) (given i t : ℕ) (m : Map) (s : Reaches whole (trips_left i m t) given t) where
+    pub last_trip : count ≤ i → Leaves whole given m t outcomes.Normal
+    last_trip le = reaches_end whole _ given t s m (at_last_trip i m t le)
+
+    module _ (new : Map) (left : ℕ) (lt : i < count) where
+      range_goes : Leaves (rec range range m t) t new left outcomes.Normal → Reaches whole (behind_range i new left) given left
+      range_goes x =
+          reaches_more whole _ given t s (behind_range i new left) (rec range range m t).used left (at_trip i m t lt ∙ leaves_along (rec range range m t) t new left x (behind_range i)) x.turns
+
+      pub trip_goes : (k : Map) → Leaves (rec range range m t) t new left outcomes.Normal → Adds line variable by new k (Ok tt) → Reaches whole (trips_left (i + 1) k left) given left
+      trip_goes k x adds =
+          subst (λ r. Reaches whole r given left) (adds (λ n. trips_left (i + 1) n left)) (range_goes x)
+
+      pub trip_ends : (o : Outcome) → IsEnd o → Leaves (rec range range m t) t new left o → Leaves whole given new left o
+      trip_ends o end x =
+          leaves_behind whole _ given t s new left o (subst (λ r. Leaves r t new left o) (sym (at_trip i m t lt ∙ ends_there (rec range range m t) t new left o end x (behind_range i))) x)
+
+      pub sum_faults : (k : Map) (kind : FaultKind) → Leaves (rec range range m t) t new left outcomes.Normal → Adds line variable by new k (Err kind) → Leaves whole given k left (fault_at kind line)
+      sum_faults k kind x adds =
+          leaves_behind whole _ given left (range_goes x) k left (fault_at kind line) (subst (λ r. Leaves r left k left (fault_at kind line)) (sym (adds.1 (λ n. trips_left (i + 1) n left))) (record { outcome = refl; after = sym adds.0; nothing = refl; turns = omega arith }))
 
 -- ---- DO statements
 
-module _ (scope : Scope) (rec : Meaning) (label : List ℕ) (comma : Bool) (variable : List ℕ) (limits : LimitsTree) (line : ℕ) (range : Members) (m : Map) (t u : ℕ) (taken : t ≡ suc u) where
-  pub do_is : (s : Span) → span_of scope limits m ≡ Ok s → (go : Follow) → looped scope rec (doing label comma variable limits) line range m t go ≡ more [] 1 (goes_on (trips_from rec line variable range m u s) u go)
+module _ (scope : Scope) (rec : Meaning) (label : List ℕ) (comma : Bool) (variable : List ℕ) (limits : LimitsTree) (line : ℕ) (range : Members) (m : Map) (t : ℕ) where
+  abbrev does : Ways → Ran
+  does go = looped scope rec (doing label comma variable limits) line range m t go
+
+  pub do_unmoved : (u : ℕ) → t ≡ 0 → u ≡ 0 → Moves does t m u (fault_at F4 line)
   unfolding looped
-  do_is s h go = turn_goes line m t u (span_of scope limits m) s (λ y n. goes_on (trips_from rec line variable range m n y) n go) taken h
+  do_unmoved u out left go =
+      turn_none line m t u (λ n. with_ok (span_of scope limits m) line m (λ s. leads_on (trips_from rec line variable range m n s) n go)) out left
+
+  module _ (u : ℕ) (taken : t ≡ suc u) where
+    pub do_faults : (k : FaultKind) → span_of scope limits m ≡ Err k → Moves does t m u (fault_at k line)
+    unfolding looped
+    do_faults k h go =
+        turn_fails line m t u (span_of scope limits m) k (λ s n. leads_on (trips_from rec line variable range m n s) n go) taken h
+
+    pub do_is : (s : Span) → span_of scope limits m ≡ Ok s → (go : Ways) → does go ≡ more [] 1 (leads_on (trips_from rec line variable range m u s) u go)
+    unfolding looped
+    do_is s h go = turn_goes line m t u (span_of scope limits m) s (λ y n. leads_on (trips_from rec line variable range m n y) n go) taken h
+
+    pub do_moves : (s : Span) (first new : Map) (left : ℕ) (o : Outcome) → span_of scope limits m ≡ Ok s → first ≡ put m variable [] s.first → Leaves (fold_trips rec line variable s.step range (trips s.first s.last s.step) first u) u new left o → Moves does t new left o
+    do_moves s first new left o h e x =
+        moves_behind does (λ go. leads_on (trips_from rec line variable range m u s) u go) t u new left o (record { used = 1; is = do_is s h; turns = one_less t u taken }) (leaves_on (trips_from rec line variable range m u s) u new left o (subst (λ n. Leaves (fold_trips rec line variable s.step range (trips s.first s.last s.step) n u) u new left o) e x))
 
 -- what is no DO statement is passed over
-pub unless_do : (s : ShapeTree) (scope : Scope) (rec : Meaning) (line : ℕ) (range : Members) (m : Map) (t : ℕ) → IsTrue (not (is_doing s)) → (go : Follow) → looped scope rec s line range m t go ≡ go m t
+pub unless_do : (s : ShapeTree) (scope : Scope) (rec : Meaning) (line : ℕ) (range : Members) (m : Map) (t : ℕ) → IsTrue (not (is_doing s)) → (go : Ways) → looped scope rec s line range m t go ≡ go onward m t
 unfolding looped
 unless_do (doing label comma variable limits) scope rec line range m t h go = absurd (false≢true h)
 unless_do s scope rec line range m t h go = refl
+
+-- ---- over any store
+
+module _ (at : Cells → Map) (scope : Scope) (rec : Meaning) (label : List ℕ) (comma : Bool) (variable : List ℕ) (limits : LimitsTree) (line : ℕ) (range : Members) (t u : ℕ) (taken : t ≡ suc u) where
+  -- limits, the first value of the variable, and the trips
+  pub do_does : (w0 w1 w2 w3 : World) (s : Span) (first : ℤ) (left : ℕ) (o : Outcome) → first ≡ s.first → Reads w0 w1 (λ m. span_of scope limits (at m) ≡ Ok s) → Does w1 w2 (λ m n. at n ≡ put (at m) variable [] first) → Does w2 w3 (λ m n. Leaves (fold_trips rec line variable s.step range (trips s.first s.last s.step) (at m) u) u (at n) left o) → Does w0 w3 (λ m n. Moves (λ go. looped scope rec (doing label comma variable limits) line range (at m) t go) t (at n) left o)
+  do_does w0 w1 w2 w3 s first left o is reads set trips_do =
+      let Trips : Cells → Cells → Type 0 = λ m k. (n : Map) × ((n ≡ put (at m) variable [] first) × Leaves (fold_trips rec line variable s.step range (trips s.first s.last s.step) n u) u (at k) left o) in
+      reads_and_does w0 w1 w3 (λ m. span_of scope limits (at m) ≡ Ok s) Trips (λ m n. Moves (λ go. looped scope rec (doing label comma variable limits) line range (at m) t go) t (at n) left o) reads (does_then w1 w2 w3 (λ m n. at n ≡ put (at m) variable [] first) (λ m n. Leaves (fold_trips rec line variable s.step range (trips s.first s.last s.step) (at m) u) u (at n) left o) Trips set trips_do (λ m n k e x. (at n, (e, x)))) (λ m k h y. do_moves scope rec label comma variable limits line range (at m) t u taken s y.0 (at k) left o h (y.1.0 ∙ ap (put (at m) variable []) is) y.1.1)
+
+module _ (at : Cells → Map) (rec : Meaning) (line : ℕ) (variable : List ℕ) (first by : ℤ) (count : ℕ) (range : Members) (whole : Cells → Ran) (given i t : ℕ) (lt : i < count) (w0 w w1 : World) (so_far : Does w0 w (λ m n. Reaches (whole m) (trips_left rec line variable first by count range i (at n) t) given t)) (left : ℕ) where
+  -- a range that doesn't end normally
+  pub range_ends : (o : Outcome) → IsEnd o → Does w w1 (λ m n. Leaves (rec range range (at m) t) t (at n) left o) → Does w0 w1 (λ m n. Leaves (whole m) given (at n) left o)
+  range_ends o end range_does =
+      does_then w0 w w1 (λ m n. Reaches (whole m) (trips_left rec line variable first by count range i (at n) t) given t) (λ m n. Leaves (rec range range (at m) t) t (at n) left o) (λ m n. Leaves (whole m) given (at n) left o) so_far range_does (λ m n k h x. trip_ends rec line variable first by count range (whole m) given i t (at n) h (at k) left lt o end x)
+
+  module _ (w2 : World) (range_does : Does w w1 (λ m n. Leaves (rec range range (at m) t) t (at n) left outcomes.Normal)) where
+    -- a range, and an addition to the variable
+    abbrev Both : Result (Unit {0}) FaultKind → Cells → Cells → Type 0
+    Both r m k = (n : Map) × (Leaves (rec range range (at m) t) t n left outcomes.Normal × Adds line variable by n (at k) r)
+
+    both : (r : Result (Unit {0}) FaultKind) → Does w1 w2 (λ m n. Adds line variable by (at m) (at n) r) → Does w w2 (Both r)
+    both r adds =
+        does_then w w1 w2 (λ m n. Leaves (rec range range (at m) t) t (at n) left outcomes.Normal) (λ m n. Adds line variable by (at m) (at n) r) (Both r) range_does adds (λ m n k x y. (at n, (x, y)))
+
+    pub trip_does : Does w1 w2 (λ m n. Adds line variable by (at m) (at n) (Ok tt)) → Does w0 w2 (λ m n. Reaches (whole m) (trips_left rec line variable first by count range (i + 1) (at n) left) given left)
+    trip_does adds =
+        does_then w0 w w2 (λ m n. Reaches (whole m) (trips_left rec line variable first by count range i (at n) t) given t) (Both (Ok tt)) (λ m n. Reaches (whole m) (trips_left rec line variable first by count range (i + 1) (at n) left) given left) so_far (both (Ok tt) adds) (λ m n k h x. trip_goes rec line variable first by count range (whole m) given i t (at n) h x.0 left lt (at k) x.1.0 x.1.1)
+
+    pub addition_faults : (kind : FaultKind) → Does w1 w2 (λ m n. Adds line variable by (at m) (at n) (Err kind)) → Does w0 w2 (λ m n. Leaves (whole m) given (at n) left (fault_at kind line))
+    addition_faults kind adds =
+        does_then w0 w w2 (λ m n. Reaches (whole m) (trips_left rec line variable first by count range i (at n) t) given t) (Both (Err kind)) (λ m n. Leaves (whole m) given (at n) left (fault_at kind line)) so_far (both (Err kind) adds) (λ m n k h x. sum_faults rec line variable first by count range (whole m) given i t (at n) h x.0 left lt (at k) kind x.1.0 x.1.1)
+
+-- ---- arms
+
+module _ (scope : Scope) (rec : Meaning) (arms : List Arm) where
+  -- what the arms from a place on do
+  abbrev pub arms_left : Bool → ℕ → Map → ℕ → Ways → Ran
+  arms_left first i m t go = arms_from scope rec first (arms_tree (drop i arms)) m t go
+
+  pub at_arm : (first : Bool) (i : ℕ) (a : Arm) (m : Map) (t : ℕ) (go : Ways) → i < length arms → a ≡ get_or arms i a → arms_left first i m t go ≡ tested scope first (item_tree a.head) m t (λ b u. if b then leads_on (rec (members_tree a.body.items) (members_tree a.body.items) m u) u go else arms_left false (i + 1) m u go)
+  unfolding arms_from
+  at_arm first i a m t go lt is = left_arms (λ xs. arms_from scope rec first xs m t go) arms i a lt is
+
+  pub last_arm : (first : Bool) (i : ℕ) (m : Map) (t : ℕ) (go : Ways) → length arms ≤ i → arms_left first i m t go ≡ go onward m t
+  unfolding arms_from
+  last_arm first i m t go le = ap (λ xs. arms_from scope rec first (arms_tree xs) m t go) (drop_all i arms le)
+
+  module _ (whole : Ways → Ran) (given : ℕ) (first : Bool) (i t : ℕ) (m : Map) (s : Comes whole (λ go. arms_left first i m t go) given t) where
+    pub no_arm_left : length arms ≤ i → Passes whole given onward m t
+    no_arm_left le = record { used = s.used; is = λ go. s.is go ∙ ap (λ r. more [] s.used r) (last_arm first i m t go le); turns = s.turns }
+
+    module _ (a : Arm) (u : ℕ) (lt : i < length arms) (is : a ≡ get_or arms i a) where
+      abbrev test : (Bool → ℕ → Ran) → Ran
+      test go = tested scope first (item_tree a.head) m t go
+
+      pub after_test : (b : Bool) → Gives test t b u → Comes (λ go. arms_left first i m t go) (λ go. if b then leads_on (rec (members_tree a.body.items) (members_tree a.body.items) m u) u go else arms_left false (i + 1) m u go) t u
+      after_test b x = record { used = x.used; is = λ go. at_arm first i a m t go lt is ∙ x.is _; turns = x.turns }
+
+      pub next_arm : Gives test t false u → Comes whole (λ go. arms_left false (i + 1) m u go) given u
+      next_arm x = comes_then whole (λ go. arms_left first i m t go) (λ go. arms_left false (i + 1) m u go) given t u s (after_test false x)
+
+      pub arm_runs : Gives test t true u → (new : Map) (left : ℕ) (o : Outcome) → Leaves (rec (members_tree a.body.items) (members_tree a.body.items) m u) u new left o → Moves whole given new left o
+      arm_runs x new left o y =
+          moves_behind whole (λ go. leads_on (rec (members_tree a.body.items) (members_tree a.body.items) m u) u go) given u new left o (comes_then whole (λ go. arms_left first i m t go) (λ go. leads_on (rec (members_tree a.body.items) (members_tree a.body.items) m u) u go) given t u s (after_test true x)) (leaves_on (rec (members_tree a.body.items) (members_tree a.body.items) m u) u new left o y)
+
+      pub test_ends : (f : _) → ((go : Bool → ℕ → Ran) → Leaves (test go) t m u (outcomes.Fault f)) → Moves whole given m u (outcomes.Fault f)
+      test_ends f h =
+          moves_behind whole (λ go. arms_left first i m t go) given t m u (outcomes.Fault f) s (λ go. subst (λ r. Leaves r t m u (outcomes.Fault f)) (sym (at_arm first i a m t go lt is)) (h _))

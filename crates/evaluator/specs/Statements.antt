@@ -1,42 +1,82 @@
 -- What the parts of one statement give.
-use Rattle.std.specs.Prelude.{◌≡◌, ℕ, suc, ℤ, ◌+◌, Bool, true, false, Option, Some, None, List, [], Result, Ok, Err}
+use Rattle.std.specs.Prelude.{◌≡◌, ◌<◌, ◌≤◌, ℕ, suc, ℤ, ◌+◌, Bool, true, false, Option, Some, None, List, [], Result, Ok, Err}
 use Rattle.meaning.specs.declared.ending.Fault.{Fault}
 use Rattle.meaning.specs.declared.ending.FaultKind.{FaultKind}
 use Rattle.meaning.specs.declared.ending.Value.{Value}
+use Rattle.meaning.specs.declared.ending.Outcome.{Outcome}
+use Rattle.meaning.specs.declared.ending.Outcome.TheVariants as outcomes
 use Rattle.meaning.specs.Syntax.{ExprTree, ExprsTree}
 use Rattle.meaning.specs.Maps.{Map, put}
 use Rattle.meaning.specs.Values.{Scope, dimensions_in, value, subscripts, as_integer, ◌>>=◌}
-use Rattle.meaning.specs.Execution.{Outcome, normal, fault, Ran, failed, added, more, Follow}
+use Rattle.meaning.specs.Execution.{Outcome as Ended, normal, jump, stopped, fault, Ran, failed, added, more, turn, with_ok, Next, onward, at_label, Ways}
 
-abbrev pub outcome_of : Option Fault → Outcome
-outcome_of None = normal
-outcome_of (Some f) = fault f.kind f.line
+abbrev pub outcome_of : Outcome → Ended
+outcome_of outcomes.Normal = normal
+outcome_of (outcomes.Left s) = jump s
+outcome_of (outcomes.Stopped line) = stopped line
+outcome_of (outcomes.Fault f) = fault f.kind f.line
 
 -- ---- what writes nothing, from turns that are given
 
 -- a run: how it ended, and the map and the turns that it left
-pub record Leaves (r : Ran) (given : ℕ) (new : Map) (left : ℕ) (o : Option Fault) : Type 0 where
+pub record Leaves (r : Ran) (given : ℕ) (new : Map) (left : ℕ) (o : Outcome) : Type 0 where
   pub outcome : r.outcome ≡ outcome_of o
   pub after : r.map ≡ new
   pub nothing : r.pieces ≡ []
   pub turns : r.used + left ≡ given
 
--- a statement that goes on from this map and these turns
-pub record Passes (does : Follow → Ran) (given : ℕ) (new : Map) (left : ℕ) : Type 0 where
+-- a statement that goes on there from this map and these turns
+pub record Passes (does : Ways → Ran) (given : ℕ) (next : Next) (new : Map) (left : ℕ) : Type 0 where
   pub used : ℕ
-  pub is : (go : Follow) → does go ≡ more [] used (go new left)
+  pub is : (go : Ways) → does go ≡ more [] used (go next new left)
   pub turns : used + left ≡ given
 
--- a statement, which goes on or faults, whatever follows
-abbrev pub Moves : (Follow → Ran) → ℕ → Map → ℕ → Option Fault → Type 0
-Moves does given new left None = Passes does given new left
-Moves does given new left (Some f) = (go : Follow) → Leaves (does go) given new left (Some f)
+-- a statement, which goes on behind it or at a label, or ends, whatever follows
+abbrev pub Moves : (Ways → Ran) → ℕ → Map → ℕ → Outcome → Type 0
+Moves does given new left outcomes.Normal = Passes does given onward new left
+Moves does given new left (outcomes.Left s) = Passes does given (at_label s) new left
+Moves does given new left (outcomes.Stopped line) = (go : Ways) → Leaves (does go) given new left (outcomes.Stopped line)
+Moves does given new left (outcomes.Fault f) = (go : Ways) → Leaves (does go) given new left (outcomes.Fault f)
+
+-- the turns that are left, whatever was lost: a jump has taken one
+abbrev pub Spends : Outcome → ℕ → ℕ → Type 0
+Spends outcomes.Normal old new = new ≤ old
+Spends (outcomes.Left s) old new = new < old
+Spends (outcomes.Stopped line) old new = new ≤ old
+Spends (outcomes.Fault f) old new = new ≤ old
 
 -- what was run so far, followed by what is left, is the whole
 pub record Reaches (whole rest : Ran) (given left : ℕ) : Type 0 where
   pub used : ℕ
   pub is : whole ≡ more [] used rest
   pub turns : used + left ≡ given
+
+-- the same, whatever follows
+pub record Comes (whole rest : Ways → Ran) (given left : ℕ) : Type 0 where
+  pub used : ℕ
+  pub is : (go : Ways) → whole go ≡ more [] used (rest go)
+  pub turns : used + left ≡ given
+
+-- ---- a value, or the test of an arm, and then what follows it
+
+-- it is this, with these turns left
+pub record Gives {A : Type 0} (does : (A → ℕ → Ran) → Ran) (given : ℕ) (x : A) (left : ℕ) : Type 0 where
+  pub used : ℕ
+  pub is : (go : A → ℕ → Ran) → does go ≡ more [] used (go x left)
+  pub turns : used + left ≡ given
+
+abbrev pub Tells : {A : Type 0} → ((A → ℕ → Ran) → Ran) → ℕ → Map → ℕ → Result A Fault → Type 0
+Tells does given m left (Ok x) = Gives does given x left
+Tells {A = A} does given m left (Err f) = (go : A → ℕ → Ran) → Leaves (does go) given m left (outcomes.Fault f)
+
+-- the value of an expression, which takes a turn
+abbrev pub value_in_turn : Scope → ExprTree → ℕ → Map → ℕ → (Value → ℕ → Ran) → Ran
+value_in_turn s e line m t go = turn line m t (λ u. with_ok (value s e m) line m (λ v. go v u))
+
+-- where execution goes on
+abbrev pub next_of : Option ℕ → Next
+next_of None = onward
+next_of (Some s) = at_label s
 
 -- ---- the parts of a statement
 

@@ -1,6 +1,6 @@
 //! What is proved over any store, over a whole store, which refuses no write.
 
-ghost use Rattle.std.specs.Prelude.{◌≡◌, ◌≢◌, ℕ, [], false, IsTrue, length, not, pos, IfOk};
+ghost use Rattle.std.specs.Prelude.{◌≡◌, ℕ, [], false, IsTrue, length, not, IfOk};
 ghost use Rattle.meaning.specs.declared.syntax.Loop.{out-Loop};
 ghost use Rattle.meaning.specs.Execution.{step};
 ghost use Rattle.meaning.specs.Lists.{listed, list_limit};
@@ -8,7 +8,7 @@ ghost use Rattle.meaning.specs.Maps.{put};
 ghost use Rattle.meaning.specs.Syntax.{limits_tree, list_items_tree, shape_tree};
 ghost use Rattle.meaning.specs.Trees.{flat, item_tree, members_tree};
 ghost use Rattle.meaning.specs.Trips.{span_of};
-ghost use Rattle.meaning.specs.Unrun.{has_loop};
+ghost use Rattle.expressions.specs.Unlooped.{has_loop};
 ghost use Rattle.expressions.specs.Listed.{Listed};
 ghost use Rattle.checker.specs.Checked.{items_in, count_in};
 ghost use Rattle.checker.specs.Starts.{map_of};
@@ -20,11 +20,12 @@ ghost use Rattle.evaluator.specs.Quiet.{WritesNothing, is_writing};
 ghost use Rattle.evaluator.specs.Statements.{Adds};
 
 use crate::assignment::{add_to, set_variable};
-use crate::limits::{Span, values_of_limits};
-use crate::quiet::{run_item, run_trips};
+use crate::limits::{Course, Span, values_of_limits};
+use crate::control::run_item;
+use crate::quiet::execute_trips;
 use array_store::Whole;
 use checker::Program;
-use meaning::ending::{Fault, FaultKind, Value};
+use meaning::ending::{FaultKind, Outcome, Value};
 use meaning::syntax::{Item, Limits, ListItems, Loop};
 use std::alloc::{AllocError, Global};
 use values::values;
@@ -49,7 +50,7 @@ pub fn item_whole(
     item: &Item,
     cells: &mut Whole,
     turns: &mut u64,
-) -> Option<Fault>
+) -> Outcome
     requires known { IsKnown program.now (item_tree item.now) }
     requires quiet { IsTrue (not (is_writing (shape_tree item.now.form.shape))) }
     requires sized { length cells.old ≡ count_in program.now }
@@ -61,7 +62,7 @@ pub fn item_whole(
     match run_item(program, item, cells, turns) {
         Ok(outcome) => outcome,
         // A whole store refuses no write.
-        Err(_) => None,
+        Err(_) => Outcome::Normal,
     }
 }
 
@@ -70,25 +71,24 @@ pub fn trips_whole(
     program: &Program,
     repeated: &Loop,
     variable: &[u8],
-    span: Span,
+    course: Course,
     cells: &mut Whole,
     turns: &mut u64,
-) -> Option<Fault>
+) -> Outcome
     requires named { AreKnown program.now
         (flat (members_tree (out-Loop repeated.now).range.items)) }
     requires quiet { WritesNothing (members_tree (out-Loop repeated.now).range.items) }
     requires held { HasCellsIn program.now variable.now 0 }
     requires sized { length cells.old ≡ count_in program.now }
-    requires some { span.step ≢ pos 0 }
     ensures leaves { LeavesIn program.now cells.old cells.new
-        (trips_as (items_in program.now) repeated.now variable.now span)
+        (trips_as (items_in program.now) repeated.now variable.now course)
         turns.old turns.new result }
     ensures len { length cells.new ≡ length cells.old }
 {
-    match run_trips(program, repeated, variable, span, cells, turns) {
+    match execute_trips(program, repeated, variable, course, cells, turns) {
         Ok(outcome) => outcome,
         // A whole store refuses no write.
-        Err(_) => None,
+        Err(_) => Outcome::Normal,
     }
 }
 

@@ -11,7 +11,7 @@ use Rattle.meaning.specs.declared.syntax.ListItem.TheVariants.{Value as ValueIte
 use Rattle.meaning.specs.declared.syntax.ListItems.{ListItems}
 use Rattle.meaning.specs.declared.syntax.ListItems.TheVariants.{Empty, More'}
 use Rattle.meaning.specs.Syntax.{ExprTree, name, number, truth, signed, negated, binary, paren, element, call, expr_tree, ListItemsTree, no_items, more_items, value_item, list_items_tree}
-use Rattle.meaning.specs.Unrun.{has_loop}
+use Rattle.expressions.specs.Unlooped.{has_loop}
 use Rattle.meaning.specs.Arrays.{Dimension, size, place, elements}
 use Rattle.meaning.specs.Lists.{Listing, element_values, whole_array, one_value, named_value, item_value, listed, list_limit}
 use Rattle.meaning.specs.Lists as lists

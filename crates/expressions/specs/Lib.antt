@@ -5,3 +5,4 @@ pub mod Functions
 pub mod Glossaries
 pub mod Names
 pub mod Framed
+pub mod Unlooped

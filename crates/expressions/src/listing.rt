@@ -6,7 +6,7 @@ ghost use Rattle.meaning.specs.Lists.{listed, list_limit, item_value};
 ghost use Rattle.meaning.specs.Maps.{map_by, value_at};
 ghost use Rattle.meaning.specs.Stores.{IsLater, Reads};
 ghost use Rattle.meaning.specs.Syntax.{expr_tree, list_items_tree};
-ghost use Rattle.meaning.specs.Unrun.{has_loop};
+ghost use Rattle.expressions.specs.Unlooped.{has_loop};
 ghost use Rattle.expressions.specs.Glossaries.{scope_by};
 ghost use Rattle.expressions.specs.Listed.{Listed, IsArrayIn, AddsItem, AddsElements, cell_at};
 ghost use Rattle.expressions.specs.Places.{left, limit};

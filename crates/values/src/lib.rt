@@ -6,7 +6,7 @@ ghost use Rattle.std.specs.Prelude.{◌≡◌, ◌≤◌, ◌<◌, ◌^◌, fals
 ghost use Rattle.meaning.specs.Lists.{listed, list_limit};
 ghost use Rattle.meaning.specs.Stores.{IsLater, Reads};
 ghost use Rattle.meaning.specs.Syntax.{expr_tree, exprs_tree, list_items_tree};
-ghost use Rattle.meaning.specs.Unrun.{has_loop};
+ghost use Rattle.expressions.specs.Unlooped.{has_loop};
 ghost use Rattle.meaning.specs.Values.{dimensions_in, subscripts as subscripts_of, value as value_of};
 ghost use Rattle.expressions.specs.Listed.{Listed};
 ghost use Rattle.expressions.specs.Places.{limit};
