@@ -1,8 +1,7 @@
 -- The label that a computed GO TO picks.
-use Rattle.std.proofs.Common.{◌≡◌, ℕ, zero, suc, ℤ, pos, negsuc, ◌+◌, ◌-◌, ◌<◌, ◌≤◌, Bool, true, false, List, [], ◌∷◌, length, get_or, map, refl, sym, ap, ◌∙◌, subst, arith}
-use Rattle.std.proofs.lemmas.Bool.{true≢false}
+use Rattle.std.proofs.Common.{◌≡◌, ℕ, zero, suc, ℤ, pos, negsuc, ◌+◌, ◌-◌, ◌<◌, ◌≤◌, Bool, true, false, List, [], ◌∷◌, length, get_or, map, unsigned_abs, refl, sym, ap, ◌∙◌, subst, arith}
+use Rattle.std.proofs.lemmas.Bool.{ltb-true}
 use Rattle.std.specs.Global.{Vec}
-use Rattle.std.specs.Int.{nat_abs}
 use Rattle.std.specs.Int.Signed.{lt_z}
 use Rattle.std.specs.List.{AllByRecursion}
 use Rattle.meaning.specs.Characters.{number_of}
@@ -32,10 +31,10 @@ one_less n = omega arith
 
 pub counts_none : (labels : List (List ℕ)) (z : ℤ) → lt_z z (pos 1) ≡ true → onward ≡ by_count labels z
 counts_none labels (pos zero) h = refl
-counts_none labels (pos (suc n)) h = absurd cc
+counts_none labels (pos (suc n)) h = absurd (let k = ltb-true (suc n) 1 h in omega arith)
 counts_none labels (negsuc n) h = refl
 
-pub counts_one : (labels : List (List ℕ)) (z : ℤ) → lt_z z (pos 1) ≡ false → nth_label labels (nat_abs z - 1) ≡ by_count labels z
+pub counts_one : (labels : List (List ℕ)) (z : ℤ) → lt_z z (pos 1) ≡ false → nth_label labels (unsigned_abs z - 1) ≡ by_count labels z
 counts_one labels (pos zero) h = absurd cc
 counts_one labels (pos (suc n)) h = ap (nth_label labels) (one_less n)
 counts_one labels (negsuc n) h = absurd cc
