@@ -1,5 +1,5 @@
 -- One statement that takes a turn.
-use Rattle.std.proofs.Common.{◌≡◌, ℕ, ℤ, suc, ◌+◌, ◌||◌, Bool, true, false, if◌then◌else◌, List, [], ◌∷◌, ◌++◌, Option, Some, None, Result, Ok, Err, refl, sym, ap, ◌∙◌, subst, arith}
+use Rattle.std.proofs.Common.{◌≡◌, ℕ, ℤ, suc, ◌+◌, ◌||◌, Bool, true, false, if◌then◌else◌, List, [], Option, Some, None, Result, Ok, Err, refl, sym, ap, ◌∙◌, subst, arith}
 use Rattle.std.specs.Prelude.{not, IsSome, IsTrue, is_some}
 use Rattle.std.proofs.lemmas.Bool.{false≢true}
 use Rattle.meaning.specs.declared.ending.FaultKind.{FaultKind}
@@ -18,7 +18,7 @@ use Rattle.meaning.specs.Values.{Scope, dimensions_in, subscripts, value, as_int
 use Rattle.meaning.specs.Execution.{Ran, more, Follow, Next, Ways, onward, at_label, turn, with_ok, failed, assigned, unless_defined, picked_by, simple, step, condition_of, truth_of, holds, turn_if, tested}
 use Rattle.meaning.proofs.Running.{more-none}
 use Rattle.evaluator.specs.Quiet.{writes, is_logical_if}
-use Rattle.evaluator.specs.Statements.{Puts, target_and_value, Leaves, Passes, Moves, Comes, Gives, Tells, value_in_turn, next_of}
+use Rattle.evaluator.specs.Statements.{Puts, target_and_value, Leaves, Passes, Moves, Comes, Tells, value_in_turn}
 use Rattle.evaluator.proofs.Composed.{moves_behind, moves_same}
 
 abbrev pub fault_at : FaultKind → ℕ → Outcome

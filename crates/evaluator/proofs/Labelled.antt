@@ -1,11 +1,11 @@
 -- Labels of a list of members.
-use Rattle.std.proofs.Common.{◌≡◌, ℕ, zero, suc, ◌+◌, ◌<◌, ◌≤◌, Bool, true, false, if◌then◌else◌, List, [], ◌∷◌, length, get_or, drop, Option, Some, None, refl, sym, ap, ◌∙◌, arith}
+use Rattle.std.proofs.Common.{◌≡◌, ℕ, zero, suc, ◌+◌, ◌<◌, ◌≤◌, Bool, true, false, if◌then◌else◌, List, ◌∷◌, length, get_or, drop, Option, Some, None, refl, sym, ap, ◌∙◌, arith}
 use Rattle.std.proofs.lemmas.List.{drop_more, drop_all}
 use Rattle.meaning.specs.declared.syntax.Arm.{Arm}
 use Rattle.meaning.specs.declared.syntax.Member.{Member, Plain, Loop, Loop', Block}
 use Rattle.meaning.specs.declared.syntax.Block.{Block', out-Block, items_shown-the_row-Arm-1}
 use Rattle.meaning.proofs.Ranges.{row_arms-items}
-use Rattle.meaning.specs.Trees.{Members, none, loop, block, item_tree, member_before, members_tree, arms_tree, row_arms}
+use Rattle.meaning.specs.Trees.{Members, item_tree, member_before, members_tree, arms_tree, row_arms}
 use Rattle.meaning.specs.LabelRules.{has_label}
 use Rattle.meaning.specs.Execution.{heads, labelled}
 use Rattle.evaluator.specs.Member.{entry, at_if}

@@ -1,5 +1,5 @@
 -- Lists of statements, the trips of a DO statement, and the arms of a block IF.
-use Rattle.std.proofs.Common.{◌≡◌, append_assoc, Bool, true, false, Result, Ok, ℕ, ℤ, pos, zero, suc, ◌+◌, ◌<◌, ◌≤◌, List, [], ◌∷◌, ◌++◌, length, get_or, drop, if◌then◌else◌, Option, Some, None, Err, refl, sym, ap, ◌∙◌, arith, subst}
+use Rattle.std.proofs.Common.{◌≡◌, append_assoc, Bool, true, false, Result, Ok, ℕ, ℤ, pos, zero, suc, ◌+◌, ◌<◌, ◌≤◌, List, [], ◌∷◌, ◌++◌, length, get_or, drop, if◌then◌else◌, Some, None, Err, refl, sym, ap, ◌∙◌, arith, subst}
 use Rattle.std.specs.Prelude.{IsTrue, not}
 use Rattle.std.specs.List.{AllByRecursion}
 use mathlib.Core.Path.{fun_ext}
@@ -15,7 +15,7 @@ use Rattle.meaning.specs.declared.ending.FaultKind.TheVariants.{F4}
 use Rattle.meaning.specs.declared.ending.Outcome.{Outcome}
 use Rattle.meaning.specs.declared.ending.Outcome.TheVariants as outcomes
 use Rattle.meaning.specs.Syntax.{ItemTree, ShapeTree, LimitsTree, doing, shape_tree}
-use Rattle.meaning.specs.Trees.{Members, none, Arms, arm, flat, flat_arms, row_arms, item_tree, member_before, row_members, members_tree, arms_tree}
+use Rattle.meaning.specs.Trees.{Members, none, flat, flat_arms, row_arms, item_tree, member_before, row_members, members_tree, arms_tree}
 use Rattle.meaning.specs.Trips.{Span, span_of, trips}
 use Rattle.meaning.specs.Scopes.{scope_of}
 use Rattle.meaning.specs.Values.{Scope}
@@ -29,7 +29,7 @@ use Rattle.evaluator.specs.Member.{member_does}
 use Rattle.evaluator.specs.Quiet.{is_doing}
 use Rattle.evaluator.specs.Limited.{counted}
 use Rattle.evaluator.specs.Statements.{Leaves, Passes, Moves, Reaches, Comes, Gives, Adds}
-use Rattle.evaluator.proofs.Composed.{leaves_behind, reaches_end, reaches_more, leaves_on, leaves_along, IsEnd, ends_there, moves_behind, moves_same, comes_then, reads_and_does}
+use Rattle.evaluator.proofs.Composed.{leaves_behind, reaches_end, reaches_more, leaves_on, leaves_along, IsEnd, ends_there, moves_behind, comes_then, reads_and_does}
 use Rattle.evaluator.proofs.Executed.{fault_at, one_less, turn_none, turn_fails, turn_goes}
 
 -- ---- what holds of each statement

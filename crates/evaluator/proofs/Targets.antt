@@ -1,12 +1,11 @@
 -- Where the target of an assignment is.
-use Rattle.std.proofs.Common.{◌≡◌, ℕ, List, ◌∷◌, Some, None, Option, sym, ap, subst, refl}
+use Rattle.std.proofs.Common.{◌≡◌, ℕ, List, ◌∷◌, Some, None, sym, ap, subst, refl}
 use Rattle.std.specs.Prelude.{IsSome, is_some}
 use Rattle.meaning.specs.declared.syntax.Tree.{Tree}
-use Rattle.meaning.specs.Arrays.{Dimension}
 use Rattle.meaning.specs.Scopes.{definition_if, listed}
 use Rattle.meaning.specs.Syntax.{ExprTree, ExprsTree, no_exprs, exprs, assignment}
 use Rattle.expressions.specs.Names.{AreCells}
-use Rattle.expressions.specs.Places.{left, behind, limit}
+use Rattle.expressions.specs.Places.{left}
 use Rattle.expressions.specs.declared.numbering.Cells.{Cells}
 use Rattle.expressions.specs.declared.place.Place.{Place}
 use Rattle.checker.specs.Checked.{count_in, names_in, numbers_in}

@@ -20,8 +20,8 @@ ghost use Rattle.evaluator.specs.Quiet.{WritesNothing, is_writing};
 ghost use Rattle.evaluator.specs.Statements.{Adds};
 
 use crate::assignment::{add_to, set_variable};
-use crate::limits::{Course, Span, values_of_limits};
 use crate::control::run_item;
+use crate::limits::{Course, Span, values_of_limits};
 use crate::quiet::execute_trips;
 use array_store::Whole;
 use checker::Program;
@@ -45,12 +45,7 @@ pub fn set_whole(program: &Program, name: &[u8], x: i32, cells: &mut Whole)
 }
 
 /// Executes one statement that stands by itself and is no WRITE statement, or passes over one that isn't executable.
-pub fn item_whole(
-    program: &Program,
-    item: &Item,
-    cells: &mut Whole,
-    turns: &mut u64,
-) -> Outcome
+pub fn item_whole(program: &Program, item: &Item, cells: &mut Whole, turns: &mut u64) -> Outcome
     requires known { IsKnown program.now (item_tree item.now) }
     requires quiet { IsTrue (not (is_writing (shape_tree item.now.form.shape))) }
     requires sized { length cells.old ≡ count_in program.now }

@@ -1,4 +1,4 @@
-use Rattle.std.proofs.Common.{◌≡◌, ap, sym, ◌∙◌, subst, List, ℕ, arith}
+use Rattle.std.proofs.Common.{ap, sym, ◌∙◌, subst, List, ℕ, arith}
 use Rattle.meaning.specs.Characters.{number_of}
 use Rattle.meaning.specs.Execution.{at_label}
 use Rattle.evaluator.specs.Known.{IsLabel}

@@ -1,4 +1,4 @@
-use Rattle.std.proofs.Common.{◌≡◌, ap, sym, ◌∙◌, map, pos, ◌-◌, unsigned_abs}
+use Rattle.std.proofs.Common.{ap, sym, ◌∙◌, map, pos, ◌-◌, unsigned_abs}
 use Rattle.std.specs.Int.{w32}
 use Rattle.std.specs.Int.Signed.{lt_z}
 use Rattle.std.proofs.lemmas.Int.{to_z-of_z}

@@ -1,4 +1,4 @@
-use Rattle.std.proofs.Common.{ap, sym, ◌≡◌, ◌∙◌, map, to_z, of_z, Some, None}
+use Rattle.std.proofs.Common.{ap, ◌≡◌, ◌∙◌, map, to_z, of_z}
 use Rattle.std.specs.Int.{w32}
 use Rattle.std.proofs.lemmas.Int.{to_z-of_z}
 use Rattle.meaning.specs.Syntax.{expr_tree}

@@ -1,4 +1,3 @@
-use Rattle.std.proofs.Common.{ap, sym, ◌≡◌, ◌∙◌}
 use Rattle.meaning.specs.declared.ending.Outcome.TheVariants as outcomes
 use Rattle.meaning.specs.Syntax.{logical_if, shape_tree, expr_tree}
 use Rattle.meaning.specs.Execution.{simple, step}

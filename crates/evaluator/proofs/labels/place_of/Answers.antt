@@ -1,4 +1,4 @@
-use Rattle.std.proofs.Common.{sym, ap, ◌∙◌, arith, refl}
+use Rattle.std.proofs.Common.{sym, ◌∙◌, arith, refl}
 use Rattle.evaluator.proofs.Labelled.{found_at, not_at, found_nowhere}
 use Rattle.evaluator.proofs.labels.place_of.Goals as goal
 

@@ -1,8 +1,6 @@
-use Rattle.std.proofs.Common.{◌≡◌, ◌≤◌, IfSome, length, drop, option_map, ℕ, ◌+◌, ◌-◌, ◌*◌, ◌<◌}
-use Rattle.meaning.specs.Execution.{heads, labelled}
-use Rattle.meaning.specs.LabelRules.{has_label as has}
-use Rattle.meaning.specs.Trees.{arms_tree, item_tree, members_tree}
-use Rattle.evaluator.specs.Member.{entry}
+use Rattle.std.proofs.Common.{◌≡◌, length, drop}
+use Rattle.meaning.specs.Execution.{labelled}
+use Rattle.meaning.specs.Trees.{members_tree}
 use Rattle.evaluator.proofs.labels.place_of.Given as goal
 
 abbrev pub invariant-loop-place : goal.invariant-loop-place
