@@ -26,11 +26,11 @@ nothing_least : (bs : List Broken) → least bs ≡ None → bs ≡ []
 nothing_least [] h = refl
 nothing_least (b ∷ bs) h = absurd cc
 
-none_of_both : {A : Type 0} (xs ys : List A) → xs ++ ys ≡ [] → (xs ≡ []) × (ys ≡ [])
+pub none_of_both : {A : Type 0} (xs ys : List A) → xs ++ ys ≡ [] → (xs ≡ []) × (ys ≡ [])
 none_of_both [] ys h = (refl, h)
 none_of_both (x ∷ xs) ys h = absurd cc
 
-not_told : (b : Bool) (line : ℕ) (rule : Rule) → broken_if b line rule ≡ [] → b ≡ false
+pub not_told : (b : Bool) (line : ℕ) (rule : Rule) → broken_if b line rule ≡ [] → b ≡ false
 not_told false line rule h = refl
 not_told true line rule h = absurd cc
 
@@ -38,7 +38,7 @@ no_rule_told : (t u : Nested) (o : Option Broken) → unless o t ≡ Ok u → o 
 no_rule_told t u None accepted = refl
 no_rule_told t u (Some b) accepted = absurd cc
 
-nothing_broken : (t u : Nested) → checked t ≡ Ok u → broken_rules t ≡ []
+pub nothing_broken : (t u : Nested) → checked t ≡ Ok u → broken_rules t ≡ []
 unfolding checked
 nothing_broken t u accepted = nothing_least (broken_rules t) (no_rule_told t u (least (broken_rules t)) accepted)
 

@@ -5,6 +5,7 @@ pub mod Limits
 pub mod Keeping
 pub mod Advancing
 pub mod Lasting
+pub mod Transferred
 pub mod Examples
 pub mod FormatExamples
 pub mod NestingExamples

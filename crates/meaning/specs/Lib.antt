@@ -33,6 +33,7 @@ pub mod FormatLaws
 pub mod Execution
 pub mod Turns
 pub mod LoopLaws
+pub mod TransferLaws
 pub mod Plans
 pub mod Answers
 pub mod Promise

@@ -7,6 +7,7 @@ ghost use Rattle.meaning.specs.FormatLaws.{IsReadBack, MoreRepeatsChangeNothing}
 ghost use Rattle.meaning.specs.Lines.{StatementLine};
 ghost use Rattle.meaning.specs.LoopLaws.{RangesLeaveVariables, VariableIsLeft, VariableGoesOn, TheirNumberCounts, PutAgain};
 ghost use Rattle.meaning.specs.Statements.{IsGrouped};
+ghost use Rattle.meaning.specs.TransferLaws.{TransfersArrive, TransfersStay};
 ghost use Rattle.meaning.specs.Turns.{IsItsPass, UsesWhatIsGiven, MoreTurnsChangeNothing, EnoughTurnsAreEnough, TripsAreBounded, TripsSplit};
 
 /// The lines of a source that are no comments are, in order, those with no initial line before them and then groups of an
@@ -46,6 +47,17 @@ pub fn trips_are_bounded()
 /// second with what the first left.
 pub fn trips_split()
     ensures { TripsSplit }
+{}
+
+/// In a program unit that breaks no rule each transfer of control is to the label of a statement.
+pub fn transfers_arrive()
+    ensures { TransfersArrive }
+{}
+
+/// In a program unit that breaks no rule no transfer of control leaves the body: each goes on at a statement of the list in which
+/// it stands, or of one around that.
+pub fn transfers_stay()
+    ensures { TransfersStay }
 {}
 
 /// A list of statements leaves each variable that none of them sets, however deep it stands.
