@@ -1,8 +1,6 @@
 -- Each of the rules K10 to K13 broken, and near misses.
-use Rattle.std.proofs.Common.{◌≡◌, List, ℕ, Result, Ok, Err, Option, Some, None, refl}
+use Rattle.std.proofs.Common.{◌≡◌, Some, None, refl}
 use Rattle.std.specs.Prelude.{codes}
-use Rattle.meaning.specs.declared.refusal.Broken.{Broken}
-use Rattle.meaning.specs.declared.refusal.Rule.{Rule}
 use Rattle.meaning.specs.declared.refusal.Rule.TheVariants.{K10, K11, K12, K13}
 use Rattle.meaning.proofs.RuleExamples.{judged, broken}
 use Rattle.meaning.proofs.Examples.{all_definitions}

@@ -2,6 +2,10 @@ pub mod Least
 pub mod Ranges
 pub mod Running
 pub mod Limits
+pub mod Keeping
+pub mod Advancing
+pub mod Lasting
+pub mod Transferred
 pub mod Examples
 pub mod FormatExamples
 pub mod NestingExamples
@@ -12,6 +16,7 @@ pub mod Elements
 pub mod Groups
 pub mod Readers
 pub mod RuleExamples
+mod ControlExamples
 mod NameExamples
 mod DataExamples
 pub mod Doubled

@@ -7,49 +7,40 @@ use Rattle.meaning.specs.declared.ending.Value.{Value}
 use Rattle.meaning.specs.Characters.{number_of}
 use Rattle.meaning.specs.Syntax.{ExprTree, ExprsTree, ShapeTree, ListItemsTree, FormatTree, assignment, writing, printing, doing, continuing, going, computed_going, arithmetic_if, logical_if, stopping, ItemTree}
 use Rattle.meaning.specs.Scopes.{scope_of, Definition, defined_by}
-use Rattle.meaning.specs.Lists.{Listing, listed, list_limit}
+use Rattle.meaning.specs.Lists.{listed, list_limit}
 use Rattle.meaning.specs.Trees.{Members, none, plain, loop, block, Arms, no_arms, arm}
 use Rattle.meaning.specs.Trips.{span_of, trips}
 use Rattle.meaning.specs.Maps.{Map, put}
 use Rattle.meaning.specs.Values.{Scope, value, subscripts, dimensions_in, as_integer, as_logical, integer}
 use Rattle.meaning.specs.Records.{edited}
 use Rattle.meaning.specs.Execution.{Outcome, normal, jump, stopped, fault, Ran, more, ended, ended_by, turn, with_ok, parts_for, output, assigned, unless_defined, picked_by, by_count, by_sign, Meaning, Follow, Next, onward, at_label, Ways, goes_on, goes_on_by, leads_on, leads_on_by, simple, step, added, fold_trips, trips_from, looped, condition_of, holds, turn_if, tested, arms_from, labelled, goes_at, ways_in, pass_over, fuelled, exec}
-use Rattle.meaning.specs.Turns.{met_limit}
+use Rattle.meaning.specs.Turns.{met_limit, Bounded}
 use Rattle.meaning.proofs.Running.{more-more, more-none, exec-fuelled}
 
--- a run, by the turns that it is given
-pub record Fair (run : ℕ → Ran) : Type 0 where
-  -- it uses no more
-  pub spares : (t : ℕ) → (run t).used ≤ t
-  -- it is the same with more, where it didn't meet the limit
-  pub steady : (t u : ℕ) → t ≤ u → met_limit (run t).outcome ≡ false → run u ≡ run t
-  -- and with fewer, where these are enough
-  pub frugal : (t u : ℕ) → t ≤ u → (run u).used ≤ t → met_limit (run u).outcome ≡ false → run t ≡ run u
+abbrev pub BoundedFollow : Follow → Type 0
+BoundedFollow go = (n : Map) → Bounded (λ t. go n t)
 
-abbrev pub FairFollow : Follow → Type 0
-FairFollow go = (n : Map) → Fair (λ t. go n t)
+abbrev pub BoundedWays : Ways → Type 0
+BoundedWays go = (next : Next) → BoundedFollow (go next)
 
-abbrev pub FairWays : Ways → Type 0
-FairWays go = (next : Next) → FairFollow (go next)
+abbrev pub BoundedMeaning : Meaning → Type 0
+BoundedMeaning f = (all rest : Members) (m : Map) → Bounded (λ t. f all rest m t)
 
-abbrev pub FairMeaning : Meaning → Type 0
-FairMeaning f = (all rest : Members) (m : Map) → Fair (λ t. f all rest m t)
-
-ended_by-fair : (o : Outcome) (m : Map) → Fair (λ t. ended_by o m)
-ended_by-fair o m = record {
+ended_by-bounded : (o : Outcome) (m : Map) → Bounded (λ t. ended_by o m)
+ended_by-bounded o m = record {
   spares = λ t. omega arith;
   steady = λ t u le h. refl;
   frugal = λ t u le used h. refl;
 }
 
-if-fair : (b : Bool) (x y : ℕ → Ran) → Fair x → Fair y → Fair (λ t. if b then x t else y t)
-if-fair true x y h k = h
-if-fair false x y h k = k
+if-bounded : (b : Bool) (x y : ℕ → Ran) → Bounded x → Bounded y → Bounded (λ t. if b then x t else y t)
+if-bounded true x y h k = h
+if-bounded false x y h k = k
 
-with_ok-fair : {A : Type 0} (r : Result A FaultKind) (line : ℕ) (m : Map) (go : A → ℕ → Ran) → ((x : A) → Fair (go x)) → Fair (λ t. with_ok r line m (λ x. go x t))
+with_ok-bounded : {A : Type 0} (r : Result A FaultKind) (line : ℕ) (m : Map) (go : A → ℕ → Ran) → ((x : A) → Bounded (go x)) → Bounded (λ t. with_ok r line m (λ x. go x t))
 unfolding with_ok
-with_ok-fair (Ok x) line m go fair = fair x
-with_ok-fair (Err k) line m go fair = ended_by-fair (fault k line) m
+with_ok-bounded (Ok x) line m go bounded = bounded x
+with_ok-bounded (Err k) line m go bounded = ended_by-bounded (fault k line) m
 
 -- ---- behind pieces and turns
 
@@ -64,40 +55,40 @@ more-used ps n r = refl
 more-unmet : (ps : List (List ℕ)) (n : ℕ) (r : Ran) → met_limit (more ps n r).outcome ≡ false → met_limit r.outcome ≡ false
 more-unmet ps n r h = sym (ap met_limit (more-outcome ps n r)) ∙ h
 
-module _ (ps : List (List ℕ)) (n : ℕ) (go : ℕ → Ran) (fair : Fair go) where
+module _ (ps : List (List ℕ)) (n : ℕ) (go : ℕ → Ran) (bounded : Bounded go) where
   more-spares : (t : ℕ) → n ≤ t → (more ps n (go (t - n))).used ≤ t
-  more-spares t within = let e = more-used ps n (go (t - n)) in let h = fair.spares (t - n) in omega arith
+  more-spares t within = let e = more-used ps n (go (t - n)) in let h = bounded.spares (t - n) in omega arith
 
   more-steady : (t u : ℕ) → t ≤ u → met_limit (more ps n (go (t - n))).outcome ≡ false → more ps n (go (u - n)) ≡ more ps n (go (t - n))
   more-steady t u le h =
-      ap (λ r. more ps n r) (fair.steady (t - n) (u - n) (omega arith) (more-unmet ps n (go (t - n)) h))
+      ap (λ r. more ps n r) (bounded.steady (t - n) (u - n) (omega arith) (more-unmet ps n (go (t - n)) h))
 
   more-frugal : (t u : ℕ) → t ≤ u → n ≤ t → (more ps n (go (u - n))).used ≤ t → met_limit (more ps n (go (u - n))).outcome ≡ false → more ps n (go (t - n)) ≡ more ps n (go (u - n))
   more-frugal t u le within used h =
       let e = more-used ps n (go (u - n)) in
-      ap (λ r. more ps n r) (fair.frugal (t - n) (u - n) (omega arith) (omega arith) (more-unmet ps n (go (u - n)) h))
+      ap (λ r. more ps n r) (bounded.frugal (t - n) (u - n) (omega arith) (omega arith) (more-unmet ps n (go (u - n)) h))
 
 less-none : (t : ℕ) → t ≡ t - 0
 less-none t = omega arith
 
-piece-fair : (ps : List (List ℕ)) (go : ℕ → Ran) → Fair go → Fair (λ t. more ps 0 (go t))
-piece-fair ps go fair = record {
-  spares = λ t. (let e = more-used ps 0 (go t) in let h = fair.spares t in omega arith);
-  steady = λ t u le h. ap (λ r. more ps 0 r) (fair.steady t u le (more-unmet ps 0 (go t) h));
-  frugal = λ t u le used h. (let e = more-used ps 0 (go u) in ap (λ r. more ps 0 r) (fair.frugal t u le (omega arith) (more-unmet ps 0 (go u) h)));
+piece-bounded : (ps : List (List ℕ)) (go : ℕ → Ran) → Bounded go → Bounded (λ t. more ps 0 (go t))
+piece-bounded ps go bounded = record {
+  spares = λ t. (let e = more-used ps 0 (go t) in let h = bounded.spares t in omega arith);
+  steady = λ t u le h. ap (λ r. more ps 0 r) (bounded.steady t u le (more-unmet ps 0 (go t) h));
+  frugal = λ t u le used h. (let e = more-used ps 0 (go u) in ap (λ r. more ps 0 r) (bounded.frugal t u le (omega arith) (more-unmet ps 0 (go u) h)));
 }
 
-module _ (line : ℕ) (m : Map) (go : ℕ → Ran) (fair : Fair go) where
+module _ (line : ℕ) (m : Map) (go : ℕ → Ran) (bounded : Bounded go) where
   turn-spares : (t : ℕ) → (turn line m t go).used ≤ t
   unfolding turn
   turn-spares zero = omega arith
-  turn-spares (suc t) = let e = more-used [] 1 (go t) in let h = fair.spares t in omega arith
+  turn-spares (suc t) = let e = more-used [] 1 (go t) in let h = bounded.spares t in omega arith
 
   turn-steady : (t u : ℕ) → t ≤ u → met_limit (turn line m t go).outcome ≡ false → turn line m u go ≡ turn line m t go
   unfolding turn
   turn-steady zero u le h = absurd cc
   turn-steady (suc t) zero le h = absurd (omega arith)
-  turn-steady (suc t) (suc u) le h = ap (λ r. more [] 1 r) (fair.steady t u (omega arith) (more-unmet [] 1 (go t) h))
+  turn-steady (suc t) (suc u) le h = ap (λ r. more [] 1 r) (bounded.steady t u (omega arith) (more-unmet [] 1 (go t) h))
 
   turn-frugal : (t u : ℕ) → t ≤ u → (turn line m u go).used ≤ t → met_limit (turn line m u go).outcome ≡ false → turn line m t go ≡ turn line m u go
   unfolding turn
@@ -108,14 +99,14 @@ module _ (line : ℕ) (m : Map) (go : ℕ → Ran) (fair : Fair go) where
   turn-frugal zero (suc u) le used h = absurd (let e = more-used [] 1 (go u) in omega arith)
   turn-frugal (suc t) (suc u) le used h =
       let e = more-used [] 1 (go u) in
-      ap (λ r. more [] 1 r) (fair.frugal t u (omega arith) (omega arith) (more-unmet [] 1 (go u) h))
+      ap (λ r. more [] 1 r) (bounded.frugal t u (omega arith) (omega arith) (more-unmet [] 1 (go u) h))
 
-  turn-fair : Fair (λ t. turn line m t go)
-  turn-fair = record { spares = turn-spares; steady = turn-steady; frugal = turn-frugal }
+  turn-bounded : Bounded (λ t. turn line m t go)
+  turn-bounded = record { spares = turn-spares; steady = turn-steady; frugal = turn-frugal }
 
-turn_if-fair : (b : Bool) (line : ℕ) (m : Map) (go : ℕ → Ran) → Fair go → Fair (λ t. turn_if b line m t go)
-turn_if-fair true line m go fair = turn-fair line m go fair
-turn_if-fair false line m go fair = fair
+turn_if-bounded : (b : Bool) (line : ℕ) (m : Map) (go : ℕ → Ran) → Bounded go → Bounded (λ t. turn_if b line m t go)
+turn_if-bounded true line m go bounded = turn-bounded line m go bounded
+turn_if-bounded false line m go bounded = bounded
 
 -- ---- behind a run
 
@@ -126,22 +117,22 @@ Before r whole = met_limit whole.outcome ≡ false → (r.used ≤ whole.used) �
 more-before : (r next : Ran) → met_limit r.outcome ≡ false → Before r (more r.pieces r.used next)
 more-before r next h e = (let k = more-used r.pieces r.used next in omega arith, h)
 
-module _ (go : Follow) (fair : FairFollow go) where
+module _ (go : Follow) (bounded : BoundedFollow go) where
   goes_on_by-spares : (o : Outcome) (r : Ran) (t : ℕ) → r.used ≤ t → (goes_on_by o r t go).used ≤ t
-  goes_on_by-spares normal r t le = more-spares r.pieces r.used (λ k. go r.map k) (fair r.map) t le
+  goes_on_by-spares normal r t le = more-spares r.pieces r.used (λ k. go r.map k) (bounded r.map) t le
   goes_on_by-spares (jump s) r t le = le
   goes_on_by-spares (stopped line) r t le = le
   goes_on_by-spares (fault k line) r t le = le
 
   goes_on_by-steady : (o : Outcome) (r : Ran) (t u : ℕ) → t ≤ u → met_limit (goes_on_by o r t go).outcome ≡ false → goes_on_by o r u go ≡ goes_on_by o r t go
-  goes_on_by-steady normal r t u le h = more-steady r.pieces r.used (λ k. go r.map k) (fair r.map) t u le h
+  goes_on_by-steady normal r t u le h = more-steady r.pieces r.used (λ k. go r.map k) (bounded r.map) t u le h
   goes_on_by-steady (jump s) r t u le h = refl
   goes_on_by-steady (stopped line) r t u le h = refl
   goes_on_by-steady (fault k line) r t u le h = refl
 
   goes_on_by-frugal : (o : Outcome) (r : Ran) (t u : ℕ) → t ≤ u → r.used ≤ t → (goes_on_by o r u go).used ≤ t → met_limit (goes_on_by o r u go).outcome ≡ false → goes_on_by o r t go ≡ goes_on_by o r u go
   goes_on_by-frugal normal r t u le within used h =
-      more-frugal r.pieces r.used (λ k. go r.map k) (fair r.map) t u le within used h
+      more-frugal r.pieces r.used (λ k. go r.map k) (bounded r.map) t u le within used h
   goes_on_by-frugal (jump s) r t u le within used h = refl
   goes_on_by-frugal (stopped line) r t u le within used h = refl
   goes_on_by-frugal (fault k line) r t u le within used h = refl
@@ -156,33 +147,33 @@ module _ (go : Follow) (fair : FairFollow go) where
   unfolding goes_on
   goes_on-before r t = goes_on_by-before r.outcome r t refl
 
-  goes_on-fair : (run : ℕ → Ran) → Fair run → Fair (λ t. goes_on (run t) t go)
+  goes_on-bounded : (run : ℕ → Ran) → Bounded run → Bounded (λ t. goes_on (run t) t go)
   unfolding goes_on
-  goes_on-fair run first = record {
+  goes_on-bounded run first = record {
     spares = λ t. goes_on_by-spares (run t).outcome (run t) t (first.spares t);
     steady = λ t u le h. ap (λ r. goes_on r u go) (first.steady t u le (goes_on-before (run t) t h).1) ∙ goes_on_by-steady (run t).outcome (run t) t u le h;
     frugal = λ t u le used h. (let before = goes_on-before (run u) u h in let within : (run u).used ≤ t = (let k = before.0 in omega arith) in ap (λ r. goes_on r t go) (first.frugal t u le within before.1) ∙ goes_on_by-frugal (run u).outcome (run u) t u le within used h);
   }
 
-module _ (go : Ways) (fair : FairWays go) where
+module _ (go : Ways) (bounded : BoundedWays go) where
   leads_on_by-spares : (o : Outcome) (r : Ran) (t : ℕ) → r.used ≤ t → (leads_on_by o r t go).used ≤ t
-  leads_on_by-spares normal r t le = more-spares r.pieces r.used (λ k. go onward r.map k) (fair onward r.map) t le
-  leads_on_by-spares (jump s) r t le = more-spares r.pieces r.used (λ k. go (at_label s) r.map k) (fair (at_label s) r.map) t le
+  leads_on_by-spares normal r t le = more-spares r.pieces r.used (λ k. go onward r.map k) (bounded onward r.map) t le
+  leads_on_by-spares (jump s) r t le = more-spares r.pieces r.used (λ k. go (at_label s) r.map k) (bounded (at_label s) r.map) t le
   leads_on_by-spares (stopped line) r t le = le
   leads_on_by-spares (fault k line) r t le = le
 
   leads_on_by-steady : (o : Outcome) (r : Ran) (t u : ℕ) → t ≤ u → met_limit (leads_on_by o r t go).outcome ≡ false → leads_on_by o r u go ≡ leads_on_by o r t go
-  leads_on_by-steady normal r t u le h = more-steady r.pieces r.used (λ k. go onward r.map k) (fair onward r.map) t u le h
+  leads_on_by-steady normal r t u le h = more-steady r.pieces r.used (λ k. go onward r.map k) (bounded onward r.map) t u le h
   leads_on_by-steady (jump s) r t u le h =
-      more-steady r.pieces r.used (λ k. go (at_label s) r.map k) (fair (at_label s) r.map) t u le h
+      more-steady r.pieces r.used (λ k. go (at_label s) r.map k) (bounded (at_label s) r.map) t u le h
   leads_on_by-steady (stopped line) r t u le h = refl
   leads_on_by-steady (fault k line) r t u le h = refl
 
   leads_on_by-frugal : (o : Outcome) (r : Ran) (t u : ℕ) → t ≤ u → r.used ≤ t → (leads_on_by o r u go).used ≤ t → met_limit (leads_on_by o r u go).outcome ≡ false → leads_on_by o r t go ≡ leads_on_by o r u go
   leads_on_by-frugal normal r t u le within used h =
-      more-frugal r.pieces r.used (λ k. go onward r.map k) (fair onward r.map) t u le within used h
+      more-frugal r.pieces r.used (λ k. go onward r.map k) (bounded onward r.map) t u le within used h
   leads_on_by-frugal (jump s) r t u le within used h =
-      more-frugal r.pieces r.used (λ k. go (at_label s) r.map k) (fair (at_label s) r.map) t u le within used h
+      more-frugal r.pieces r.used (λ k. go (at_label s) r.map k) (bounded (at_label s) r.map) t u le within used h
   leads_on_by-frugal (stopped line) r t u le within used h = refl
   leads_on_by-frugal (fault k line) r t u le within used h = refl
 
@@ -196,9 +187,9 @@ module _ (go : Ways) (fair : FairWays go) where
   unfolding leads_on
   leads_on-before r t = leads_on_by-before r.outcome r t refl
 
-  leads_on-fair : (run : ℕ → Ran) → Fair run → Fair (λ t. leads_on (run t) t go)
+  leads_on-bounded : (run : ℕ → Ran) → Bounded run → Bounded (λ t. leads_on (run t) t go)
   unfolding leads_on
-  leads_on-fair run first = record {
+  leads_on-bounded run first = record {
     spares = λ t. leads_on_by-spares (run t).outcome (run t) t (first.spares t);
     steady = λ t u le h. ap (λ r. leads_on r u go) (first.steady t u le (leads_on-before (run t) t h).1) ∙ leads_on_by-steady (run t).outcome (run t) t u le h;
     frugal = λ t u le used h. (let before = leads_on-before (run u) u h in let within : (run u).used ≤ t = (let k = before.0 in omega arith) in ap (λ r. leads_on r t go) (first.frugal t u le within before.1) ∙ leads_on_by-frugal (run u).outcome (run u) t u le within used h);
@@ -207,111 +198,111 @@ module _ (go : Ways) (fair : FairWays go) where
 -- ---- statements
 
 module _ (program : List ItemTree) where
-  output-fair : (source : FormatTree) (list : ListItemsTree) (line : ℕ) (m : Map) (go : Follow) → FairFollow go → Fair (λ t. output program source list line m t go)
-  output-fair source list line m go h =
+  output-bounded : (source : FormatTree) (list : ListItemsTree) (line : ℕ) (m : Map) (go : Follow) → BoundedFollow go → Bounded (λ t. output program source list line m t go)
+  output-bounded source list line m go h =
       let records : List Value → Result (List ℕ) FaultKind = λ vs. edited (parts_for program source) vs in
       let items = listed (scope_of program) list m list_limit in
-      turn-fair line m (λ u. with_ok items line m (λ l. with_ok (records l.values) line m (λ r. more (r ∷ []) 0 (go l.map u)))) (with_ok-fair items line m (λ l u. with_ok (records l.values) line m (λ r. more (r ∷ []) 0 (go l.map u))) (λ l. with_ok-fair (records l.values) line m (λ r u. more (r ∷ []) 0 (go l.map u)) (λ r. piece-fair (r ∷ []) (λ u. go l.map u) (h l.map))))
+      turn-bounded line m (λ u. with_ok items line m (λ l. with_ok (records l.values) line m (λ r. more (r ∷ []) 0 (go l.map u)))) (with_ok-bounded items line m (λ l u. with_ok (records l.values) line m (λ r. more (r ∷ []) 0 (go l.map u))) (λ l. with_ok-bounded (records l.values) line m (λ r u. more (r ∷ []) 0 (go l.map u)) (λ r. piece-bounded (r ∷ []) (λ u. go l.map u) (h l.map))))
 
-  assigned-fair : (s : Scope) (target : List ℕ) (es : ExprsTree) (e : ExprTree) (line : ℕ) (m : Map) (go : Follow) → FairFollow go → Fair (λ t. assigned s target es e line m t go)
-  assigned-fair s target es e line m go h =
+  assigned-bounded : (s : Scope) (target : List ℕ) (es : ExprsTree) (e : ExprTree) (line : ℕ) (m : Map) (go : Follow) → BoundedFollow go → Bounded (λ t. assigned s target es e line m t go)
+  assigned-bounded s target es e line m go h =
       let here = subscripts s (dimensions_in (s.arrays target)) es m in
       let right = value s e m in
-      turn-fair line m (λ u. with_ok here line m (λ ss. with_ok right line m (λ v. go (put m target ss (as_integer v)) u))) (with_ok-fair here line m (λ ss u. with_ok right line m (λ v. go (put m target ss (as_integer v)) u)) (λ ss. with_ok-fair right line m (λ v u. go (put m target ss (as_integer v)) u) (λ v. h (put m target ss (as_integer v)))))
+      turn-bounded line m (λ u. with_ok here line m (λ ss. with_ok right line m (λ v. go (put m target ss (as_integer v)) u))) (with_ok-bounded here line m (λ ss u. with_ok right line m (λ v. go (put m target ss (as_integer v)) u)) (λ ss. with_ok-bounded right line m (λ v u. go (put m target ss (as_integer v)) u) (λ v. h (put m target ss (as_integer v)))))
 
-  unless_defined-fair : (o : Option Definition) (run passed : ℕ → Ran) → Fair run → Fair passed → Fair (λ t. unless_defined o (run t) (passed t))
-  unless_defined-fair None run passed fair over = fair
-  unless_defined-fair (Some d) run passed fair over = over
+  unless_defined-bounded : (o : Option Definition) (run passed : ℕ → Ran) → Bounded run → Bounded passed → Bounded (λ t. unless_defined o (run t) (passed t))
+  unless_defined-bounded None run passed bounded over = bounded
+  unless_defined-bounded (Some d) run passed bounded over = over
 
-  picked-fair : (s : Scope) (e : ExprTree) (pick : Value → Next) (line : ℕ) (m : Map) (go : Ways) → FairWays go → Fair (λ t. picked_by s e pick line m t go)
-  picked-fair s e pick line m go h =
-      turn-fair line m (λ u. with_ok (value s e m) line m (λ v. go (pick v) m u)) (with_ok-fair (value s e m) line m (λ v u. go (pick v) m u) (λ v. h (pick v) m))
+  picked-bounded : (s : Scope) (e : ExprTree) (pick : Value → Next) (line : ℕ) (m : Map) (go : Ways) → BoundedWays go → Bounded (λ t. picked_by s e pick line m t go)
+  picked-bounded s e pick line m go h =
+      turn-bounded line m (λ u. with_ok (value s e m) line m (λ v. go (pick v) m u)) (with_ok-bounded (value s e m) line m (λ v u. go (pick v) m u) (λ v. h (pick v) m))
 
-  simple-fair : (s : ShapeTree) (line : ℕ) (m : Map) (go : Ways) → FairWays go → Fair (λ t. simple program s line m t go)
-  simple-fair (assignment target es e) line m go h =
-      unless_defined-fair (defined_by (scope_of program).arrays (assignment target es e)) (λ t. assigned (scope_of program) target es e line m t (go onward)) (λ t. go onward m t) (assigned-fair (scope_of program) target es e line m (go onward) (h onward)) (h onward m)
-  simple-fair (writing control list) line m go h = output-fair control.source list line m (go onward) (h onward)
-  simple-fair (printing source list) line m go h = output-fair source list line m (go onward) (h onward)
-  simple-fair continuing line m go h = turn-fair line m (λ u. go onward m u) (h onward m)
-  simple-fair (going label) line m go h = turn-fair line m (λ u. go (at_label (number_of label)) m u) (h (at_label (number_of label)) m)
-  simple-fair (computed_going labels comma e) line m go h =
-      picked-fair (scope_of program) e (λ v. by_count labels (as_integer v)) line m go h
-  simple-fair (arithmetic_if e a b c) line m go h = picked-fair (scope_of program) e (λ v. by_sign a b c (as_integer v)) line m go h
-  simple-fair (stopping text) line m go h = turn-fair line m (λ u. ended_by (stopped line) m) (ended_by-fair (stopped line) m)
-  simple-fair s line m go h = h onward m
+  simple-bounded : (s : ShapeTree) (line : ℕ) (m : Map) (go : Ways) → BoundedWays go → Bounded (λ t. simple program s line m t go)
+  simple-bounded (assignment target es e) line m go h =
+      unless_defined-bounded (defined_by (scope_of program).arrays (assignment target es e)) (λ t. assigned (scope_of program) target es e line m t (go onward)) (λ t. go onward m t) (assigned-bounded (scope_of program) target es e line m (go onward) (h onward)) (h onward m)
+  simple-bounded (writing control list) line m go h = output-bounded control.source list line m (go onward) (h onward)
+  simple-bounded (printing source list) line m go h = output-bounded source list line m (go onward) (h onward)
+  simple-bounded continuing line m go h = turn-bounded line m (λ u. go onward m u) (h onward m)
+  simple-bounded (going label) line m go h = turn-bounded line m (λ u. go (at_label (number_of label)) m u) (h (at_label (number_of label)) m)
+  simple-bounded (computed_going labels comma e) line m go h =
+      picked-bounded (scope_of program) e (λ v. by_count labels (as_integer v)) line m go h
+  simple-bounded (arithmetic_if e a b c) line m go h = picked-bounded (scope_of program) e (λ v. by_sign a b c (as_integer v)) line m go h
+  simple-bounded (stopping text) line m go h = turn-bounded line m (λ u. ended_by (stopped line) m) (ended_by-bounded (stopped line) m)
+  simple-bounded s line m go h = h onward m
 
-  step-fair : (s : ShapeTree) (line : ℕ) (m : Map) (go : Ways) → FairWays go → Fair (λ t. step program s line m t go)
-  step-fair (logical_if e s) line m go h =
+  step-bounded : (s : ShapeTree) (line : ℕ) (m : Map) (go : Ways) → BoundedWays go → Bounded (λ t. step program s line m t go)
+  step-bounded (logical_if e s) line m go h =
       let r = value (scope_of program) e m in
-      turn-fair line m (λ u. with_ok r line m (λ v. if as_logical v then simple program s line m u go else go onward m u)) (with_ok-fair r line m (λ v u. if as_logical v then simple program s line m u go else go onward m u) (λ v. if-fair (as_logical v) (λ u. simple program s line m u go) (λ u. go onward m u) (simple-fair s line m go h) (h onward m)))
-  step-fair s line m go h = simple-fair s line m go h
+      turn-bounded line m (λ u. with_ok r line m (λ v. if as_logical v then simple program s line m u go else go onward m u)) (with_ok-bounded r line m (λ v u. if as_logical v then simple program s line m u go else go onward m u) (λ v. if-bounded (as_logical v) (λ u. simple program s line m u go) (λ u. go onward m u) (simple-bounded s line m go h) (h onward m)))
+  step-bounded s line m go h = simple-bounded s line m go h
 
 -- ---- DO statements and block IFs
 
-pub fold_trips-fair : (f : Meaning) (line : ℕ) (variable : List ℕ) (by : ℤ) (range : Members) → FairMeaning f → (is : List ℤ) (m : Map) → Fair (λ t. fold_trips f line variable by range is m t)
+pub fold_trips-bounded : (f : Meaning) (line : ℕ) (variable : List ℕ) (by : ℤ) (range : Members) → BoundedMeaning f → (is : List ℤ) (m : Map) → Bounded (λ t. fold_trips f line variable by range is m t)
 unfolding fold_trips
-fold_trips-fair f line variable by range fair [] m = ended_by-fair normal m
-fold_trips-fair f line variable by range fair (i ∷ is) m =
-    goes_on-fair (λ n u. added line variable by n (λ k. fold_trips f line variable by range is k u)) (λ n. with_ok-fair (integer (n variable [] +ℤ by)) line n (λ v u. fold_trips f line variable by range is (put n variable [] (as_integer v)) u) (λ v. fold_trips-fair f line variable by range fair is (put n variable [] (as_integer v)))) (λ t. f range range m t) (fair range range m)
+fold_trips-bounded f line variable by range bounded [] m = ended_by-bounded normal m
+fold_trips-bounded f line variable by range bounded (i ∷ is) m =
+    goes_on-bounded (λ n u. added line variable by n (λ k. fold_trips f line variable by range is k u)) (λ n. with_ok-bounded (integer (n variable [] +ℤ by)) line n (λ v u. fold_trips f line variable by range is (put n variable [] (as_integer v)) u) (λ v. fold_trips-bounded f line variable by range bounded is (put n variable [] (as_integer v)))) (λ t. f range range m t) (bounded range range m)
 
-module _ (scope : Scope) (f : Meaning) (fair : FairMeaning f) where
-  looped-fair : (s : ShapeTree) (line : ℕ) (range : Members) (m : Map) (go : Ways) → FairWays go → Fair (λ t. looped scope f s line range m t go)
+module _ (scope : Scope) (f : Meaning) (bounded : BoundedMeaning f) where
+  looped-bounded : (s : ShapeTree) (line : ℕ) (range : Members) (m : Map) (go : Ways) → BoundedWays go → Bounded (λ t. looped scope f s line range m t go)
   unfolding looped
-  looped-fair (doing label comma variable limits) line range m go h =
-      turn-fair line m (λ u. with_ok (span_of scope limits m) line m (λ s. leads_on (trips_from f line variable range m u s) u go)) (with_ok-fair (span_of scope limits m) line m (λ s u. leads_on (trips_from f line variable range m u s) u go) (λ s. leads_on-fair go h (λ u. trips_from f line variable range m u s) (fold_trips-fair f line variable s.step range fair (trips s.first s.last s.step) (put m variable [] s.first))))
-  looped-fair s line range m go h = h onward m
+  looped-bounded (doing label comma variable limits) line range m go h =
+      turn-bounded line m (λ u. with_ok (span_of scope limits m) line m (λ s. leads_on (trips_from f line variable range m u s) u go)) (with_ok-bounded (span_of scope limits m) line m (λ s u. leads_on (trips_from f line variable range m u s) u go) (λ s. leads_on-bounded go h (λ u. trips_from f line variable range m u s) (fold_trips-bounded f line variable s.step range bounded (trips s.first s.last s.step) (put m variable [] s.first))))
+  looped-bounded s line range m go h = h onward m
 
-  arms_from-fair : (first : Bool) (arms : Arms) (m : Map) (go : Ways) → FairWays go → Fair (λ t. arms_from scope f first arms m t go)
+  arms_from-bounded : (first : Bool) (arms : Arms) (m : Map) (go : Ways) → BoundedWays go → Bounded (λ t. arms_from scope f first arms m t go)
   unfolding arms_from tested
-  arms_from-fair first no_arms m go h = h onward m
-  arms_from-fair first (arm x body arms) m go h =
+  arms_from-bounded first no_arms m go h = h onward m
+  arms_from-bounded first (arm x body arms) m go h =
       let c = holds scope (condition_of x.shape) m in
-      turn_if-fair _ x.line m (λ u. with_ok c x.line m (λ b. if b then leads_on (f body body m u) u go else arms_from scope f false arms m u go)) (with_ok-fair c x.line m (λ b u. if b then leads_on (f body body m u) u go else arms_from scope f false arms m u go) (λ b. if-fair b (λ u. leads_on (f body body m u) u go) (λ u. arms_from scope f false arms m u go) (leads_on-fair go h (λ u. f body body m u) (fair body body m)) (arms_from-fair false arms m go h)))
+      turn_if-bounded _ x.line m (λ u. with_ok c x.line m (λ b. if b then leads_on (f body body m u) u go else arms_from scope f false arms m u go)) (with_ok-bounded c x.line m (λ b u. if b then leads_on (f body body m u) u go else arms_from scope f false arms m u go) (λ b. if-bounded b (λ u. leads_on (f body body m u) u go) (λ u. arms_from scope f false arms m u go) (leads_on-bounded go h (λ u. f body body m u) (bounded body body m)) (arms_from-bounded false arms m go h)))
 
   -- ---- lists
 
-  goes_at-fair : (all : Members) (rest : Option Members) (s : ℕ) → FairFollow (goes_at f all rest s)
-  goes_at-fair all (Some rest) s n = fair all rest n
-  goes_at-fair all None s n = ended_by-fair (jump s) n
+  goes_at-bounded : (all : Members) (rest : Option Members) (s : ℕ) → BoundedFollow (goes_at f all rest s)
+  goes_at-bounded all (Some rest) s n = bounded all rest n
+  goes_at-bounded all None s n = ended_by-bounded (jump s) n
 
-  ways-fair : (all : Members) (go : Follow) → FairFollow go → FairWays (ways_in f all go)
-  ways-fair all go h onward n = h n
-  ways-fair all go h (at_label s) n = goes_at-fair all (labelled s all) s n
+  ways-bounded : (all : Members) (go : Follow) → BoundedFollow go → BoundedWays (ways_in f all go)
+  ways-bounded all go h onward n = h n
+  ways-bounded all go h (at_label s) n = goes_at-bounded all (labelled s all) s n
 
-pass_over-fair : (program : List ItemTree) (f : Meaning) → FairMeaning f → FairMeaning (pass_over program f)
+pass_over-bounded : (program : List ItemTree) (f : Meaning) → BoundedMeaning f → BoundedMeaning (pass_over program f)
 unfolding pass_over
-pass_over-fair program f fair all none m = ended_by-fair normal m
-pass_over-fair program f fair all (plain x ms) m =
-    step-fair program x.shape x.line m _ (ways-fair (scope_of program) f fair all (λ n u. pass_over program f all ms n u) (λ n. pass_over-fair program f fair all ms n))
-pass_over-fair program f fair all (loop x range ms) m =
-    looped-fair (scope_of program) f fair x.shape x.line range m _ (ways-fair (scope_of program) f fair all (λ n u. pass_over program f all ms n u) (λ n. pass_over-fair program f fair all ms n))
-pass_over-fair program f fair all (block arms x ms) m =
-    arms_from-fair (scope_of program) f fair true arms m _ (ways-fair (scope_of program) f fair all (λ n u. pass_over program f all ms n u) (λ n. pass_over-fair program f fair all ms n))
+pass_over-bounded program f bounded all none m = ended_by-bounded normal m
+pass_over-bounded program f bounded all (plain x ms) m =
+    step-bounded program x.shape x.line m _ (ways-bounded (scope_of program) f bounded all (λ n u. pass_over program f all ms n u) (λ n. pass_over-bounded program f bounded all ms n))
+pass_over-bounded program f bounded all (loop x range ms) m =
+    looped-bounded (scope_of program) f bounded x.shape x.line range m _ (ways-bounded (scope_of program) f bounded all (λ n u. pass_over program f all ms n u) (λ n. pass_over-bounded program f bounded all ms n))
+pass_over-bounded program f bounded all (block arms x ms) m =
+    arms_from-bounded (scope_of program) f bounded true arms m _ (ways-bounded (scope_of program) f bounded all (λ n u. pass_over program f all ms n u) (λ n. pass_over-bounded program f bounded all ms n))
 
-fuelled-fair : (program : List ItemTree) (n : ℕ) → FairMeaning (fuelled program n)
+fuelled-bounded : (program : List ItemTree) (n : ℕ) → BoundedMeaning (fuelled program n)
 unfolding fuelled
-fuelled-fair program zero all rest m = ended_by-fair normal m
-fuelled-fair program (suc n) all rest m = pass_over-fair program (fuelled program n) (fuelled-fair program n) all rest m
+fuelled-bounded program zero all rest m = ended_by-bounded normal m
+fuelled-bounded program (suc n) all rest m = pass_over-bounded program (fuelled program n) (fuelled-bounded program n) all rest m
 
 module _ (program : List ItemTree) (all rest : Members) (m : Map) where
   exec-spares : (t : ℕ) → (exec program all rest m t).used ≤ t
   unfolding exec
-  exec-spares t = (fuelled-fair program (suc t) all rest m).spares t
+  exec-spares t = (fuelled-bounded program (suc t) all rest m).spares t
 
   -- both runs with the greater fuel
   exec-steady : (t u : ℕ) → t ≤ u → met_limit (exec program all rest m t).outcome ≡ false → exec program all rest m u ≡ exec program all rest m t
   unfolding exec
   exec-steady t u le h =
       let e = exec-fuelled program (suc u) all rest m t (omega arith) in
-      (fuelled-fair program (suc u) all rest m).steady t u le (ap (λ (r : Ran). met_limit r.outcome) e ∙ h) ∙ e
+      (fuelled-bounded program (suc u) all rest m).steady t u le (ap (λ (r : Ran). met_limit r.outcome) e ∙ h) ∙ e
 
   exec-frugal : (t u : ℕ) → t ≤ u → (exec program all rest m u).used ≤ t → met_limit (exec program all rest m u).outcome ≡ false → exec program all rest m t ≡ exec program all rest m u
   unfolding exec
   exec-frugal t u le used h =
-      sym (exec-fuelled program (suc u) all rest m t (omega arith)) ∙ (fuelled-fair program (suc u) all rest m).frugal t u le used h
+      sym (exec-fuelled program (suc u) all rest m t (omega arith)) ∙ (fuelled-bounded program (suc u) all rest m).frugal t u le used h
 
-pub exec-fair : (program : List ItemTree) → FairMeaning (exec program)
-exec-fair program all rest m =
+pub exec-bounded : (program : List ItemTree) → BoundedMeaning (exec program)
+exec-bounded program all rest m =
     record { spares = exec-spares program all rest m; steady = exec-steady program all rest m; frugal = exec-frugal program all rest m }
 
 -- ---- trips one after another

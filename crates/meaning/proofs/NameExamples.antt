@@ -1,8 +1,6 @@
 -- Each of the rules K1 to K9 broken, and near misses.
-use Rattle.std.proofs.Common.{◌≡◌, List, ℕ, Result, Ok, Err, Option, Some, None, refl}
+use Rattle.std.proofs.Common.{◌≡◌, Some, None, refl}
 use Rattle.std.specs.Prelude.{codes}
-use Rattle.meaning.specs.declared.refusal.Broken.{Broken}
-use Rattle.meaning.specs.declared.refusal.Rule.{Rule}
 use Rattle.meaning.specs.declared.refusal.Rule.TheVariants.{K1, K2, K3, K4, K5, K6, K7, K8, K9, K13}
 use Rattle.meaning.proofs.RuleExamples.{judged, broken}
 use Rattle.meaning.proofs.Examples.{all_definitions}

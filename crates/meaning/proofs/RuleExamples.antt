@@ -1,8 +1,8 @@
 -- Worked programs with declarations, DATA, functions and rules that are broken.
-use Rattle.std.proofs.Common.{◌≡◌, List, ℕ, [], ◌∷◌, ◌++◌, Result, Ok, Err, Option, Some, None, refl}
+use Rattle.std.proofs.Common.{◌≡◌, List, ℕ, [], ◌∷◌, Result, Ok, Err, Option, Some, None, refl}
 use Rattle.std.specs.Prelude.{codes}
 use Rattle.meaning.specs.declared.refusal.Rule.{Rule}
-use Rattle.meaning.specs.declared.refusal.Rule.TheVariants.{K2, K3, K4, K5, K6, K7, K8, K9, K10, K11, K12, K13}
+use Rattle.meaning.specs.declared.refusal.Rule.TheVariants.{K3, K4, K5, K6, K8, K9, K10, K12, K13}
 use Rattle.meaning.specs.declared.ending.FaultKind.{FaultKind}
 use Rattle.meaning.specs.declared.ending.FaultKind.TheVariants.{F1, F2, F3, F6, F7}
 use Rattle.meaning.specs.declared.ending.Ending.TheVariants as endings

@@ -119,7 +119,7 @@ parts_for program (format_constant text) = unwrap_or (format_in (undoubled text)
 
 -- ---- one statement, and then what follows it
 
--- the values of the whole list, then their records, then one piece (12.8 and 12.9.4.2). A fault in the list leaves the map from
+-- the values of the whole list, then their records, then one piece (12.8 and 12.9.4.2). A fault of these leaves the map from
 -- before the list, whatever variables of implied DOs were set: no statement is executed behind a fault
 abbrev pub output : List ItemTree → FormatTree → ListItemsTree → ℕ → Map → ℕ → Follow → Ran
 output program source list line m t go =

@@ -1,19 +1,17 @@
 -- DATA statements: the variables and elements that they give values, and the rule K10 (ANSI X3.9-1978, chapter 9).
-use Rattle.std.specs.Prelude.{ℕ, suc, ◌+◌, ◌*◌, ℤ, pos, ◌+ℤ◌, Bool, true, false, not, ◌&&◌, ◌||◌, nat_lt, ◌==◌, length, List, [], ◌∷◌, ◌++◌, map, flat_map, is_some, is_none, replicate, if◌then◌else◌, Option, Some, None, Result, Ok, Err}
-use Rattle.std.specs.List.{list_any, fold, range_with_len}
+use Rattle.std.specs.Prelude.{ℕ, suc, ℤ, pos, Bool, true, false, ◌&&◌, ◌||◌, List, [], ◌∷◌, ◌++◌, map, is_some, is_none, replicate, if◌then◌else◌, Option, Some, None}
+use Rattle.std.specs.List.{list_any, fold}
 use Rattle.std.specs.Ordering.{int_eq}
 use Rattle.std.specs.Str.{bytes_eq}
 use Rattle.std.specs.Cmp.Lexicographic.{pointwise}
 use Rattle.meaning.specs.declared.ending.Value.{Value}
 use Rattle.meaning.specs.declared.ending.Value.TheVariants as values
-use Rattle.meaning.specs.declared.syntax.DataType.TheVariants as types
 use Rattle.meaning.specs.declared.syntax.Sign.{Sign}
-use Rattle.meaning.specs.declared.syntax.Sign.TheVariants as signs
 use Rattle.meaning.specs.Characters.{number_of}
 use Rattle.meaning.specs.Syntax.{ExprTree, name, element, ExprsTree, no_exprs, exprs, LimitsTree, ListItemsTree, no_items, more_items, value_item, loop_item, DataConstantTree, data_number, data_truth, data_name, RepeatTree, repeat_number, repeat_name, DataValueTree, DataSetTree, ShapeTree, initializing, ItemTree}
 use Rattle.meaning.specs.Arrays.{Dimension, above, elements}
 use Rattle.meaning.specs.Types.{Types}
-use Rattle.meaning.specs.Values.{Known, Arrays, as_integer, with_sign}
+use Rattle.meaning.specs.Values.{Known, as_integer, with_sign}
 use Rattle.meaning.specs.Scopes.{constant_value}
 use Rattle.meaning.specs.Typing.{clash, integer_type, logical_type, SomeType}
 use Rattle.meaning.specs.Uses.{Roles, is_other}

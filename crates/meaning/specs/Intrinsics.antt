@@ -1,6 +1,6 @@
 -- The intrinsic functions (ANSI X3.9-1978, 15.3 and table 5, those of INTEGER): their names, how many arguments they take, and
 -- their values. A value outside INTEGER is a fault.
-use Rattle.std.specs.Prelude.{ℕ, ℤ, pos, neg_ℤ, ◌-ℤ◌, ◌*ℤ◌, int_div, int_lt, Bool, ◌||◌, ◌==◌, nat_le, List, [], ◌∷◌, length, codes, if◌then◌else◌, Option, Some, None, Result, Ok, Err}
+use Rattle.std.specs.Prelude.{ℕ, ℤ, pos, neg_ℤ, ◌-ℤ◌, ◌*ℤ◌, int_div, int_lt, Bool, ◌==◌, nat_le, List, [], ◌∷◌, codes, if◌then◌else◌, Option, Some, None, Err}
 use Rattle.std.specs.List.{fold, list_any}
 use Rattle.std.specs.Ordering.{int_eq}
 use Rattle.std.specs.Str.{bytes_eq}

@@ -1,10 +1,10 @@
 -- The rules on labels: K1, K2 and K11 (ANSI X3.9-1978, 3.4, 11.1 to 11.4, 11.10.8, 12.3, 12.4 and 13.1).
-use Rattle.std.specs.Prelude.{ℕ, ℤ, pos, negsuc, Bool, true, false, not, ◌&&◌, ◌||◌, ◌==◌, List, [], ◌∷◌, ◌++◌, map, flat_map, count_by, is_some, is_none, if◌then◌else◌, Option, Some, None}
+use Rattle.std.specs.Prelude.{ℕ, pos, Bool, true, false, not, ◌&&◌, ◌||◌, ◌==◌, List, [], ◌∷◌, ◌++◌, map, count_by, is_some, is_none, if◌then◌else◌, Option, Some, None}
 use Rattle.std.specs.List.{list_any}
 use Rattle.meaning.specs.declared.ending.Value.{Value}
 use Rattle.meaning.specs.declared.ending.Value.TheVariants as values
 use Rattle.meaning.specs.Characters.{number_of}
-use Rattle.meaning.specs.Syntax.{ExprTree, UnitTree, star, unit_number, FormatTree, format_label, format_constant, ShapeTree, writing, printing, format, going, computed_going, arithmetic_if, logical_if, ItemTree}
+use Rattle.meaning.specs.Syntax.{UnitTree, star, unit_number, FormatTree, format_label, format_constant, ShapeTree, writing, printing, format, going, computed_going, arithmetic_if, logical_if, ItemTree}
 use Rattle.meaning.specs.Surroundings.{Around}
 use Rattle.meaning.specs.Formats.{descriptors_of, format_in, undoubled}
 use Rattle.meaning.specs.Types.{Types}

@@ -32,6 +32,8 @@ pub mod Formats
 pub mod FormatLaws
 pub mod Execution
 pub mod Turns
+pub mod LoopLaws
+pub mod TransferLaws
 pub mod Plans
 pub mod Answers
 pub mod Promise

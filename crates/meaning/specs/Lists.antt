@@ -1,13 +1,13 @@
 -- The values of an output list (ANSI X3.9-1978, 12.8.2): of expressions, of the elements of whole arrays, and of implied DOs, whose
 -- variables they set. A list has 65,536 items at most (own): a value is one, and so is an implied DO each time that it is reached.
-use Rattle.std.specs.Prelude.{ℕ, zero, suc, ◌-◌, ℤ, pos, ◌+ℤ◌, nat_lt, length, List, [], ◌∷◌, ◌++◌, if◌then◌else◌, Option, Some, None, Result, Ok, Err}
+use Rattle.std.specs.Prelude.{ℕ, zero, suc, ◌-◌, ℤ, ◌+ℤ◌, nat_lt, length, List, [], ◌∷◌, ◌++◌, if◌then◌else◌, Option, Some, None, Result, Ok, Err}
 use Rattle.meaning.specs.declared.ending.FaultKind.{FaultKind}
 use Rattle.meaning.specs.declared.ending.FaultKind.TheVariants.{F8}
 use Rattle.meaning.specs.declared.ending.Value.{Value}
 use Rattle.meaning.specs.Syntax.{ExprTree, name, ListItemsTree, no_items, more_items, value_item, loop_item}
 use Rattle.meaning.specs.Arrays.{Dimension, elements}
 use Rattle.meaning.specs.Maps.{Map, put}
-use Rattle.meaning.specs.Values.{Scope, Valued, value, typed, integer, as_integer, and_then, ◌>>=◌}
+use Rattle.meaning.specs.Values.{Scope, value, typed, integer, as_integer, and_then, ◌>>=◌}
 use Rattle.meaning.specs.Trips.{Span, span_of, trips}
 
 -- the values so far, the map behind them, and how many items may follow

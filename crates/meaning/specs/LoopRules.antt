@@ -1,11 +1,10 @@
 -- The rule on the variables of DO statements and implied DOs: K9 (ANSI X3.9-1978, 9.3, 11.10 and 12.8.2.3).
-use Rattle.std.specs.Prelude.{ℕ, Bool, false, not, ◌&&◌, ◌||◌, List, [], ◌∷◌, ◌++◌, flat_map}
+use Rattle.std.specs.Prelude.{ℕ, Bool, false, not, ◌&&◌, ◌||◌, List, [], ◌∷◌}
 use Rattle.std.specs.List.{list_any}
-use Rattle.meaning.specs.Syntax.{ExprsTree, no_exprs, exprs, ListItemsTree, no_items, more_items, value_item, loop_item, DataSetTree, ShapeTree, assignment, writing, printing, doing, initializing, logical_if, ItemTree}
+use Rattle.meaning.specs.Syntax.{ExprsTree, no_exprs, exprs, ListItemsTree, no_items, more_items, value_item, loop_item, ShapeTree, assignment, writing, printing, initializing, logical_if, ItemTree}
 use Rattle.meaning.specs.Surroundings.{Around, controlled_by}
 use Rattle.meaning.specs.Typing.{clash, logical_type}
 use Rattle.meaning.specs.Uses.{Roles, is_one_of, is_other}
-use Rattle.meaning.specs.Typing.{integer_type}
 
 -- the variables that statements set while they stand in a range: by an assignment, a DO or an implied DO
 abbrev pub set_by : List ℕ → ExprsTree → List (List ℕ)

@@ -1,6 +1,6 @@
 -- The rules on names: K3, K4, K8, K12 and K13 (ANSI X3.9-1978, 2.5, 4.1.2, 5.1, 8.1, 8.4 to 8.6, 15.2 to 15.4 and 18.2).
-use Rattle.std.specs.Prelude.{ℕ, suc, zero, ◌+◌, max, Bool, true, false, not, ◌&&◌, ◌||◌, nat_lt, ◌==◌, length, List, [], ◌∷◌, ◌++◌, map, flat_map, is_some, is_none, if◌then◌else◌, Option, Some, None, unwrap_or, reverse}
-use Rattle.std.specs.List.{list_any, list_all, filter, fold}
+use Rattle.std.specs.Prelude.{ℕ, suc, ◌+◌, max, Bool, true, false, not, ◌&&◌, ◌||◌, nat_lt, ◌==◌, length, List, [], ◌∷◌, ◌++◌, map, flat_map, is_some, is_none, if◌then◌else◌, Option, Some, None, unwrap_or, reverse}
+use Rattle.std.specs.List.{list_any, filter, fold}
 use Rattle.std.specs.Str.{bytes_eq}
 use Rattle.meaning.specs.declared.refusal.Broken.{Broken}
 use Rattle.meaning.specs.declared.refusal.Rule.{Rule}
@@ -8,13 +8,12 @@ use Rattle.meaning.specs.declared.refusal.Rule.TheVariants.{K3, K4, K5, K8, K12,
 use Rattle.meaning.specs.declared.syntax.DataType.{DataType}
 use Rattle.meaning.specs.declared.syntax.DataType.TheVariants as types
 use Rattle.meaning.specs.Statements.{broken_if}
-use Rattle.meaning.specs.Syntax.{LettersTree, ImplicitTree, DeclaratorTree, ExprTree, number, truth, name, signed, negated, binary, paren, element, call, ExprsTree, no_exprs, exprs, ShapeTree, assignment, definition, logical_if, ItemTree}
+use Rattle.meaning.specs.Syntax.{LettersTree, DeclaratorTree, ExprTree, number, truth, name, signed, negated, binary, paren, element, call, ExprsTree, no_exprs, exprs, ShapeTree, assignment, definition, logical_if, ItemTree}
 use Rattle.meaning.specs.Types.{implied_in, typed_in, is_among}
-use Rattle.meaning.specs.Values.{Arrays}
 use Rattle.meaning.specs.Intrinsics.{Intrinsic, intrinsic_named, takes}
-use Rattle.meaning.specs.Scopes.{listed, constants_in, declarators_in, Definition, defined_by, definitions_of}
-use Rattle.meaning.specs.Typing.{Names, has_wrong_type, option_list}
-use Rattle.meaning.specs.Uses.{Use, bare_use, Roles, is_one_of, is_constant, is_array, is_function, is_other, uses_in, Parts, parts_at, parts_from, uses_at, is_defining, is_before_executables, count}
+use Rattle.meaning.specs.Scopes.{constants_in, declarators_in, Definition, defined_by, definitions_of}
+use Rattle.meaning.specs.Typing.{has_wrong_type, option_list}
+use Rattle.meaning.specs.Uses.{Use, Roles, is_one_of, is_constant, is_array, is_function, is_other, uses_in, Parts, parts_at, parts_from, uses_at, is_defining, is_before_executables}
 
 -- a rule that a statement breaks behind others, told at its line
 unfoldable pub told : (List ItemTree → ItemTree → Bool) → Rule → List ItemTree → List ItemTree → List Broken

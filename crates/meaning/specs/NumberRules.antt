@@ -1,8 +1,8 @@
 -- The rules on constants and on the sizes of arrays: K6 and K7 (ANSI X3.9-1978, 4.3, 5.1.1 and 8.6).
-use Rattle.std.specs.Prelude.{ℕ, ◌+◌, ℤ, int_lt, Bool, false, ◌&&◌, ◌||◌, nat_lt, length, List, [], ◌∷◌, ◌++◌, map, flat_map, sum_by, is_some, is_none, if◌then◌else◌}
-use Rattle.std.specs.List.{list_any, fold}
+use Rattle.std.specs.Prelude.{ℕ, ◌+◌, int_lt, Bool, false, ◌&&◌, ◌||◌, nat_lt, length, List, [], ◌∷◌, ◌++◌, map, flat_map, sum_by, is_some, is_none, if◌then◌else◌}
+use Rattle.std.specs.List.{list_any}
 use Rattle.meaning.specs.Characters.{number_of}
-use Rattle.meaning.specs.Syntax.{ExprTree, number, truth, name, signed, negated, binary, paren, element, call, ExprsTree, no_exprs, exprs, BoundsTree, DeclaratorTree, ConstantTree, DataConstantTree, data_number, data_truth, data_name, RepeatTree, repeat_number, repeat_name, DataValueTree, DataSetTree, ShapeTree, initializing, ItemTree}
+use Rattle.meaning.specs.Syntax.{ExprTree, number, truth, name, signed, negated, binary, paren, element, call, ExprsTree, no_exprs, exprs, DeclaratorTree, ConstantTree, DataConstantTree, data_number, data_truth, data_name, RepeatTree, repeat_number, repeat_name, DataValueTree, ShapeTree, initializing, ItemTree}
 use Rattle.meaning.specs.Arrays.{Dimension, size}
 use Rattle.meaning.specs.Types.{Types}
 use Rattle.meaning.specs.Values.{Known}

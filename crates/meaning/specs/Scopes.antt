@@ -1,15 +1,13 @@
 -- What the names of a program unit stand for: its constants (ANSI X3.9-1978, 8.6), arrays (5.1), statement functions (15.4) and
 -- intrinsic functions (15.3).
-use Rattle.std.specs.Prelude.{ℕ, ℤ, pos, Bool, true, false, not, ◌&&◌, ◌||◌, nat_lt, length, List, [], ◌∷◌, ◌++◌, map, is_some, if◌then◌else◌, Option, Some, None, Result, Ok, Err, reverse}
-use Rattle.std.specs.List.{fold, list_any}
+use Rattle.std.specs.Prelude.{ℕ, ℤ, pos, Bool, true, false, ◌&&◌, nat_lt, length, List, [], ◌∷◌, map, is_some, if◌then◌else◌, Option, Some, None, Ok, Err, reverse}
+use Rattle.std.specs.List.{fold}
 use Rattle.std.specs.Str.{bytes_eq}
-use Rattle.meaning.specs.declared.ending.FaultKind.{FaultKind}
 use Rattle.meaning.specs.declared.ending.Value.{Value}
-use Rattle.meaning.specs.declared.ending.Value.TheVariants as values
 use Rattle.meaning.specs.Syntax.{ExprTree, name, ExprsTree, no_exprs, exprs, BoundsTree, DeclaratorTree, ConstantTree, ShapeTree, typing, logical_typing, dimensioning, parameter, format, naming, implying, initializing, assignment, definition, ItemTree}
 use Rattle.meaning.specs.Arrays.{Dimension}
 use Rattle.meaning.specs.Types.{Types, types_of}
-use Rattle.meaning.specs.Values.{Valued, Arrays, Known, Calls, Scope, value, as_integer, integer}
+use Rattle.meaning.specs.Values.{Valued, Arrays, Known, Calls, Scope, value, as_integer}
 use Rattle.meaning.specs.Intrinsics.{Intrinsic, intrinsic_named, intrinsic_value}
 use Rattle.meaning.specs.Maps.{Map, start}
 

@@ -6,7 +6,7 @@ use Rattle.meaning.specs.declared.syntax.DataType.{DataType}
 use Rattle.meaning.specs.declared.syntax.DataType.TheVariants as types
 use Rattle.meaning.specs.declared.syntax.Operator.{Operator}
 use Rattle.meaning.specs.declared.syntax.Operator.TheVariants as operators
-use Rattle.meaning.specs.Syntax.{ExprTree, number, truth, name, signed, negated, binary, paren, element, call, ExprsTree, no_exprs, exprs, BoundsTree, UnitTree, star, unit_number, LimitsTree, ListItemsTree, no_items, more_items, value_item, loop_item, ConstantTree, DataSetTree, ShapeTree, assignment, writing, printing, doing, typing, logical_typing, dimensioning, parameter, initializing, definition, computed_going, arithmetic_if, logical_if, block_if, else_if}
+use Rattle.meaning.specs.Syntax.{ExprTree, number, truth, name, signed, negated, binary, paren, element, call, ExprsTree, no_exprs, exprs, BoundsTree, UnitTree, star, unit_number, LimitsTree, ListItemsTree, no_items, more_items, value_item, loop_item, ShapeTree, assignment, writing, printing, doing, parameter, initializing, definition, computed_going, arithmetic_if, logical_if, block_if, else_if}
 use Rattle.meaning.specs.Types.{Types}
 use Rattle.meaning.specs.Values.{Arrays}
 use Rattle.meaning.specs.Intrinsics.{intrinsic_named}

@@ -1,11 +1,10 @@
 -- Uses of names in the statements of a program unit, and what the names are: constants, arrays, statement functions, variables
 -- (ANSI X3.9-1978, chapters 5, 8 and 15, and 18.2).
-use Rattle.std.specs.Prelude.{ℕ, suc, Bool, true, false, not, ◌&&◌, ◌||◌, List, [], ◌∷◌, ◌++◌, map, flat_map, is_some, is_none, if◌then◌else◌, Option, Some, None, option_map}
+use Rattle.std.specs.Prelude.{ℕ, suc, Bool, true, false, not, ◌&&◌, ◌||◌, List, [], ◌∷◌, ◌++◌, map, flat_map, is_some, is_none, if◌then◌else◌, Option, Some, None}
 use Rattle.std.specs.List.{list_any, list_all, filter}
 use Rattle.std.specs.Str.{bytes_eq}
-use Rattle.meaning.specs.Syntax.{ExprTree, number, truth, name, signed, negated, binary, paren, element, call, ExprsTree, no_exprs, exprs, UnitTree, star, unit_number, LimitsTree, ListItemsTree, no_items, more_items, value_item, loop_item, ConstantTree, DataConstantTree, data_number, data_truth, data_name, RepeatTree, repeat_number, repeat_name, DataValueTree, DataSetTree, ShapeTree, assignment, writing, printing, doing, parameter, initializing, definition, computed_going, arithmetic_if, logical_if, block_if, else_if, ItemTree}
-use Rattle.meaning.specs.Types.{Types, types_of}
-use Rattle.meaning.specs.Values.{Arrays}
+use Rattle.meaning.specs.Syntax.{ExprTree, number, truth, name, signed, negated, binary, paren, element, call, ExprsTree, no_exprs, exprs, UnitTree, star, unit_number, LimitsTree, ListItemsTree, no_items, more_items, value_item, loop_item, DataConstantTree, data_number, data_truth, data_name, RepeatTree, repeat_number, repeat_name, DataValueTree, DataSetTree, ShapeTree, assignment, writing, printing, doing, parameter, initializing, definition, computed_going, arithmetic_if, logical_if, block_if, else_if, ItemTree}
+use Rattle.meaning.specs.Types.{types_of}
 use Rattle.meaning.specs.Scopes.{listed, constants_in, declarators_in, arrays_of, Definition, definitions_of, defined_by, is_specification}
 use Rattle.meaning.specs.Typing.{Names, option_list, in_bounds}
 
