@@ -9,8 +9,8 @@ pub const HELP: &str =
 
 Usage: f77run [OPTIONS] [FILE]
 
-It reads the source from FILE, or from standard input where no FILE is named, and writes the program's records to
-standard output. Behind -- every word is a FILE.
+It reads the source from FILE, or from standard input where no FILE is named, and writes the records to standard
+output. Behind -- every word is a FILE.
 
 Options, with their ranges and what stands for those that are not given:
   --workers N    1 to 64, 4: the workers that run a loop side by side
@@ -43,7 +43,7 @@ Rules, which a source is refused for breaking:
   N1   a statement that may not stand behind one before it
   N2   END is missing, or a statement follows it
   N3   ELSE IF, ELSE, END IF or END where no block IF, or none of its arms, may go on or end so
-  N4   the range of a DO statement that crosses a block IF or another range, or that ends with a statement that may not end it, or not at all
+  N4   the range of a DO statement that crosses a block IF or another range, ends wrongly, or does not end
   N5   more than 32 DO statements and block IFs open at once
   K1   a label that an earlier statement has
   K2   a transfer to a label that no statement has, or that may not be a target, or into a range or an arm
