@@ -8,7 +8,7 @@ use Rattle.std.specs.Char.{digit_value}
 use Rattle.std.specs.Str.{bytes_eq, chars}
 use Rattle.std.specs.Str.Parse.{digits_value, without_leading_plus}
 use Rattle.clap.specs.Lexer.{long_of, short_of}
-use Rattle.plan_scratch.specs.Plans.{PlanNumbers, most_workers, most_trips, most_blocks, most_turns, plan_of}
+use Rattle.meaning.specs.Plans.{PlanNumbers, most_workers, most_trips, most_blocks, most_turns, plan_of}
 use Rattle.command_line.specs.declared.asked.OptionsFault.{OptionsFault}
 use Rattle.command_line.specs.declared.asked.OptionsFault.TheVariants as fault
 

@@ -10,7 +10,7 @@ use Rattle.clap.specs.declared.parser.matches.ArgMatches.{ArgMatches}
 use Rattle.command_line.specs.CommandLine.{Given, Part, Text, default_of, file, first, greatest, is_in, name_of, values}
 use Rattle.command_line.specs.declared.asked.OptionsFault.{OptionsFault}
 use Rattle.command_line.specs.declared.asked.Options.{Options}
-use Rattle.plan_scratch.specs.Plans.{PlanNumbers}
+use Rattle.meaning.specs.Plans.{PlanNumbers}
 use Rattle.std.specs.Borrow.{Bor}
 use Rattle.std.specs.Prelude.{Result, Ok, Err, MatchResult, map, option_map}
 use Rattle.command_line.specs.declared.asked.OptionsFault.TheVariants as fault

@@ -1,6 +1,6 @@
 //! What a command line asks for, or why it names no run.
 
-use plan_scratch::plan::Plan;
+use meaning::plan::Plan;
 use thiserror::Error;
 
 /// Why the words of a command line name no run: they ask for a text in place of one, or something is wrong with them.

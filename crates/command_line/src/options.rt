@@ -12,7 +12,7 @@ use crate::asked::{Options, OptionsFault};
 use clap::builder::ValueParser;
 use clap::error::ErrorKind;
 use clap::{Arg, ArgAction, ArgMatches, Command};
-use plan_scratch::plan::Plan;
+use meaning::plan::Plan;
 use std::alloc::{AllocError, Global};
 
 /// Reads a command line, the first word of which is the program's name: options and a file in any order, each option once at

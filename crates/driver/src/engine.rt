@@ -10,7 +10,7 @@ use command_line::options::options;
 use executor::Out;
 use executor::run::run;
 use meaning::ending::Ending;
-use plan_scratch::plan::Plan;
+use meaning::plan::Plan;
 use std::alloc::{AllocError, AllocFailed, Global};
 use std::env::Env;
 use std::io::{ErrorKind, Read, Write};

@@ -38,3 +38,4 @@ pub mod Promise
 pub mod Reports
 pub mod Stores
 pub mod Arrays
+pub mod Plans

@@ -5,6 +5,7 @@ pub mod cell;
 pub mod ending;
 pub mod laws;
 pub mod number;
+pub mod plan;
 pub mod refusal;
 pub mod statement;
 pub mod syntax;

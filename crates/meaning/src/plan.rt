@@ -1,7 +1,7 @@
 //! How a program is run.
 
 ghost use Rattle.std.specs.Prelude.{◌≡◌};
-ghost use Rattle.plan_scratch.specs.Plans.{IsIn, in_range, most_workers, most_trips, most_blocks, most_turns, plan_of};
+ghost use Rattle.meaning.specs.Plans.{IsIn, in_range, most_workers, most_trips, most_blocks, most_turns, plan_of};
 
 use std::marker::Model;
 
@@ -16,7 +16,7 @@ pub struct Plan {
 }
 
 impl Model for Plan {
-    ghost use Rattle.plan_scratch.specs.Plans.{PlanNumbers, IsPlan};
+    ghost use Rattle.meaning.specs.Plans.{PlanNumbers, IsPlan};
 
     ghost Value = { PlanNumbers };
 
