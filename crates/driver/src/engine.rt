@@ -1,14 +1,16 @@
 //! The program without its streams: what it reads, writes and answers.
 
-ghost use Rattle.std.specs.Prelude.{◌≡◌, IfOk, IfSome};
+ghost use Rattle.std.specs.Prelude.{◌≡◌, ◌⊎◌, IfOk, IfSome};
 ghost use Rattle.driver.specs.Source.{AnswersAs};
-ghost use Rattle.driver.specs.Status.{status_of, status_of_stop};
+ghost use Rattle.driver.specs.Status.{IsStatusOf, status_of, stop_for};
 
-use crate::asked::{Options, OptionsFault};
-use crate::command_line::options;
+use command_line::asked::OptionsFault;
+use command_line::help::{HELP, VERSION};
+use command_line::options::options;
 use executor::Out;
 use executor::run::run;
 use meaning::ending::Ending;
+use meaning::plan::Plan;
 use std::alloc::{AllocError, AllocFailed, Global};
 use std::env::Env;
 use std::io::{ErrorKind, Read, Write};
@@ -18,11 +20,24 @@ use std::{env, fs, io};
 /// So many bytes of a source are read at most: one more than a source may have.
 const BYTES_READ: u64 = 1_048_577;
 
-/// Why a source isn't run.
+/// What a command line names.
+#[derive(Drop)]
+struct Job {
+    /// How the program is run.
+    plan: Plan,
+    /// The bytes of its source.
+    source: Vec<u8>,
+}
+
+/// Why no source is run.
 #[derive(Clone, Copy, Debug, PartialEq, Eq)]
 enum Stop {
+    /// The help is asked for instead.
+    Help,
+    /// The version is asked for instead.
+    Version,
     /// The command line is at fault.
-    Asked(OptionsFault),
+    Faulty(OptionsFault),
     /// Memory was refused before the source was run.
     Memory,
     /// The file or standard input can't be read.
@@ -42,53 +57,74 @@ impl<T: Drop> From<AllocFailed<T>> for Stop {
 }
 
 impl From<OptionsFault> for Stop {
+    ghost from_gives = { λ fault stop. stop ≡ stop_for fault };
+
     fn from(fault: OptionsFault) -> Stop {
-        Stop::Asked(fault)
+        match fault {
+            OptionsFault::Help => Stop::Help,
+            OptionsFault::Version => Stop::Version,
+            OptionsFault::Memory => Stop::Memory,
+            _ => Stop::Faulty(fault),
+        }
     }
 }
 
-/// Runs the program of a command line with a limit on turns, over a reader for standard input and writers for standard
-/// output and standard error, and answers its exit status: 0 where END was reached, 1 for a fault, 2 for a refused
+/// Runs the program of a command line over a reader for standard input and writers for standard output and standard
+/// error, and answers its exit status: 0 where END was reached or a text was asked for, 1 for a fault, 2 for a refused
 /// source, 3 for a fault of the command line, 4 for want of memory, 5 where the source can't be read or a write is
-/// refused.
-pub fn engine<V: Env, R: Files + AllocGlobal, I: Read, O: Write + Drop, E: Write>(
-    words: &V,
+/// refused. What the command line asks for comes first, then the source, its run, and the flush of its output.
+pub fn engine<R: Files + AllocGlobal, V: Env, I: Read, O: Write + Drop, E: Write>(
     rt: &R,
-    turns: u64,
+    words: &V,
     input: &mut I,
     out: O,
     err: &mut E,
 ) -> u8 {
-    match source_asked(words, rt, input) {
-        Ok(source) => report(run_whole(rt.alloc(), &source, turns, out), err),
-        Err(stop) => report_stop(stop, err),
+    match job_asked(rt, words, input) {
+        Ok(job) => report(run_whole(rt.alloc(), &job, out), err),
+        Err(stop) => report_stop(stop, out, err),
     }
 }
 
-// The source that a command line asks for.
-fn source_asked<V: Env, R: Files + AllocGlobal, I: Read>(
-    words: &V,
+// What a command line names.
+fn job_asked<R: Files + AllocGlobal, V: Env, I: Read>(
     rt: &R,
+    words: &V,
     input: &mut I,
-) -> Result<Vec<u8>, Stop> {
+) -> Result<Job, Stop> {
     let words = words_of(words, rt.alloc())?;
-    let source = source_named(rt, &words, input);
+    let job = job_named(rt, &words, input);
     drop(words);
-    source
+    job
 }
 
-// The source that the words of a command line ask for.
-fn source_named<R: Files + AllocGlobal, I: Read>(
+// What the words of a command line name.
+fn job_named<R: Files + AllocGlobal, I: Read>(
     rt: &R,
     words: &[String],
     input: &mut I,
-) -> Result<Vec<u8>, Stop> {
+) -> Result<Job, Stop> {
     let texts = texts_of(rt.alloc(), words)?;
-    let asked = options(&texts);
+    let job = job_of(rt, &texts, input);
     drop(texts);
-    match source_of(rt, asked?, input) {
-        Ok(source) => Ok(source),
-        Err(error) => Err(unread(&error)),
+    job
+}
+
+// What texts name.
+fn job_of<'a, R: Files + AllocGlobal, I: Read>(
+    rt: &R,
+    texts: &'a [&'a str],
+    input: &mut I,
+) -> Result<Job, Stop> {
+    match options(rt.alloc(), texts) {
+        Ok(asked) => match source_of(rt, asked.file, input) {
+            Ok(source) => Ok(Job {
+                plan: asked.plan,
+                source,
+            }),
+            Err(error) => Err(unread(&error)),
+        },
+        Err(fault) => Err(Stop::from(fault)),
     }
 }
 
@@ -107,7 +143,7 @@ fn words_of<V: Env>(words: &V, alloc: Global) -> Result<Vec<String>, Stop> {
         Ok(found) => found,
         Err(error) => {
             return Err(match error.kind() {
-                ErrorKind::InvalidData => Stop::Asked(OptionsFault::NotUtf8),
+                ErrorKind::InvalidData => Stop::Faulty(OptionsFault::NotUtf8),
                 _ => Stop::Memory,
             });
         }
@@ -130,10 +166,10 @@ fn unread(error: &io::Error) -> Stop {
 // The bytes of the source.
 fn source_of<R: Files + AllocGlobal, I: Read>(
     rt: &R,
-    asked: Options<'_>,
+    file: Option<&str>,
     input: &mut I,
 ) -> io::Result<Vec<u8>> {
-    match asked.file {
+    match file {
         Some(path) => front_of(rt.alloc(), fs::open(rt, path)?),
         None => front_of(rt.alloc(), input),
     }
@@ -149,11 +185,10 @@ fn front_of<I: Read + Drop>(alloc: Global, reader: I) -> io::Result<Vec<u8>>
 }
 
 // Runs a source over a writer and flushes it; a flush that fails takes the place of the ending.
-fn run_whole<O: Write + Drop>(alloc: Global, source: &[u8], turns: u64, out: O) -> Ending {
+fn run_whole<O: Write + Drop>(alloc: Global, job: &Job, out: O) -> Ending {
     let mut sink = Out::new(out);
-    let ending = run(alloc, source, turns, &mut sink);
-    let mut out = sink.into_inner();
-    match out.flush() {
+    let ending = run(alloc, &job.source, job.plan.turns(), &mut sink);
+    match sink.into_inner().flush() {
         Ok(()) => ending,
         Err(_) => Ending::WriteRefused,
     }
@@ -174,7 +209,10 @@ fn report<E: Write>(ending: Ending, err: &mut E) -> u8
             let _ = writeln!(err, "REFUSED {rule} LINE {line}");
             2
         }
-        Ending::Memory => report_stop(Stop::Memory, err),
+        Ending::Memory => {
+            let _ = writeln!(err, "NO MEMORY");
+            4
+        }
         Ending::WriteRefused => {
             let _ = writeln!(err, "WRITE REFUSED");
             5
@@ -182,22 +220,35 @@ fn report<E: Write>(ending: Ending, err: &mut E) -> u8
     }
 }
 
-// Writes why a source isn't run, and answers the exit status.
-fn report_stop<E: Write>(stop: Stop, err: &mut E) -> u8
-    ensures { result ≡ status_of_stop stop }
+// Writes why no source is run, or the text that is asked for, and answers the exit status.
+fn report_stop<O: Write + Drop, E: Write>(stop: Stop, out: O, err: &mut E) -> u8
+    ensures { IsStatusOf stop result }
 {
     match stop {
-        Stop::Asked(fault) => {
+        Stop::Help => report(show(HELP, out), err),
+        Stop::Version => report(show(VERSION, out), err),
+        Stop::Faulty(fault) => {
             let _ = writeln!(err, "{fault}");
             3
         }
-        Stop::Memory => {
-            let _ = writeln!(err, "NO MEMORY");
-            4
-        }
+        Stop::Memory => report(Ending::Memory, err),
         Stop::FileRefused => {
             let _ = writeln!(err, "FILE REFUSED");
             5
         }
+    }
+}
+
+// Writes a text and flushes it, and answers the ending that this is.
+fn show<O: Write + Drop>(text: &str, out: O) -> Ending
+    ensures { (result ≡ Ending.Ended) ⊎ (result ≡ Ending.WriteRefused) }
+{
+    let mut out = out;
+    if out.write_all(text.as_bytes()).is_err() {
+        return Ending::WriteRefused;
+    }
+    match out.flush() {
+        Ok(()) => Ending::Ended,
+        Err(_) => Ending::WriteRefused,
     }
 }

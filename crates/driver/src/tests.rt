@@ -2,6 +2,7 @@
 //! expected lines are worked from docs/LANGUAGE.md.
 
 use crate::engine::engine;
+use command_line::help::{HELP, VERSION};
 use std::env::{Env, FillError};
 use std::io;
 use std::io::{ErrorKind, Read, Write};
@@ -82,14 +83,11 @@ struct Run {
     err: Vec<u8>,
 }
 
-// The turns that the program is given here.
-const TURNS: u64 = 1_000;
-
 // Runs the program of some words over a reader.
 fn run_of<R: Files + AllocGlobal, I: Read>(rt: &R, words: &[&[u8]], input: &mut I) -> Run {
     let mut out = Vec::new(rt.alloc());
     let mut err = Vec::new(rt.alloc());
-    let status = engine(&Words { words }, rt, TURNS, input, &mut out, &mut err);
+    let status = engine(rt, &Words { words }, input, &mut out, &mut err);
     Run { status, out, err }
 }
 
@@ -100,7 +98,7 @@ fn expect_line<R: Files + AllocGlobal + Abort, I: Read>(
     status: u8,
     line: &str,
 ) {
-    let run = run_of(rt, &[b"f77run"], input);
+    let run = run_of(rt, &[b"f77run", b"--turns", b"1000"], input);
     assert!(rt; run.err.as_slice() == line.as_bytes(), "{line}");
     assert!(rt; run.status == status, "{line}");
     assert!(rt; run.out.is_empty(), "{line}");
@@ -250,33 +248,111 @@ fn longest_sources(rt: HostRuntime) {
     assert!(rt; endless.err.as_slice() == b"REFUSED C7 LINE 1\n".as_slice());
 }
 
+// A command line that names no run, and the line of the program.
+const FAULTY: &[(&[&[u8]], &str)] = &[
+    (
+        &[b"f77run", b"a.f", b"b.f"],
+        "more than one file is named\n",
+    ),
+    (
+        &[b"f77run", b"--turn", b"5"],
+        "there is no such option; f77run --help lists the options\n",
+    ),
+    (
+        &[b"f77run", b"--turns"],
+        "an option stands without its number; f77run --help lists the options\n",
+    ),
+    (
+        &[b"f77run", b"--help=yes"],
+        "--help and --version take no value\n",
+    ),
+    (
+        &[b"f77run", b"--turns", b"5", b"--turns=5"],
+        "an option is given twice\n",
+    ),
+    (
+        &[b"f77run", b"--workers", b"0", b"x.f"],
+        "a number is wanted, from 1 to 64 for --workers, 1000000 for --block, 256 for --window, 1000000000000 for --turns\n",
+    ),
+    // a byte that stands in no UTF-8
+    (
+        &[b"f77run", b"a\xff.f"],
+        "an argument is not UTF-8\n",
+    ),
+    (
+        &[b"f77run", b"a.f", b"\xff"],
+        "an argument is not UTF-8\n",
+    ),
+];
+
 #[test]
 fn command_lines(rt: HostRuntime) {
-    let rows: &[(&[&[u8]], &str)] = &[
-        (
-            &[b"f77run", b"a.f", b"b.f"],
-            "more than one file is named; usage: f77run [FILE]\n",
-        ),
-        (
-            &[b"f77run", b"--turns"],
-            "there are no options; usage: f77run [FILE]\n",
-        ),
-        // a byte that stands in no UTF-8
-        (
-            &[b"f77run", b"a\xff.f"],
-            "an argument is not UTF-8; usage: f77run [FILE]\n",
-        ),
-        (
-            &[b"f77run", b"a.f", b"\xff"],
-            "an argument is not UTF-8; usage: f77run [FILE]\n",
-        ),
-    ];
-    for &(words, line) in rows {
+    for &(words, line) in FAULTY {
         let run = run_of(&rt, words, &mut io::empty());
         assert!(rt; run.status == 3, "{line}");
-        assert!(rt; run.err.as_slice() == line.as_bytes());
+        assert!(rt; run.err.as_slice() == line.as_bytes(), "{line}");
         assert!(rt; run.out.is_empty(), "{line}");
     }
+}
+
+// A request, and the text that answers it.
+const REQUESTS: &[(&[u8], &str)] = &[
+    (b"--help", HELP),
+    (b"-h", HELP),
+    (b"--version", VERSION),
+    (b"-V", VERSION),
+];
+
+#[test]
+fn requests(rt: HostRuntime) {
+    for &(word, text) in REQUESTS {
+        let run = run_of(&rt, &[b"f77run", word], &mut io::empty());
+        assert!(rt; run.status == 0);
+        assert!(rt; run.err.is_empty());
+        assert!(rt; run.out.as_slice() == text.as_bytes());
+        let mut err = Vec::new(rt.alloc());
+        let words = Words {
+            words: &[b"f77run", word],
+        };
+        let status = engine(
+            &rt,
+            &words,
+            &mut io::empty(),
+            Narrow { room: 3 },
+            &mut err,
+        );
+        assert!(rt; status == 5);
+        assert!(rt; err.as_slice() == b"WRITE REFUSED\n".as_slice());
+    }
+}
+
+#[test]
+fn turns_of_a_plan(rt: HostRuntime) {
+    // the DO statement and three assignments take four turns
+    let source = "      DO 10 I=1,3\n   10 J=I\n      END\n";
+    let enough = run_of(&rt, &[b"f77run", b"--turns=4"], &mut source.as_bytes());
+    assert!(rt; enough.status == 0);
+    assert!(rt; enough.err.is_empty());
+    let short = run_of(&rt, &[b"f77run", b"--turns=3"], &mut source.as_bytes());
+    assert!(rt; short.status == 1);
+    assert!(rt; short.err.as_slice() == b"FAULT F4 LINE 2\n".as_slice());
+}
+
+#[test]
+fn line_that_cannot_be_written(rt: HostRuntime) {
+    let words = Words {
+        words: &[b"f77run", b"--turns", b"0"],
+    };
+    let mut out = Vec::new(rt.alloc());
+    let status = engine(
+        &rt,
+        &words,
+        &mut io::empty(),
+        &mut out,
+        &mut Narrow { room: 0 },
+    );
+    assert!(rt; status == 3);
+    assert!(rt; out.is_empty());
 }
 
 #[test]
@@ -307,7 +383,7 @@ fn writes_that_are_refused(rt: HostRuntime) {
         let words = Words {
             words: &[b"f77run"],
         };
-        let status = engine(&words, &rt, TURNS, &mut input, Narrow { room }, &mut err);
+        let status = engine(&rt, &words, &mut input, Narrow { room }, &mut err);
         assert!(rt; status == 5);
         assert!(rt; err.as_slice() == b"WRITE REFUSED\n".as_slice());
     }

@@ -1,0 +1,748 @@
+-- What clap's definitions say of f77run's command is what the words ask for.
+use Rattle.std.proofs.Common.{◌≡◌, ◌∙◌, ◌<◌, ◌≤◌, ◌^◌, ◌==◌, ◌&&◌, ◌||◌, ℕ, Bool, cond, true, false, not, zero, suc, refl, sym, ap, ap₂, subst, arith, List, [], ◌∷◌, ◌++◌, length, inl, inr, Option, Some, None, Result, Ok, Err, true≢false, nat_lt, nat_le, append-nil, append_assoc, codes}
+use Rattle.std.proofs.lemmas.Bool.{le-ltb, leb-true, lt-ltb}
+use Rattle.std.proofs.lemmas.Bool.Decides.{Decides-eqb}
+use Rattle.std.specs.Option.{option_map_or}
+use Rattle.std.specs.Prelude.{◌⊎◌, drop, encode_utf8, option_map, option_and_then, slice_get, find, is_some, fold, map, unwrap_or, IfErr, IfOk, MatchResult}
+use Rattle.std.specs.Borrow.{Bor}
+use Rattle.std.proofs.lemmas.List.{length-map}
+use Rattle.std.specs.List.{list_all, list_any}
+use Rattle.std.specs.Str.{bytes_eq, chars}
+use Rattle.std.proofs.lemmas.Slice.Eq.{bytes_eq-Decides}
+use Rattle.clap.specs.Values.{kind_of, read_as}
+use Rattle.clap.specs.Matches.{found_of, matched_of, ReadsOne, one_text, raw_values}
+use Rattle.clap.proofs.WalkLemmas.{one_text-rows, raw_values-rows}
+use Rattle.clap.proofs.ValueTestLemmas.{accepts-Accepts}
+use Rattle.std.specs.Str.Parse.{ParsesUnsigned}
+use Rattle.clap.specs.declared.builder.value_parser.ValueParser.TheVariants as vp
+use Rattle.clap.specs.declared.error.Error.{Error}
+use Rattle.clap.specs.declared.parser.matches.ArgMatches.{ArgMatches}
+use Rattle.clap.specs.ValueTests.{is_unsigned_in}
+use Rattle.clap.specs.Kinds.{HasKind, IsAmong, Kinds, or_else}
+use Rattle.clap.specs.Lexer.{long_of, short_of}
+use Rattle.clap.specs.Faults.{bundle_fault, bundle_step_fault, check_fault, defaults_fault, entered_fault, given_default_fault, flag_word_fault, flags_fault, long_fault, other_fault, settle_fault, short_fault, step_fault, fault_of, turn_fault, use_fault, walk_fault}
+use Rattle.clap.specs.Simple.{Shape, built, entered, filled, help_rule, matches_of, version_rule, with_index}
+use Rattle.clap.specs.Walk.{Held, Row, Rule, Step, Waiting, Walk, after_flag, after_step, all_of, arg_by_long, bundle_met, bundle_step, default_rows, done, finished, has_row, is_empty, idle, is_pending, long_met, long_or_other, option, plain, plain_word, positional, pushed, reading_by, short_met, short_or_plain, subcommand_met, subcommand_or_other, trailing, walked, with_default, one_of, row_text, rows_of, settled, used, with_values, without}
+use Rattle.clap.specs.declared.error.kind.ErrorKind.{ErrorKind}
+use Rattle.clap.specs.declared.error.kind.ErrorKind.TheVariants as kind
+use Rattle.clap.specs.declared.parser.matches.ValueSource.TheVariants.{CommandLine}
+use Rattle.clap.specs.declared.builder.value_parser.Reading.{Reading}
+use Rattle.clap.specs.declared.builder.value_parser.Reading.TheVariants.{AsWritten}
+use Rattle.command_line.specs.Command.{f77run, fault_for, file_rule, number_rule}
+use Rattle.command_line.specs.CommandLine.{Given, Line, Part, Text, Word, asked_by, asked_for, asks, behind, block, closed, default_of, ends, errs, file, first, give, gives, greatest, holding, letter_word, long_or_short, long_word, meet, moved, nothing_read, read, request, short_word, take, is_in, is_number, name_of, number_in, number_of, put, put_if, turns, values, window, word_of, workers}
+use Rattle.command_line.specs.Matches.{Fits_all, IsGiven, IsNumber, Rows, as_seen, fits, fits_under, seen}
+use Rattle.command_line.specs.declared.asked.OptionsFault.{OptionsFault}
+use Rattle.command_line.specs.declared.asked.OptionsFault.TheVariants as fault
+
+-- ---- rows
+
+pub has_row-seen : (id : Text) (rows : List Row) → has_row id rows ≡ is_some (seen id rows)
+has_row-seen id [] = refl
+has_row-seen id (r ∷ rs) = go (bytes_eq r.id id) (has_row-seen id rs)
+  where
+    go : (b : Bool) → has_row id rs ≡ is_some (seen id rs) → (b || has_row id rs) ≡ is_some (cond b (Some (r.values, r.reading)) (seen id rs))
+    go true e = refl
+    go false e = e
+
+pub one_of-seen : (id : Text) (rows : List Row) → one_of id rows ≡ option_and_then (λ (s : List Text × Reading). option_map (read_as s.1) (slice_get s.0 0)) (seen id rows)
+one_of-seen id [] = refl
+one_of-seen id (r ∷ rs) = go (bytes_eq r.id id) (one_of-seen id rs)
+  where
+    go : (b : Bool) → one_of id rs ≡ option_and_then (λ (s : List Text × Reading). option_map (read_as s.1) (slice_get s.0 0)) (seen id rs)
+        → option_and_then row_text (cond b (Some r) (find (λ (x : Row). bytes_eq x.id id) rs))
+        ≡ option_and_then (λ (s : List Text × Reading). option_map (read_as s.1) (slice_get s.0 0)) (cond b (Some (r.values, r.reading)) (seen id rs))
+    go true e = refl
+    go false e = e
+
+pub all_of-seen : (id : Text) (rows : List Row) → all_of id rows ≡ option_map (λ (s : List Text × Reading). s.0) (seen id rows)
+all_of-seen id [] = refl
+all_of-seen id (r ∷ rs) = go (bytes_eq r.id id) (all_of-seen id rs)
+  where
+    go : (b : Bool) → all_of id rs ≡ option_map (λ (s : List Text × Reading). s.0) (seen id rs)
+        → option_map (λ (x : Row). x.values) (cond b (Some r) (find (λ (x : Row). bytes_eq x.id id) rs))
+        ≡ option_map (λ (s : List Text × Reading). s.0) (cond b (Some (r.values, r.reading)) (seen id rs))
+    go true e = refl
+    go false e = e
+
+-- one more value of an id
+abbrev pub put_row : Text → Text → List Row → List Row
+put_row id v rows = with_values id AsWritten CommandLine (v ∷ []) rows
+
+abbrev added : Option (List Text × Reading) → Text → Option (List Text × Reading)
+added None v = Some (v ∷ [], AsWritten)
+added (Some s) v = Some (s.0 ++ v ∷ [], s.1)
+
+seen_put : (id other v : Text) (rows : List Row) → seen other (put_row id v rows) ≡ cond (bytes_eq id other) (added (seen other rows) v) (seen other rows)
+seen_put id other v [] = refl
+seen_put id other v (r ∷ rs) = go (bytes_eq r.id id) refl (bytes_eq r.id other) refl (bytes_eq id other) refl (seen_put id other v rs)
+  where
+    same : bytes_eq r.id id ≡ true → bytes_eq r.id other ≡ bytes_eq id other
+    same e = ap (λ (t : Text). bytes_eq t other) ((bytes_eq-Decides r.id id).0 e)
+
+    never : bytes_eq r.id id ≡ false → bytes_eq r.id other ≡ true → bytes_eq id other ≡ true → ⊥
+    never b d c =
+        let joined : r.id ≡ id = (bytes_eq-Decides r.id other).0 d ∙ sym ((bytes_eq-Decides id other).0 c) in
+        true≢false (sym ((bytes_eq-Decides r.id id).1 joined) ∙ b)
+
+    go : (b : Bool) → bytes_eq r.id id ≡ b → (d : Bool) → bytes_eq r.id other ≡ d → (c : Bool) → bytes_eq id other ≡ c
+        → seen other (put_row id v rs) ≡ cond (bytes_eq id other) (added (seen other rs) v) (seen other rs)
+        → seen other (cond b (record r { values = r.values ++ v ∷ []; source = Some (Rattle.clap.specs.Walk.stronger r.source CommandLine) } ∷ rs) (r ∷ put_row id v rs))
+        ≡ cond c (added (cond d (Some (r.values, r.reading)) (seen other rs)) v) (cond d (Some (r.values, r.reading)) (seen other rs))
+    go true b true d true c ih = ap (λ t. cond t (Some (r.values ++ v ∷ [], r.reading)) (seen other rs)) d
+    go true b true d false c ih = absurd (true≢false (sym d ∙ same b ∙ c))
+    go true b false d true c ih = absurd (true≢false (sym c ∙ sym (same b) ∙ d))
+    go true b false d false c ih = ap (λ t. cond t (Some (r.values ++ v ∷ [], r.reading)) (seen other rs)) d
+    go false b true d true c ih = absurd (never b d c)
+    go false b true d false c ih = ap (λ t. cond t (Some (r.values, r.reading)) (seen other (put_row id v rs))) d
+    go false b false d f c ih =
+        ap (λ t. cond t (Some (r.values, r.reading)) (seen other (put_row id v rs))) d ∙ ih ∙ ap (λ t. cond t (added (seen other rs) v) (seen other rs)) c
+
+without_none : (id : Text) (rows : List Row) → has_row id rows ≡ false → without id rows ≡ rows
+without_none id [] none = refl
+without_none id (r ∷ rs) none = go (bytes_eq r.id id) none (without_none id rs)
+  where
+    go : (b : Bool) → (b || has_row id rs) ≡ false → (has_row id rs ≡ false → without id rs ≡ rs) → cond b rs (r ∷ without id rs) ≡ r ∷ rs
+    go true e ih = absurd (true≢false e)
+    go false e ih = ap (λ l. r ∷ l) (ih e)
+
+-- ---- what was given, and rows
+
+values_put : (part other : Part) (v : Text) (given : Given)
+    → values other (given ++ (part, v) ∷ []) ≡ values other given ++ cond (bytes_eq (name_of part) (name_of other)) (v ∷ []) []
+values_put part other v [] = go (bytes_eq (name_of part) (name_of other))
+  where
+    go : (b : Bool) → cond b (v ∷ []) [] ≡ [] ++ cond b (v ∷ []) []
+    go true = refl
+    go false = refl
+values_put part other v (g ∷ gs) = go (bytes_eq (name_of g.0) (name_of other)) (values_put part other v gs)
+  where
+    go : (b : Bool) → values other (gs ++ (part, v) ∷ []) ≡ values other gs ++ cond (bytes_eq (name_of part) (name_of other)) (v ∷ []) []
+        → cond b (g.1 ∷ values other (gs ++ (part, v) ∷ [])) (values other (gs ++ (part, v) ∷ []))
+        ≡ cond b (g.1 ∷ values other gs) (values other gs) ++ cond (bytes_eq (name_of part) (name_of other)) (v ∷ []) []
+    go true e = ap (λ l. g.1 ∷ l) e
+    go false e = e
+
+added_seen : (vs : List Text) (v : Text) → added (as_seen vs) v ≡ as_seen (vs ++ v ∷ [])
+added_seen [] v = refl
+added_seen (x ∷ xs) v = refl
+
+rows_put : (part : Part) (v : Text) (given : Given) (rows : List Row) → Rows given rows → Rows (given ++ (part, v) ∷ []) (put_row (name_of part) v rows)
+rows_put part v given rows h other =
+    seen_put (name_of part) (name_of other) v rows ∙ go (bytes_eq (name_of part) (name_of other)) ∙ sym (ap as_seen (values_put part other v given))
+  where
+    go : (b : Bool) → cond b (added (seen (name_of other) rows) v) (seen (name_of other) rows) ≡ as_seen (values other given ++ cond b (v ∷ []) [])
+    go true = ap (λ s. added s v) (h other) ∙ added_seen (values other given) v
+    go false = h other ∙ ap as_seen (sym (append-nil (values other given)))
+
+all_put : {X : Type 0} (test : X → Bool) (xs : List X) (x : X) → list_all test xs ≡ true → test x ≡ true → list_all test (xs ++ x ∷ []) ≡ true
+all_put test [] x h e = ap (λ b. b && true) e
+all_put test (y ∷ ys) x h e = go (test y) h (λ t. all_put test ys x t e)
+  where
+    go : (b : Bool) → (b && list_all test ys) ≡ true → (list_all test ys ≡ true → list_all test (ys ++ x ∷ []) ≡ true)
+        → (b && list_all test (ys ++ x ∷ [])) ≡ true
+    go true t f = f t
+    go false t f = absurd (true≢false (sym t))
+
+-- ---- what a step comes to
+
+-- what is given, by clap's kinds and rows
+abbrev pub Comes : Result Given OptionsFault → Kinds → List Row → Type 0
+Comes (Ok given) kinds rows = (kinds ≡ []) × Rows given rows × Fits_all given
+Comes (Err f) kinds rows = (k : ErrorKind) × (kinds ≡ k ∷ []) × (fault_for k ≡ f)
+
+abbrev pub rules : List Rule
+rules = (built f77run).top.rules
+
+abbrev number_at : Text → ℕ → Rule
+number_at id most = with_index 1 (filled (number_rule id most))
+
+abbrev file_at : Rule
+file_at = with_index 1 (filled file_rule)
+
+and_false : (b : Bool) → (b && false) ≡ false
+and_false true = refl
+and_false false = refl
+
+or-true : (b : Bool) → (b || true) ≡ true
+or-true true = refl
+or-true false = refl
+
+in_range : (most : ℕ) (v : Text) → most < 2 ^ 64 → is_unsigned_in 1 most v ≡ is_in most v
+in_range most v small = ap (λ b. is_number v && b) (go (nat_le 1 (number_of v)) (nat_le (number_of v) most) refl)
+  where
+    go : (low high : Bool) → nat_le (number_of v) most ≡ high → (nat_lt (number_of v) (2 ^ 64) && (low && high)) ≡ (low && high)
+    go true true e =
+        let below : number_of v ≤ most = leb-true (number_of v) most e in
+        ap (λ b. b && true) (lt-ltb (number_of v) (2 ^ 64) (omega arith))
+    go true false e = and_false (nat_lt (number_of v) (2 ^ 64))
+    go false high e = and_false (nat_lt (number_of v) (2 ^ 64))
+
+first_seen : (vs : List Text) → is_some (as_seen vs) ≡ is_some (slice_get vs 0)
+first_seen [] = refl
+first_seen (v ∷ vs) = refl
+
+numbered_put : (part : Part) (most : ℕ) (v : Text) (given : Given) (rows : List Row) → greatest part ≡ Some most → most < 2 ^ 64 → Rows given rows → Fits_all given
+    → Comes (put_if (is_some (first part given)) (is_in most v) part v given) (use_fault false (number_at (name_of part) most) (v ∷ []) rows)
+    (used (number_at (name_of part) most) (v ∷ []) rows)
+numbered_put part most v given rows known small h all =
+    go (is_some (first part given)) (is_in most v) (has_row-seen (name_of part) rows ∙ ap is_some (h part) ∙ first_seen (values part given)) (in_range most v small) refl
+  where
+    kinds : Bool → Bool → Kinds
+    kinds again good = or_else (cond (again && true) (kind.ArgumentConflict ∷ []) []) (or_else (cond good [] (kind.ValueValidation ∷ [])) [])
+
+    go : (again good : Bool) → has_row (name_of part) rows ≡ again → is_unsigned_in 1 most v ≡ good → is_in most v ≡ good
+        → Comes (put_if again good part v given) (use_fault false (number_at (name_of part) most) (v ∷ []) rows) (used (number_at (name_of part) most) (v ∷ []) rows)
+    go true good a g i = (kind.ArgumentConflict, ap₂ kinds a g, refl)
+    go false true a g i = (
+      ap₂ kinds a g,
+      subst (λ l. Rows (given ++ (part, v) ∷ []) (put_row (name_of part) v l)) (sym (without_none (name_of part) rows a)) (rows_put part v given rows h),
+      all_put fits given (part, v) all (ap (λ o. fits_under o v) known ∙ i),
+    )
+    go false false a g i = (kind.ValueValidation, ap₂ kinds a g, refl)
+
+abbrev rule_at : Part → Rule
+rule_at workers = number_at (codes "workers") 64
+rule_at block = number_at (codes "block") 1000000
+rule_at window = number_at (codes "window") 256
+rule_at turns = number_at (codes "turns") 1000000000000
+rule_at file = file_at
+
+put_told : (part : Part) (v : Text) (given : Given) (rows : List Row) → Rows given rows → Fits_all given
+    → Comes (put part v given) (use_fault false (rule_at part) (v ∷ []) rows) (used (rule_at part) (v ∷ []) rows)
+put_told workers v given rows h all = numbered_put workers 64 v given rows refl (omega arith) h all
+put_told block v given rows h all = numbered_put block 1000000 v given rows refl (omega arith) h all
+put_told window v given rows h all = numbered_put window 256 v given rows refl (omega arith) h all
+put_told turns v given rows h all = numbered_put turns 1000000000000 v given rows refl (omega arith) h all
+put_told file v given rows h all = (refl, rows_put file v given rows h, all_put fits given (file, v) all refl)
+
+-- what clap holds for what is held here
+abbrev pub pending_of : Option (Part × Option Text) → Option (Text × List Text)
+pending_of None = None
+pending_of (Some (part, None)) = Some (name_of part, [])
+pending_of (Some (part, Some v)) = Some (name_of part, v ∷ [])
+
+abbrev pub holds : List Row → Option (Part × Option Text) → Held
+holds rows held = record { rows = rows; pending = pending_of held; skip = 0 }
+
+closed_told : (given : Given) (held : Option (Part × Option Text)) (rows : List Row) → Rows given rows → Fits_all given
+    → Comes (closed given held) (settle_fault rules false (holds rows held)) (settled rules (holds rows held)).rows
+closed_told given None rows h all = (refl, h, all)
+closed_told given (Some (workers, None)) rows h all = (kind.InvalidValue, refl, refl)
+closed_told given (Some (block, None)) rows h all = (kind.InvalidValue, refl, refl)
+closed_told given (Some (window, None)) rows h all = (kind.InvalidValue, refl, refl)
+closed_told given (Some (turns, None)) rows h all = (kind.InvalidValue, refl, refl)
+closed_told given (Some (file, None)) rows h all = (kind.InvalidValue, refl, refl)
+closed_told given (Some (workers, Some v)) rows h all = put_told workers v given rows h all
+closed_told given (Some (block, Some v)) rows h all = put_told block v given rows h all
+closed_told given (Some (window, Some v)) rows h all = put_told window v given rows h all
+closed_told given (Some (turns, Some v)) rows h all = put_told turns v given rows h all
+closed_told given (Some (file, Some v)) rows h all = put_told file v given rows h all
+
+-- ---- a word
+
+abbrev pub standing : Option (Part × Option Text) → Bool → List Row → Waiting → Walk
+standing held only rows waiting =
+    record { held = holds rows held; waiting = waiting; position = 1; is_trailing = only; stopped = None }
+
+-- what takes the next word in clap's walk
+abbrev pub Waits : Option (Part × Option Text) → Waiting → Type 0
+Waits None waiting = (waiting ≡ idle) ⊎ (waiting ≡ positional)
+Waits (Some (part, None)) waiting = waiting ≡ option (name_of part)
+Waits (Some (part, Some v)) waiting = (waiting ≡ idle) ⊎ (waiting ≡ positional)
+
+abbrev pub Stands : Line → Walk → Type 0
+Stands line w = (rows : List Row) × (waiting : Waiting) × (w ≡ standing line.held line.only_files rows waiting) × Rows line.given rows
+    × Fits_all line.given × Waits line.held waiting
+
+abbrev pub Steps : Result Line OptionsFault → Kinds → Walk → Type 0
+Steps (Ok line) kinds w = (kinds ≡ []) × Stands line w
+Steps (Err f) kinds w = (k : ErrorKind) × (kinds ≡ k ∷ []) × (fault_for k ≡ f)
+
+nil_behind : (kinds : Kinds) → or_else kinds [] ≡ kinds
+nil_behind [] = refl
+nil_behind (k ∷ ks) = refl
+
+-- what was held is done with, and this is held
+held_told : (r : Result Given OptionsFault) (kinds : Kinds) (rows : List Row) (only : Bool) (next : Option (Part × Option Text)) (waiting : Waiting)
+    → Comes r kinds rows → Waits next waiting
+    → Steps (behind r (λ given. Ok (record { given = given; held = next; only_files = only }))) kinds (standing next only rows waiting)
+held_told (Ok given) kinds rows only next waiting c w = (c.0, (rows, waiting, refl, c.1, c.2, w))
+held_told (Err f) kinds rows only next waiting c w = c
+
+first_told : (kinds more after : Kinds) (k : ErrorKind) → kinds ≡ k ∷ [] → or_else (or_else kinds more) after ≡ k ∷ []
+first_told kinds more after k e = ap (λ l. or_else (or_else l more) after) e
+
+-- a request, whatever stands behind it
+request_told : (r : Result Given OptionsFault) (wanted : OptionsFault) (asked : ErrorKind) (kinds all_kinds : Kinds) (rows : List Row) (w : Walk)
+    → Comes r kinds rows → fault_for asked ≡ wanted
+    → ((k : ErrorKind) → or_else kinds (asked ∷ []) ≡ k ∷ [] → all_kinds ≡ k ∷ [])
+    → Steps (behind r (λ given. Err wanted)) all_kinds w
+request_told (Ok given) wanted asked kinds all_kinds rows w c is law = (asked, law asked (ap (λ k. or_else k (asked ∷ [])) c.0), is)
+request_told (Err f) wanted asked kinds all_kinds rows w c is law = (c.0, law c.0 (ap (λ k. or_else k (asked ∷ [])) c.1), c.2)
+
+-- an option with its value in one word
+given_told : (r : Result Given OptionsFault) (part : Part) (v : Text) (kinds after : Kinds) (rows more : List Row) (only : Bool) → Comes r kinds rows
+    → ((given : Given) → Rows given rows → Fits_all given → Comes (put part v given) after more)
+    → Steps (behind r (λ given. behind (put part v given) (λ put_in. Ok (record { given = put_in; held = None; only_files = only }))))
+    (or_else (or_else kinds after) []) (standing None only more idle)
+given_told (Ok given) part v kinds after rows more only c next = go (put part v given) (next given c.1 c.2)
+  where
+    same : or_else (or_else kinds after) [] ≡ after
+    same = nil_behind (or_else kinds after) ∙ ap (λ k. or_else k after) c.0
+
+    go : (r : Result Given OptionsFault) → Comes r after more
+        → Steps (behind r (λ put_in. Ok (record { given = put_in; held = None; only_files = only }))) (or_else (or_else kinds after) []) (standing None only more idle)
+    go (Ok put_in) d = (same ∙ d.0, (more, idle, refl, d.1, d.2, inl refl))
+    go (Err f) d = (d.0, same ∙ d.1, d.2)
+given_told (Err f) part v kinds after rows more only c next = (c.0, ap (λ k. or_else (or_else k after) []) c.1, c.2)
+
+abbrev top : Shape
+top = (built f77run).top
+
+abbrev Held_part : Type 0
+Held_part = Option (Part × Option Text)
+
+abbrev plain_line : Given → Held_part → Line
+plain_line given held = record { given = given; held = held; only_files = false }
+
+-- what clap makes of a word is what the words say
+abbrev Meets : Result Line OptionsFault → Kinds → Held × Step → Text → Held_part → List Row → Waiting → Type 0
+Meets r kinds met word held rows waiting =
+    Steps r (or_else kinds (step_fault top 1 met.0 met.1)) (after_step rules word (standing held false rows waiting) met.0 met.1)
+
+abbrev Named : Word → Option Rule → Option Text → Text → Given → Held_part → List Row → Waiting → Type 0
+Named met found value word given held rows waiting =
+    Meets (meet met word (plain_line given held)) (long_fault rules false found value (holds rows held))
+    (after_flag rules waiting word (long_met rules found value (holds rows held)).0 (long_met rules found value (holds rows held)).1) word held rows waiting
+
+started_told : (part : Part) (given : Given) (held : Held_part) (rows : List Row) → Rows given rows → Fits_all given
+    → Steps (give part None (plain_line given held)) (or_else (settle_fault rules false (holds rows held)) [])
+    (standing (Some (part, None)) false (settled rules (holds rows held)).rows (option (name_of part)))
+started_told part given held rows h all =
+    subst (λ k. Steps (give part None (plain_line given held)) k (standing (Some (part, None)) false (settled rules (holds rows held)).rows (option (name_of part))))
+    (sym (nil_behind (settle_fault rules false (holds rows held))))
+    (held_told (closed given held) _ _ false (Some (part, None)) (option (name_of part)) (closed_told given held rows h all) refl)
+
+valued_told : (part : Part) (v : Text) (given : Given) (held : Held_part) (rows : List Row) → Rows given rows → Fits_all given
+    → Steps (give part (Some v) (plain_line given held))
+    (or_else (or_else (settle_fault rules false (holds rows held)) (use_fault false (rule_at part) (v ∷ []) (settled rules (holds rows held)).rows)) [])
+    (standing None false (used (rule_at part) (v ∷ []) (settled rules (holds rows held)).rows) idle)
+valued_told part v given held rows h all =
+    given_told (closed given held) part v _ _ (settled rules (holds rows held)).rows _ false (closed_told given held rows h all)
+    (λ g r f. put_told part v g (settled rules (holds rows held)).rows r f)
+
+-- the word of an option
+part_told : (part : Part) (value : Option Text) (word : Text) (given : Given) (held : Held_part) (rows : List Row) (waiting : Waiting)
+    → Rows given rows → Fits_all given → Named (gives part value) (Some (rule_at part)) value word given held rows waiting
+part_told workers None word given held rows waiting h all = started_told workers given held rows h all
+part_told block None word given held rows waiting h all = started_told block given held rows h all
+part_told window None word given held rows waiting h all = started_told window given held rows h all
+part_told turns None word given held rows waiting h all = started_told turns given held rows h all
+part_told file None word given held rows waiting h all = started_told file given held rows h all
+part_told workers (Some v) word given held rows waiting h all = valued_told workers v given held rows h all
+part_told block (Some v) word given held rows waiting h all = valued_told block v given held rows h all
+part_told window (Some v) word given held rows waiting h all = valued_told window v given held rows h all
+part_told turns (Some v) word given held rows waiting h all = valued_told turns v given held rows h all
+part_told file (Some v) word given held rows waiting h all = valued_told file v given held rows h all
+
+abbrev help_at : Rule
+help_at = with_index 2 (filled help_rule)
+
+abbrev version_at : Rule
+version_at = with_index 2 (filled version_rule)
+
+once : (kinds after : Kinds) (k : ErrorKind) → kinds ≡ k ∷ [] → or_else kinds after ≡ k ∷ []
+once kinds after k e = ap (λ l. or_else l after) e
+
+help_told : (value : Option Text) (word : Text) (given : Given) (held : Held_part) (rows : List Row) (waiting : Waiting)
+    → Rows given rows → Fits_all given → Named (request fault.Help value) (Some help_at) value word given held rows waiting
+help_told None word given held rows waiting h all =
+    request_told (closed given held) fault.Help kind.DisplayHelp _ _ _ _ (closed_told given held rows h all) refl (λ k e. once _ _ k e)
+help_told (Some v) word given held rows waiting h all = (kind.TooManyValues, refl, refl)
+
+version_told : (value : Option Text) (word : Text) (given : Given) (held : Held_part) (rows : List Row) (waiting : Waiting)
+    → Rows given rows → Fits_all given → Named (request fault.Version value) (Some version_at) value word given held rows waiting
+version_told None word given held rows waiting h all =
+    request_told (closed given held) fault.Version kind.DisplayVersion _ _ _ _ (closed_told given held rows h all) refl (λ k e. once _ _ k e)
+version_told (Some v) word given held rows waiting h all = (kind.TooManyValues, refl, refl)
+
+named_told : (name : Text) (value : Option Text) (word : Text) (given : Given) (held : Held_part) (rows : List Row) (waiting : Waiting)
+    → Rows given rows → Fits_all given → Named (long_word name value) (arg_by_long rules name) value word given held rows waiting
+named_told name value word given held rows waiting h all =
+    pick (bytes_eq (codes "workers") name) (bytes_eq (codes "block") name) (bytes_eq (codes "window") name) (bytes_eq (codes "turns") name)
+    (bytes_eq (codes "help") name) (bytes_eq (codes "version") name)
+  where
+    pick : (a b c d e f : Bool) → Named
+        (cond a (gives workers value) (cond b (gives block value) (cond c (gives window value) (cond d (gives turns value)
+        (cond e (request fault.Help value) (cond f (request fault.Version value) (errs fault.NoSuchOption)))))))
+        (cond (a || false) (Some (rule_at workers)) (cond (b || false) (Some (rule_at block)) (cond (c || false) (Some (rule_at window)) (cond (d || false) (Some (rule_at turns))
+        (cond (e || false) (Some help_at) (cond (f || false) (Some version_at) None))))))
+        value word given held rows waiting
+    pick true b c d e f = part_told workers value word given held rows waiting h all
+    pick false true c d e f = part_told block value word given held rows waiting h all
+    pick false false true d e f = part_told window value word given held rows waiting h all
+    pick false false false true e f = part_told turns value word given held rows waiting h all
+    pick false false false false true f = help_told value word given held rows waiting h all
+    pick false false false false false true = version_told value word given held rows waiting h all
+    pick false false false false false false = (kind.UnknownArgument, refl, refl)
+
+-- ---- a file, or a value
+
+file_told : (pending only : Bool) (word : Text) (given : Given) (held : Held_part) (rows : List Row) → Rows given rows → Fits_all given
+    → Steps (holding (record { given = given; held = held; only_files = only }) (Some (file, Some word)))
+    (cond (pending && false) [] (settle_fault rules false (holds rows held)))
+    (record {
+      held = pushed (codes "FILE") word (cond (pending && false) (holds rows held) (settled rules (holds rows held)));
+      waiting = positional;
+      position = 1;
+      is_trailing = only || false;
+      stopped = None;
+    })
+file_told true true word given held rows h all =
+    held_told (closed given held) _ _ true (Some (file, Some word)) positional (closed_told given held rows h all) (inr refl)
+file_told true false word given held rows h all =
+    held_told (closed given held) _ _ false (Some (file, Some word)) positional (closed_told given held rows h all) (inr refl)
+file_told false true word given held rows h all =
+    held_told (closed given held) _ _ true (Some (file, Some word)) positional (closed_told given held rows h all) (inr refl)
+file_told false false word given held rows h all =
+    held_told (closed given held) _ _ false (Some (file, Some word)) positional (closed_told given held rows h all) (inr refl)
+
+abbrev Loose : Text → Given → Held_part → List Row → Waiting → Type 0
+Loose word given held rows waiting =
+    Meets (take word held (plain_line given held)) [] (plain_word rules waiting word (holds rows held)) word held rows waiting
+
+value_told : (part : Part) (word : Text) (given : Given) (rows : List Row) → Rows given rows → Fits_all given
+    → Loose word given (Some (part, None)) rows (option (name_of part))
+value_told workers word given rows h all = (refl, (rows, idle, refl, h, all, inl refl))
+value_told block word given rows h all = (refl, (rows, idle, refl, h, all, inl refl))
+value_told window word given rows h all = (refl, (rows, idle, refl, h, all, inl refl))
+value_told turns word given rows h all = (refl, (rows, idle, refl, h, all, inl refl))
+value_told file word given rows h all = (refl, (rows, idle, refl, h, all, inl refl))
+
+loose_told : (held : Held_part) (waiting : Waiting) (word : Text) (given : Given) (rows : List Row) → Waits held waiting → Rows given rows → Fits_all given
+    → Loose word given held rows waiting
+loose_told (Some (part, None)) waiting word given rows w h all =
+    subst (Loose word given (Some (part, None)) rows) (sym w) (value_told part word given rows h all)
+loose_told None waiting word given rows (inl w) h all =
+    subst (Loose word given None rows) (sym w) (file_told (is_pending file_at None) false word given None rows h all)
+loose_told None waiting word given rows (inr w) h all =
+    subst (Loose word given None rows) (sym w) (file_told (is_pending file_at None) false word given None rows h all)
+loose_told (Some (part, Some v)) waiting word given rows (inl w) h all =
+    subst (Loose word given (Some (part, Some v)) rows) (sym w)
+    (file_told (is_pending file_at (pending_of (Some (part, Some v)))) false word given (Some (part, Some v)) rows h all)
+loose_told (Some (part, Some v)) waiting word given rows (inr w) h all =
+    subst (Loose word given (Some (part, Some v)) rows) (sym w)
+    (file_told (is_pending file_at (pending_of (Some (part, Some v)))) false word given (Some (part, Some v)) rows h all)
+
+-- ---- a word that begins with one minus sign
+
+abbrev Lettered : Word → Option ℕ → Text → ℕ → Text → Given → Held_part → List Row → Waiting → Type 0
+Lettered met letter letters count word given held rows waiting =
+    Meets (meet met word (plain_line given held)) (bundle_step_fault rules false letter letters 0 (holds rows held) (flags_fault rules false count))
+    (after_flag rules waiting word (bundle_step rules letter letters 0 plain (holds rows held) (bundle_met rules count)).0
+    (bundle_step rules letter letters 0 plain (holds rows held) (bundle_met rules count)).1) word held rows waiting
+
+abbrev Short_found : Word → Option Rule → Text → Text → ℕ → Text → Given → Held_part → List Row → Waiting → Type 0
+Short_found met found rest letters count word given held rows waiting =
+    Meets (meet met word (plain_line given held)) (short_fault rules false found rest (holds rows held) (flags_fault rules false count rest 0))
+    (after_flag rules waiting word (short_met rules found rest (holds rows held) (bundle_met rules count rest 0 done)).0
+    (short_met rules found rest (holds rows held) (bundle_met rules count rest 0 done)).1) word held rows waiting
+
+letter_told : (letter : ℕ) (letters : Text) (count : ℕ) (word : Text) (given : Given) (held : Held_part) (rows : List Row) (waiting : Waiting)
+    → Rows given rows → Fits_all given → Lettered (letter_word (Some letter)) (Some letter) letters count word given held rows waiting
+letter_told letter letters count word given held rows waiting h all = pick (104 == letter) (86 == letter)
+  where
+    pick : (a b : Bool) → Short_found (cond a (asks fault.Help) (cond b (asks fault.Version) (errs fault.NoSuchOption)))
+        (cond (a || false) (Some help_at) (cond (b || false) (Some version_at) None)) (drop (length (encode_utf8 letter)) letters) letters count
+        word given held rows waiting
+    pick true b =
+        request_told (closed given held) fault.Help kind.DisplayHelp _ _ _ _ (closed_told given held rows h all) refl (λ k e. first_told _ _ _ k e)
+    pick false true =
+        request_told (closed given held) fault.Version kind.DisplayVersion _ _ _ _ (closed_told given held rows h all) refl (λ k e. first_told _ _ _ k e)
+    pick false false = (kind.UnknownArgument, refl, refl)
+
+abbrev Short : Option Text → Text → Given → Held_part → List Row → Waiting → Type 0
+Short letters word given held rows waiting =
+    Meets (meet (short_word letters) word (plain_line given held)) (option_map_or (λ flags. bundle_fault rules false flags (holds rows held)) letters [])
+    (short_or_plain rules waiting word letters (holds rows held)) word held rows waiting
+
+short_told : (letters : Option Text) (word : Text) (given : Given) (held : Held_part) (rows : List Row) (waiting : Waiting)
+    → Waits held waiting → Rows given rows → Fits_all given → Short letters word given held rows waiting
+unfolding flags_fault bundle_met chars
+short_told None word given held rows waiting w h all = loose_told held waiting word given rows w h all
+short_told (Some []) word given held rows waiting w h all = loose_told held waiting word given rows w h all
+short_told (Some (x ∷ xs)) word given held rows waiting w h all = go (slice_get (chars (x ∷ xs)) 0)
+  where
+    go : (letter : Option ℕ) → Lettered (letter_word letter) letter (x ∷ xs) (length xs) word given held rows waiting
+    go None = loose_told held waiting word given rows w h all
+    go (Some letter) = letter_told letter (x ∷ xs) (length xs) word given held rows waiting h all
+
+-- ---- a word
+
+abbrev Long : Option (Text × Option Text) → Text → Given → Held_part → List Row → Waiting → Type 0
+Long found word given held rows waiting =
+    Meets (meet (long_or_short found word) word (plain_line given held)) (flag_word_fault rules false found word (holds rows held))
+    (long_or_other rules waiting word found (holds rows held)) word held rows waiting
+
+long_told : (found : Option (Text × Option Text)) (word : Text) (given : Given) (held : Held_part) (rows : List Row) (waiting : Waiting)
+    → Waits held waiting → Rows given rows → Fits_all given → Long found word given held rows waiting
+long_told (Some p) word given held rows waiting w h all = named_told p.0 p.1 word given held rows waiting h all
+long_told None word given held rows waiting w h all = short_told (short_of word) word given held rows waiting w h all
+
+abbrev Other : Option Text → Text → Given → Held_part → List Row → Waiting → Type 0
+Other named word given held rows waiting =
+    Meets (meet (word_of word) word (plain_line given held)) (other_fault top named word (holds rows held))
+    (subcommand_or_other rules named waiting 1 word (holds rows held)) word held rows waiting
+
+other_told : (word : Text) (given : Given) (held : Held_part) (rows : List Row) (waiting : Waiting)
+    → Waits held waiting → Rows given rows → Fits_all given → Other None word given held rows waiting
+other_told word given held rows waiting w h all = go (bytes_eq word (45 ∷ 45 ∷ []))
+  where
+    go : (b : Bool) → Meets (meet (cond b ends (long_or_short (long_of word) word)) word (plain_line given held))
+        (cond b [] (flag_word_fault rules false (long_of word) word (holds rows held)))
+        (cond b (holds rows held, trailing 1) (long_or_other rules waiting word (long_of word) (holds rows held))) word held rows waiting
+    go true = (refl, (rows, waiting, refl, h, all, w))
+    go false = long_told (long_of word) word given held rows waiting w h all
+
+no_subcommand : (waiting : Waiting) (word : Text) → subcommand_met [] waiting word ≡ None
+no_subcommand idle word = refl
+no_subcommand (option id) word = refl
+no_subcommand positional word = refl
+
+step_told : (word : Text) (line : Line) (rows : List Row) (waiting : Waiting) → Waits line.held waiting → Rows line.given rows → Fits_all line.given
+    → Steps (moved word line) (turn_fault top [] (standing line.held line.only_files rows waiting) word) (walked rules [] (standing line.held line.only_files rows waiting) word)
+unfolding walked
+step_told word line rows waiting w h all = go line.only_files
+  where
+    go : (only : Bool) → Steps (moved word (record line { only_files = only })) (turn_fault top [] (standing line.held only rows waiting) word)
+        (walked rules [] (standing line.held only rows waiting) word)
+    go true = file_told (is_pending file_at (pending_of line.held)) true word line.given line.held rows h all
+    go false =
+        subst (λ named. Other named word line.given line.held rows waiting) (sym (no_subcommand waiting word))
+        (other_told word line.given line.held rows waiting w h all)
+
+-- ---- all the words
+
+abbrev Ends : Result Given OptionsFault → Kinds → Kinds → Walk → Type 0
+Ends r before kinds end =
+    Comes r (or_else (or_else before kinds) (settle_fault rules false end.held)) (settled rules end.held).rows
+
+abbrev Reads : Result Given OptionsFault → List Text → Walk → Type 0
+Reads r words w =
+    Comes r (or_else (walk_fault top [] w words) (settle_fault rules false (fold (walked rules []) w words).held))
+    (settled rules (fold (walked rules []) w words).held).rows
+
+behind_told : (r : Result Line OptionsFault) (words : List Text) (kinds : Kinds) (w : Walk) → Steps r kinds w
+    → ((line : Line) (next : Walk) → Stands line next → Reads (read words line) words next)
+    → Ends (behind r (read words)) kinds (walk_fault top [] w words) (fold (walked rules []) w words)
+behind_told (Ok line) words kinds w s next =
+    subst (λ k. Ends (read words line) k (walk_fault top [] w words) (fold (walked rules []) w words)) (sym s.0) (next line w s.1)
+behind_told (Err f) words kinds w s next = (
+  s.0,
+  ap (λ k. or_else (or_else k (walk_fault top [] w words)) (settle_fault rules false (fold (walked rules []) w words).held)) s.1,
+  s.2,
+)
+
+read_told : (words : List Text) (line : Line) (w : Walk) → Stands line w → Reads (read words line) words w
+unfolding read walk_fault
+read_told [] line w s = subst (Reads (read [] line) []) (sym s.2) (closed_told line.given line.held s.0 s.3 s.4)
+read_told (word ∷ words) line w s =
+    subst (Reads (read (word ∷ words) line) (word ∷ words)) (sym s.2)
+    (behind_told (moved word line) words _ (walked rules [] (standing line.held line.only_files s.0 s.1) word)
+    (step_told word line s.0 s.1 s.5 s.3 s.4) (λ next after t. read_told words next after t))
+
+-- ---- what clap looks at behind the words
+
+kept_rows : (rs : List Rule) (rows : List Row) → list_all (λ a. is_empty a.defaults) rs ≡ true → fold with_default rows rs ≡ rows
+kept_rows [] rows e = refl
+kept_rows (a ∷ rs) rows e = go (is_empty a.defaults) refl e (λ t. kept_rows rs rows t)
+  where
+    row : (xs : List Text) → is_empty xs ≡ true → (b : Bool) → cond b rows (default_rows a.id (reading_by a) xs rows) ≡ rows
+    row [] n true = refl
+    row [] n false = refl
+    row (x ∷ xs) n b =
+        let bad : suc (length xs) ≡ 0 = (Decides-eqb (suc (length xs)) 0).0 n in
+        absurd (omega arith)
+
+    go : (b : Bool) → is_empty a.defaults ≡ b → (b && list_all (λ r. is_empty r.defaults) rs) ≡ true
+        → (list_all (λ r. is_empty r.defaults) rs ≡ true → fold with_default rows rs ≡ rows) → fold with_default (with_default rows a) rs ≡ rows
+    go true n t ih = ap (λ l. fold with_default l rs) (row a.defaults n (has_row a.id rows)) ∙ ih t
+    go false n t ih = absurd (true≢false (sym t))
+
+no_defaults : (rs : List Rule) (rows : List Row) → list_all (λ a. is_empty a.defaults) rs ≡ true → defaults_fault rows rs ≡ []
+unfolding defaults_fault
+no_defaults [] rows e = refl
+no_defaults (a ∷ rs) rows e = go (is_empty a.defaults) refl e (λ t. no_defaults rs (with_default rows a) t)
+  where
+    given : Bool → Kinds
+    given b = cond b [] (given_default_fault a a.defaults)
+
+    go : (b : Bool) → is_empty a.defaults ≡ b → (b && list_all (λ r. is_empty r.defaults) rs) ≡ true
+        → (list_all (λ r. is_empty r.defaults) rs ≡ true → defaults_fault (with_default rows a) rs ≡ [])
+        → or_else (given (has_row a.id rows || is_empty a.defaults)) (defaults_fault (with_default rows a) rs) ≡ []
+    go true n t ih =
+        ap (λ b. or_else (given (has_row a.id rows || b)) (defaults_fault (with_default rows a) rs)) n
+        ∙ ap (λ b. or_else (given b) (defaults_fault (with_default rows a) rs)) (or-true (has_row a.id rows)) ∙ ih t
+    go false n t ih = absurd (true≢false (sym t))
+
+no_level : (stop : Option (Text × List Text)) → entered_fault (built f77run) stop ≡ []
+no_level None = refl
+no_level (Some p) = refl
+
+none_entered : (stop : Option (Text × List Text)) → is_some (entered (built f77run) stop) ≡ false
+none_entered None = refl
+none_entered (Some p) = refl
+
+four : (a b c d e : Kinds) → b ≡ [] → d ≡ [] → e ≡ [] → or_else a (or_else b (or_else c (or_else d e))) ≡ or_else a c
+four a b c d e is_b is_d is_e =
+    ap (λ l. or_else a (or_else l (or_else c (or_else d e)))) is_b ∙ ap (λ l. or_else a (or_else c (or_else l e))) is_d
+    ∙ ap (λ l. or_else a (or_else c l)) is_e ∙ ap (or_else a) (nil_behind c)
+
+pub told : (words : List Text) → Comes (read (drop 1 words) nothing_read) (fault_of f77run words) (matches_of f77run words)
+told words =
+    subst (λ k. Comes (read (drop 1 words) nothing_read) k (matches_of f77run words)) (sym kinds)
+    (subst (Comes (read (drop 1 words) nothing_read) (or_else (walk_fault top [] start (drop 1 words)) (settle_fault rules false end.held))) (sym (kept_rows rules (settled rules end.held).rows refl))
+    (read_told (drop 1 words) nothing_read start ([], idle, refl, (λ part. refl), refl, inl refl)))
+  where
+    start : Walk
+    start = standing None false [] idle
+
+    end : Walk
+    end = fold (walked rules []) start (drop 1 words)
+
+    kinds : fault_of f77run words ≡ or_else (walk_fault top [] start (drop 1 words)) (settle_fault rules false end.held)
+    kinds =
+        four _ _ _ _ _ (no_level end.stopped) (no_defaults rules (settled rules end.held).rows refl)
+        (ap (check_fault top (finished rules end.held)) (none_entered end.stopped))
+
+-- ---- for the callers
+
+-- the line is refused by clap, or memory was
+pub refused : (words : List Text) (e : Error) → HasKind (fault_of f77run words) e
+    → (fault_for (kind_of e) ≡ fault.Memory) ⊎ (asked_for words ≡ Err (fault_for (kind_of e)))
+refused words e (inl memory) = inl (ap fault_for memory)
+refused words e (inr among) = go (read (drop 1 words) nothing_read) refl (told words)
+  where
+    only : (k : ErrorKind) → fault_of f77run words ≡ k ∷ [] → kind_of e ≡ k
+    only k one = elim (subst (IsAmong (kind_of e)) one among) [ inl is ↦ is | inr never ↦ absurd never ]
+
+    go : (r : Result Given OptionsFault) → read (drop 1 words) nothing_read ≡ r → Comes r (fault_of f77run words) (matches_of f77run words)
+        → (fault_for (kind_of e) ≡ fault.Memory) ⊎ (asked_for words ≡ Err (fault_for (kind_of e)))
+    go (Ok given) is c = absurd (subst (IsAmong (kind_of e)) c.0 among)
+    go (Err f) is c = inr (ap (λ r. behind r asked_by) is ∙ ap Err (sym (ap fault_for (only c.0 c.1) ∙ c.2)))
+
+-- clap takes the line, and its matches hold what is given
+pub taken : (words : List Text) (m : ArgMatches) → fault_of f77run words ≡ [] → rows_of (found_of m) ≡ matches_of f77run words
+    → (given : Given) × IsGiven given m × (asked_for words ≡ asked_by given)
+taken words m none same = go (read (drop 1 words) nothing_read) refl (told words)
+  where
+    go : (r : Result Given OptionsFault) → read (drop 1 words) nothing_read ≡ r → Comes r (fault_of f77run words) (matches_of f77run words)
+        → (given : Given) × IsGiven given m × (asked_for words ≡ asked_by given)
+    go (Ok given) is c = (given, (subst (Rows given) (sym same) c.1, c.2), ap (λ r. behind r asked_by) is)
+    go (Err f) is c = absurd (true≢false (sym (ap (λ (kinds : Kinds). is_empty kinds) (sym c.1 ∙ none))))
+
+first_text : (vs : List Text) → option_and_then (λ (s : List Text × Reading). option_map (read_as s.1) (slice_get s.0 0)) (as_seen vs) ≡ slice_get vs 0
+first_text [] = refl
+first_text (v ∷ vs) = refl
+
+-- the text that is read of an option is the one that is given
+pub one_given : (given : Given) (m : ArgMatches) (part : Part) → IsGiven given m → one_text (found_of m) (name_of part) ≡ first part given
+one_given given m part h =
+    one_text-rows (found_of m) (name_of part) ∙ one_of-seen (name_of part) (rows_of (found_of m))
+    ∙ ap (option_and_then (λ (s : List Text × Reading). option_map (read_as s.1) (slice_get s.0 0))) (h.0 part) ∙ first_text (values part given)
+
+abbrev pub texts_of : List Text → Option (List Text)
+texts_of vs = option_map (λ (s : List Text × Reading). s.0) (as_seen vs)
+
+-- and so the files
+pub files_given : (given : Given) (m : ArgMatches) → IsGiven given m
+    → option_map raw_values (matched_of (found_of m) (codes "FILE")) ≡ texts_of (values file given)
+files_given given m h =
+    raw_values-rows (found_of m) (codes "FILE") ∙ all_of-seen (codes "FILE") (rows_of (found_of m)) ∙ ap (option_map (λ (s : List Text × Reading). s.0)) (h.0 file)
+
+pub no_file : (vs : List Text) → None ≡ texts_of vs → (nat_lt 1 (length vs) ≡ false) × (None ≡ slice_get vs 0)
+no_file [] e = (refl, refl)
+no_file (v ∷ vs) e = absurd (true≢false (sym (ap is_some e)))
+
+same_files : (files : List (Bor Text)) (vs : List Text) → Some (map (λ s. s.now) files) ≡ texts_of vs → map (λ s. s.now) files ≡ vs
+same_files files [] e = absurd (true≢false (ap is_some e))
+same_files files (v ∷ vs) e = ap (λ o. unwrap_or o []) e
+
+first_now : (files : List (Bor Text)) → option_map (λ s. s.now) (slice_get files 0) ≡ slice_get (map (λ s. s.now) files) 0
+first_now [] = refl
+first_now (f ∷ fs) = refl
+
+pub many_files : (files : List (Bor Text)) (vs : List Text) → Some (map (λ s. s.now) files) ≡ texts_of vs → 1 < length files → nat_lt 1 (length vs) ≡ true
+many_files files vs e lt =
+    ap (λ l. nat_lt 1 (length l)) (sym (same_files files vs e)) ∙ ap (nat_lt 1) (length-map files (λ s. s.now)) ∙ lt-ltb 1 (length files) lt
+
+pub lone_file : (files : List (Bor Text)) (vs : List Text) → Some (map (λ s. s.now) files) ≡ texts_of vs → length files ≤ 1
+    → (nat_lt 1 (length vs) ≡ false) × (option_map (λ s. s.now) (slice_get files 0) ≡ slice_get vs 0)
+lone_file files vs e le = (
+  ap (λ l. nat_lt 1 (length l)) (sym (same_files files vs e)) ∙ ap (nat_lt 1) (length-map files (λ s. s.now)) ∙ le-ltb 1 (length files) le,
+  first_now files ∙ ap (λ l. slice_get l 0) (same_files files vs e),
+)
+
+pub ok_half : {X Y E : Type 0} (r : Result X E) (f : X → Y) (whole half : Result Y E) → whole ≡ half
+    → MatchResult r (λ x. half ≡ Ok (f x)) (λ e. half ≡ Err e) → IfOk r (λ x. whole ≡ Ok (f x))
+ok_half (Ok x) f whole half same h = same ∙ h
+ok_half (Err e) f whole half same h = tt
+
+pub err_half : {X Y : Type 0} (r : Result X OptionsFault) (f : X → Y) (whole half : Result Y OptionsFault) → whole ≡ half
+    → MatchResult r (λ x. half ≡ Ok (f x)) (λ e. half ≡ Err e) → IfErr r (λ e. (e ≡ fault.Memory) ⊎ (whole ≡ Err e))
+err_half (Ok x) f whole half same h = tt
+err_half (Err e) f whole half same h = inr (same ∙ h)
+
+same_greatest : (a b : Part) → bytes_eq (name_of a) (name_of b) ≡ true → greatest a ≡ greatest b
+same_greatest workers workers e = refl
+same_greatest block block e = refl
+same_greatest window window e = refl
+same_greatest turns turns e = refl
+same_greatest file file e = refl
+same_greatest a b e = absurd (true≢false (sym e))
+
+first_fits : (part : Part) (given : Given) (v : Text) (most : ℕ) → greatest part ≡ Some most → Fits_all given → first part given ≡ Some v → is_in most v ≡ true
+first_fits part [] v most known h is = absurd (true≢false (sym (ap is_some is)))
+first_fits part (g ∷ gs) v most known h is =
+    go (bytes_eq (name_of g.0) (name_of part)) refl (fits g) refl h is (λ t i. first_fits part gs v most known t i)
+  where
+    go : (b : Bool) → bytes_eq (name_of g.0) (name_of part) ≡ b → (f : Bool) → fits g ≡ f → (f && list_all fits gs) ≡ true
+        → slice_get (cond b (g.1 ∷ values part gs) (values part gs)) 0 ≡ Some v
+        → (list_all fits gs ≡ true → slice_get (values part gs) 0 ≡ Some v → is_in most v ≡ true) → is_in most v ≡ true
+    go b e false f t i ih = absurd (true≢false (sym t))
+    go false e true f t i ih = ih t i
+    go true e true f t i ih =
+        let value : g.1 ≡ v = ap (λ o. unwrap_or o v) i in
+        sym (ap₂ fits_under (same_greatest g.0 part e ∙ known) value) ∙ f
+
+reads_u64 : {E : Type 0} (G : Text → Result ℕ E → Type 0) (t : Text) (r : Option ℕ) → ReadsOne G t r
+    → ((u : Text) (x : Result ℕ E) → G u x → ParsesUnsigned 64 10 u x) → (most : ℕ) → most < 2 ^ 64 → is_in most t ≡ true → r ≡ Some (number_of t)
+reads_u64 G t (Some n) read only most small fit = ap Some (only t (Ok n) read).1
+reads_u64 G t None read only most small fit =
+    let accepted = accepts-Accepts false (vp.Unsigned 1 most) t (in_range most t small ∙ fit) in
+    absurd (only t (Err read.0) read.1 (accepted.0, accepted.1))
+
+small_enough : (part : Part) (most : ℕ) → greatest part ≡ Some most → most < 2 ^ 64
+small_enough workers most e = rw (← ap (λ o. unwrap_or o 0) e) (omega arith)
+small_enough block most e = rw (← ap (λ o. unwrap_or o 0) e) (omega arith)
+small_enough window most e = rw (← ap (λ o. unwrap_or o 0) e) (omega arith)
+small_enough turns most e = rw (← ap (λ o. unwrap_or o 0) e) (omega arith)
+small_enough file most e = absurd (true≢false (sym (ap is_some e)))
+
+-- the number that is read of an option, or its default
+pub number_is : {E : Type 0} (G : Text → Result ℕ E → Type 0) (given : Given) (m : ArgMatches) (part : Part) (name : Text) (default result : ℕ) (r : Option ℕ)
+    → ((u : Text) (x : Result ℕ E) → G u x → ParsesUnsigned 64 10 u x) → IsGiven given m → IsNumber part name default
+    → (one_text (found_of m) name ≡ None → r ≡ None) → ((t : Text) → one_text (found_of m) name ≡ Some t → ReadsOne G t r)
+    → result ≡ unwrap_or r default → result ≡ number_in part given
+number_is G given m part name default result r only h known none some is = go (first part given) refl
+  where
+    text : one_text (found_of m) name ≡ first part given
+    text = ap (one_text (found_of m)) known.0 ∙ one_given given m part h
+
+    most : (o : Option ℕ) → greatest part ≡ o → is_some o ≡ true → (v : Text) → first part given ≡ Some v → r ≡ Some (number_of v)
+    most None e s v f = absurd (true≢false (sym s))
+    most (Some n) e s v f = reads_u64 G v r (some v (text ∙ f)) only n (small_enough part n e) (first_fits part given v n e h.1 f)
+
+    go : (o : Option Text) → first part given ≡ o → result ≡ option_map_or number_of o (default_of part)
+    go None f = is ∙ ap (λ x. unwrap_or x default) (none (text ∙ f)) ∙ known.1
+    go (Some v) f = is ∙ ap (λ x. unwrap_or x default) (most (greatest part) refl known.2 v f)

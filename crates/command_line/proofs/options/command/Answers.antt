@@ -1,0 +1,16 @@
+use Rattle.std.proofs.Common.{rules, ◌≡◌, ◌∙◌, ap, ap₂, true, IfOk}
+use Rattle.clap.specs.Words.{App, app_of, with_rule}
+use Rattle.clap.specs.Simple.{app_of_fields}
+use Rattle.std.proofs.lemmas.Result.{IfOk-weaker}
+use Rattle.command_line.specs.Command.{versioned}
+use Rattle.command_line.proofs.options.command.Goals as goal
+
+pub returns : goal.returns
+returns c =
+    let version : app_of c.version.result ≡ versioned =
+    ap app_of_fields c.version.ensures ∙ ap (λ (a : App). record a { top = record a.top { has_version = true } }) c.new.ensures.app in
+    let with_first = c.in_ok-arg.ensures.shape (search rules) ∙ ap₂ with_rule version c.number.ensures.rule in
+    let with_second = c.in_ok-arg-2.ensures.shape (search rules) ∙ ap₂ with_rule with_first c.number-2.ensures.rule in
+    let with_third = c.in_ok-arg-3.ensures.shape (search rules) ∙ ap₂ with_rule with_second c.number-3.ensures.rule in
+    let with_fourth = c.in_ok-arg-4.ensures.shape (search rules) ∙ ap₂ with_rule with_third c.number-4.ensures.rule in
+    IfOk-weaker c.arg-5.result _ _ (λ r h. h.shape (search rules) ∙ ap₂ with_rule with_fourth c.files.ensures.rule) c.arg-5.ensures

@@ -1,0 +1,41 @@
+-- The command as clap sees it.
+use Rattle.std.specs.Prelude.{ℕ, List, Option, Some, codes, ◌∷◌, [], true}
+use Rattle.clap.specs.Walk.{Rule, Text}
+use Rattle.clap.specs.Simple.{App, new_app, new_rule, with_rule}
+use Rattle.clap.specs.declared.builder.action.ArgAction.TheVariants.{Set, Append}
+use Rattle.clap.specs.declared.builder.value_parser.ValueParser.TheVariants as vp
+use Rattle.clap.specs.declared.error.kind.ErrorKind.{ErrorKind}
+use Rattle.clap.specs.declared.error.kind.ErrorKind.TheVariants as kind
+use Rattle.command_line.specs.declared.asked.OptionsFault.{OptionsFault}
+use Rattle.command_line.specs.declared.asked.OptionsFault.TheVariants as fault
+
+-- an option that takes a number from 1 to the greatest
+abbrev pub number_rule : Text → ℕ → Rule
+number_rule name most = record (new_rule name) {
+  long = Some name;
+  action = Some Set;
+  parser = Some (vp.Unsigned 1 most);
+}
+
+abbrev pub file_rule : Rule
+file_rule = record (new_rule (codes "FILE")) { action = Some Append }
+
+abbrev pub bare_app : App
+bare_app = new_app (codes "f77run")
+
+abbrev pub versioned : App
+versioned = record bare_app { top = record bare_app.top { has_version = true } }
+
+abbrev pub f77run : App
+f77run = with_rule (with_rule (with_rule (with_rule (with_rule versioned (number_rule (codes "workers") 64)) (number_rule (codes "block") 1000000))
+    (number_rule (codes "window") 256)) (number_rule (codes "turns") 1000000000000)) file_rule
+
+abbrev pub fault_for : ErrorKind → OptionsFault
+fault_for kind.DisplayHelp = fault.Help
+fault_for kind.DisplayVersion = fault.Version
+fault_for kind.OutOfMemory = fault.Memory
+fault_for kind.InvalidValue = fault.NoNumber
+fault_for kind.TooManyValues = fault.NeedlessValue
+fault_for kind.ArgumentConflict = fault.GivenTwice
+fault_for kind.ValueValidation = fault.BadNumber
+fault_for _ = fault.NoSuchOption

@@ -1,0 +1,200 @@
+-- What the words of a command line ask for. They are read from the left; what an option or a file comes to is decided when the
+-- word behind it is known.
+use Rattle.std.specs.Prelude.{ℕ, Bool, true, false, ◌==◌, ◌&&◌, List, [], ◌∷◌, ◌++◌, drop, length, Option, Some, None, is_some}
+use Rattle.std.specs.Prelude.{Result, Ok, Err, if◌then◌else◌, nat_lt, nat_le, codes, slice_get}
+use Rattle.std.specs.List.{list_all}
+use Rattle.std.specs.Option.{option_map_or}
+use Rattle.std.specs.Char.{digit_value}
+use Rattle.std.specs.Str.{bytes_eq, chars}
+use Rattle.std.specs.Str.Parse.{digits_value, without_leading_plus}
+use Rattle.clap.specs.Lexer.{long_of, short_of}
+use Rattle.meaning.specs.Plans.{PlanNumbers, most_workers, most_trips, most_blocks, most_turns, plan_of}
+use Rattle.command_line.specs.declared.asked.OptionsFault.{OptionsFault}
+use Rattle.command_line.specs.declared.asked.OptionsFault.TheVariants as fault
+
+abbrev pub Text : Type 0
+Text = List ℕ
+
+-- ---- what a word can give
+
+-- one of the four options that take a number, or a file
+pub data Part : Type 0 where
+  workers : Part
+  block : Part
+  window : Part
+  turns : Part
+  file : Part
+
+abbrev pub name_of : Part → Text
+name_of workers = codes "workers"
+name_of block = codes "block"
+name_of window = codes "window"
+name_of turns = codes "turns"
+name_of file = codes "FILE"
+
+-- the greatest number that an option takes; the least is 1
+abbrev pub greatest : Part → Option ℕ
+greatest workers = Some most_workers
+greatest block = Some most_trips
+greatest window = Some most_blocks
+greatest turns = Some most_turns
+greatest file = None
+
+-- the number of an option that isn't given
+abbrev pub default_of : Part → ℕ
+default_of workers = 4
+default_of block = 64
+default_of window = 8
+default_of turns = 1000000000
+default_of file = 0
+
+-- ---- a word by itself
+
+pub data Word : Type 0 where
+  -- `--`, behind which each word is a file
+  ends : Word
+  -- `--name` or `--name=value` of an option
+  gives : Part → Option Text → Word
+  -- `--help`, `-h`, `--version`, `-V`
+  asks : OptionsFault → Word
+  -- any other word that begins with a minus sign, but for the sign alone
+  errs : OptionsFault → Word
+  -- a number or a file
+  loose : Word
+
+-- a request takes no value
+abbrev pub request : OptionsFault → Option Text → Word
+request wanted None = asks wanted
+request wanted (Some value) = errs fault.NeedlessValue
+
+abbrev pub long_word : Text → Option Text → Word
+long_word name value =
+    if bytes_eq (codes "workers") name then gives workers value
+    else (if bytes_eq (codes "block") name then gives block value
+    else (if bytes_eq (codes "window") name then gives window value
+    else (if bytes_eq (codes "turns") name then gives turns value
+    else (if bytes_eq (codes "help") name then request fault.Help value
+    else (if bytes_eq (codes "version") name then request fault.Version value
+    else errs fault.NoSuchOption)))))
+
+-- by the character behind the minus sign: h (104) or V (86)
+abbrev pub letter_word : Option ℕ → Word
+letter_word None = loose
+letter_word (Some letter) =
+    if 104 == letter then asks fault.Help else (if 86 == letter then asks fault.Version else errs fault.NoSuchOption)
+
+abbrev pub short_word : Option Text → Word
+short_word None = loose
+short_word (Some letters) = letter_word (slice_get (chars letters) 0)
+
+abbrev pub long_or_short : Option (Text × Option Text) → Text → Word
+long_or_short (Some p) word = long_word p.0 p.1
+long_or_short None word = short_word (short_of word)
+
+abbrev pub word_of : Text → Word
+word_of word = if bytes_eq word (45 ∷ 45 ∷ []) then ends else long_or_short (long_of word) word
+
+-- ---- the words one after another
+
+abbrev pub Given : Type 0
+Given = List (Part × Text)
+
+-- what was given so far, the option or file named last, which is still held, and whether all that follows are files
+pub record Line : Type 0 where
+  pub given : Given
+  pub held : Option (Part × Option Text)
+  pub only_files : Bool
+
+abbrev pub values : Part → Given → List Text
+values part [] = []
+values part (g ∷ gs) = if bytes_eq (name_of g.0) (name_of part) then g.1 ∷ values part gs else values part gs
+
+abbrev pub first : Part → Given → Option Text
+first part given = slice_get (values part given) 0
+
+-- digits, behind a plus sign or not
+abbrev pub is_number : Text → Bool
+is_number text =
+    let digits = without_leading_plus text in
+    nat_lt 0 (length digits) && list_all (λ d. nat_lt (digit_value d) 10) digits
+
+abbrev pub number_of : Text → ℕ
+number_of text = digits_value 10 (without_leading_plus text)
+
+abbrev pub is_in : ℕ → Text → Bool
+is_in most text = is_number text && (nat_le 1 (number_of text) && nat_le (number_of text) most)
+
+abbrev pub behind : {X Y : Type 0} → Result X OptionsFault → (X → Result Y OptionsFault) → Result Y OptionsFault
+behind (Ok x) next = next x
+behind (Err f) next = Err f
+
+abbrev pub put_if : Bool → Bool → Part → Text → Given → Result Given OptionsFault
+put_if true fits part value given = Err fault.GivenTwice
+put_if false true part value given = Ok (given ++ (part, value) ∷ [])
+put_if false false part value given = Err fault.BadNumber
+
+-- an option is given once, with a number in its range; files are any texts
+abbrev pub put_under : Option ℕ → Part → Text → Given → Result Given OptionsFault
+put_under (Some most) part value given = put_if (is_some (first part given)) (is_in most value) part value given
+put_under None part value given = Ok (given ++ (part, value) ∷ [])
+
+abbrev pub put : Part → Text → Given → Result Given OptionsFault
+put part value given = put_under (greatest part) part value given
+
+-- what is held comes to an end
+abbrev pub closed : Given → Option (Part × Option Text) → Result Given OptionsFault
+closed given None = Ok given
+closed given (Some (part, None)) = Err fault.NoNumber
+closed given (Some (part, Some value)) = put part value given
+
+abbrev pub closed_line : Line → Result Given OptionsFault
+closed_line line = closed line.given line.held
+
+abbrev pub holding : Line → Option (Part × Option Text) → Result Line OptionsFault
+holding line next = behind (closed_line line) (λ given. Ok (record line { given = given; held = next }))
+
+abbrev pub give : Part → Option Text → Line → Result Line OptionsFault
+give part None line = holding line (Some (part, None))
+give part (Some value) line =
+    behind (closed_line line) (λ given. behind (put part value given) (λ more. Ok (record line { given = more; held = None })))
+
+-- the value of an option that has none yet, or a file
+abbrev pub take : Text → Option (Part × Option Text) → Line → Result Line OptionsFault
+take word (Some (part, None)) line = Ok (record line { held = Some (part, Some word) })
+take word other line = holding line (Some (file, Some word))
+
+abbrev pub meet : Word → Text → Line → Result Line OptionsFault
+meet ends word line = Ok (record line { only_files = true })
+meet (gives part value) word line = give part value line
+meet (asks wanted) word line = behind (closed_line line) (λ given. Err wanted)
+meet (errs wrong) word line = Err wrong
+meet loose word line = take word line.held line
+
+abbrev pub moved : Text → Line → Result Line OptionsFault
+moved word line = if line.only_files then holding line (Some (file, Some word)) else meet (word_of word) word line
+
+unfoldable pub read : List Text → Line → Result Given OptionsFault
+read [] line = closed_line line
+read (word ∷ words) line = behind (moved word line) (read words)
+
+-- ---- what they ask for
+
+abbrev pub number_in : Part → Given → ℕ
+number_in part given = option_map_or number_of (first part given) (default_of part)
+
+abbrev pub with_file : Option Text → Option PlanNumbers → Result (PlanNumbers × Option Text) OptionsFault
+with_file named (Some plan) = Ok (plan, named)
+with_file named None = Err fault.BadNumber
+
+abbrev pub asked_by : Given → Result (PlanNumbers × Option Text) OptionsFault
+asked_by given =
+    if nat_lt 1 (length (values file given)) then Err fault.TooManyFiles
+    else with_file (first file given)
+    (plan_of (number_in workers given) (number_in block given) (number_in window given) (number_in turns given))
+
+abbrev pub nothing_read : Line
+nothing_read = record { given = []; held = None; only_files = false }
+
+-- the plan and the file of a command line, the first word of which is the program's name
+abbrev pub asked_for : List Text → Result (PlanNumbers × Option Text) OptionsFault
+asked_for words = behind (read (drop 1 words) nothing_read) asked_by

@@ -1,0 +1,6 @@
+//! The command line of f77run: what its words ask for, and the texts that it shows of itself.
+#![tactic(auto)]
+
+pub mod asked;
+pub mod help;
+pub mod options;

@@ -1,0 +1,127 @@
+//! The words of command lines. The expected values are worked from what `f77run --help` says.
+
+use command_line::asked::OptionsFault;
+use command_line::help::HELP;
+use command_line::options::options;
+use std::test::*;
+
+// Words behind the program's name, the plan that they ask for (workers, block, window, turns), and the file.
+const TAKEN: &[(&[&str], (u64, u64, u64, u64), Option<&str>)] = &[
+    (&["f77run"], (4, 64, 8, 1_000_000_000), None),
+    (&[], (4, 64, 8, 1_000_000_000), None),
+    (&["f77run", "a.f"], (4, 64, 8, 1_000_000_000), Some("a.f")),
+    // each option alone, at its least and its greatest number
+    (&["f77run", "--workers", "1"], (1, 64, 8, 1_000_000_000), None),
+    (&["f77run", "--workers", "64"], (64, 64, 8, 1_000_000_000), None),
+    (&["f77run", "--block", "1"], (4, 1, 8, 1_000_000_000), None),
+    (&["f77run", "--block", "1000000"], (4, 1_000_000, 8, 1_000_000_000), None),
+    (&["f77run", "--window", "1"], (4, 64, 1, 1_000_000_000), None),
+    (&["f77run", "--window", "256"], (4, 64, 256, 1_000_000_000), None),
+    (&["f77run", "--turns", "1"], (4, 64, 8, 1), None),
+    (&["f77run", "--turns", "1000000000000"], (4, 64, 8, 1_000_000_000_000), None),
+    // spellings of a number
+    (&["f77run", "--turns=5"], (4, 64, 8, 5), None),
+    (&["f77run", "--turns", "+5"], (4, 64, 8, 5), None),
+    (&["f77run", "--turns=0005"], (4, 64, 8, 5), None),
+    // in any order
+    (
+        &["f77run", "--turns=5", "a.f", "--window", "3", "--block=2", "--workers", "7"],
+        (7, 2, 3, 5),
+        Some("a.f"),
+    ),
+    // names of files
+    (&["f77run", "-"], (4, 64, 8, 1_000_000_000), Some("-")),
+    (&["f77run", ""], (4, 64, 8, 1_000_000_000), Some("")),
+    (&["f77run", "--", "-x.f"], (4, 64, 8, 1_000_000_000), Some("-x.f")),
+    (&["f77run", "--", "--turns"], (4, 64, 8, 1_000_000_000), Some("--turns")),
+    (&["f77run", "--", "--"], (4, 64, 8, 1_000_000_000), Some("--")),
+    (&["f77run", "--turns", "5", "--", "a.f"], (4, 64, 8, 5), Some("a.f")),
+    (&["f77run", "a.f", "--"], (4, 64, 8, 1_000_000_000), Some("a.f")),
+];
+
+// Words that name no run, and why.
+const REFUSED: &[(&[&str], OptionsFault)] = &[
+    (&["f77run", "--turns", "0"], OptionsFault::BadNumber),
+    (&["f77run", "--turns", "1000000000001"], OptionsFault::BadNumber),
+    (&["f77run", "--turns", "18446744073709551616"], OptionsFault::BadNumber),
+    (&["f77run", "--turns", ""], OptionsFault::BadNumber),
+    (&["f77run", "--turns="], OptionsFault::BadNumber),
+    (&["f77run", "--turns", "+"], OptionsFault::BadNumber),
+    (&["f77run", "--turns", "-"], OptionsFault::BadNumber),
+    (&["f77run", "--turns=-5"], OptionsFault::BadNumber),
+    (&["f77run", "--turns", "five"], OptionsFault::BadNumber),
+    (&["f77run", "--turns", "5 "], OptionsFault::BadNumber),
+    (&["f77run", "--turns", "1_000"], OptionsFault::BadNumber),
+    (&["f77run", "--workers", "0"], OptionsFault::BadNumber),
+    (&["f77run", "--workers", "65"], OptionsFault::BadNumber),
+    (&["f77run", "--block", "0"], OptionsFault::BadNumber),
+    (&["f77run", "--block", "1000001"], OptionsFault::BadNumber),
+    (&["f77run", "--window", "0"], OptionsFault::BadNumber),
+    (&["f77run", "--window", "257"], OptionsFault::BadNumber),
+    // a word with a minus sign in front is no number of the option before it
+    (&["f77run", "--turns", "-5"], OptionsFault::NoSuchOption),
+    (&["f77run", "--turns"], OptionsFault::NoNumber),
+    (&["f77run", "--turns", "--block", "5"], OptionsFault::NoNumber),
+    (&["f77run", "--turns", "--", "5"], OptionsFault::NoNumber),
+    (&["f77run", "--turns", "5", "--turns", "5"], OptionsFault::GivenTwice),
+    (&["f77run", "--turns=5", "--turns=6"], OptionsFault::GivenTwice),
+    (&["f77run", "--turns", "5", "--turns"], OptionsFault::NoNumber),
+    (&["f77run", "a.f", "b.f"], OptionsFault::TooManyFiles),
+    (&["f77run", "a.f", "--", "b.f"], OptionsFault::TooManyFiles),
+    (&["f77run", "-x"], OptionsFault::NoSuchOption),
+    (&["f77run", "--turn", "5"], OptionsFault::NoSuchOption),
+    (&["f77run", "--TURNS", "5"], OptionsFault::NoSuchOption),
+    (&["f77run", "--=5"], OptionsFault::NoSuchOption),
+    // requests
+    (&["f77run", "--help"], OptionsFault::Help),
+    (&["f77run", "-h"], OptionsFault::Help),
+    (&["f77run", "--version"], OptionsFault::Version),
+    (&["f77run", "-V"], OptionsFault::Version),
+    (&["f77run", "--help=yes"], OptionsFault::NeedlessValue),
+    (&["f77run", "--version=1"], OptionsFault::NeedlessValue),
+    // which of two is told: a number that is a word of its own is looked at behind the word that follows it
+    (&["f77run", "--turns", "0", "--help"], OptionsFault::BadNumber),
+    (&["f77run", "--help", "--turns", "0"], OptionsFault::Help),
+    (&["f77run", "--turns", "0", "--bogus"], OptionsFault::NoSuchOption),
+    (&["f77run", "--turns=0", "--bogus"], OptionsFault::BadNumber),
+    (&["f77run", "a.f", "b.f", "--turns=0"], OptionsFault::BadNumber),
+];
+
+#[test]
+fn taken(rt: HostRuntime) {
+    for &(words, numbers, file) in TAKEN {
+        match options(rt.alloc(), words) {
+            Ok(asked) => {
+                let plan = asked.plan;
+                assert!(rt; (plan.workers(), plan.block(), plan.window(), plan.turns()) == numbers);
+                assert!(rt; asked.file == file);
+            }
+            Err(fault) => assert!(rt; false, "{fault}"),
+        }
+    }
+}
+
+#[test]
+fn refused(rt: HostRuntime) {
+    for &(words, expected) in REFUSED {
+        match options(rt.alloc(), words) {
+            Ok(_) => assert!(rt; false, "{expected}"),
+            Err(fault) => assert!(rt; fault == expected, "{fault}, {expected}"),
+        }
+    }
+}
+
+#[test]
+fn help_has_each_rule_and_fault(rt: HostRuntime) {
+    let wanted: &[&str] = &[
+        "\n  C1  ", "\n  C2  ", "\n  C3  ", "\n  C4  ", "\n  C5  ", "\n  C6  ", "\n  C7  ", "\n  G1  ",
+        "\n  G2  ", "\n  G3  ", "\n  N1  ", "\n  N2  ", "\n  N3  ", "\n  N4  ", "\n  N5  ", "\n  K1  ",
+        "\n  K2  ", "\n  K3  ", "\n  K4  ", "\n  K5  ", "\n  K6  ", "\n  K7  ", "\n  K8  ", "\n  K9  ",
+        "\n  K10  ", "\n  K11  ", "\n  K12  ", "\n  K13  ", "\n  F1  ", "\n  F2  ", "\n  F3  ", "\n  F4  ",
+        "\n  F5  ", "\n  F6  ", "\n  F7  ", "\n  F8  ", "  --workers N ", "  --block N ", "  --window N ",
+        "  --turns N ", "in order",
+    ];
+    for &line in wanted {
+        assert!(rt; HELP.contains(line), "{line}");
+    }
+}
