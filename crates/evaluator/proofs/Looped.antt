@@ -53,9 +53,9 @@ module _ (P : ItemTree → Type 0) where
 -- ---- lists
 
 module _ (program : List ItemTree) where
-  pub loop_does : (rec : Meaning) (l : LoopOf) (m : Map) (t : ℕ) (go : Follow) → member_does program rec (Loop l) m t go ≡ looped (scope_of program) rec (shape_tree (out-Loop l).head.form.shape) (out-Loop l).head.line (members_tree (out-Loop l).range.items) m t go
+  pub loop_does : (rec : Meaning) (l : LoopOf) (m : Map) (t : ℕ) (go : Follow) → member_does program rec (Loop l) m t go ≡ looped (scope_of program) rec (shape_tree (out-Loop l).head.form.shape.value) (out-Loop l).head.line (members_tree (out-Loop l).range.items) m t go
   loop_does rec l m t go =
-      ap (λ range. looped (scope_of program) rec (shape_tree (out-Loop l).head.form.shape) (out-Loop l).head.line range m t go) (range_is l)
+      ap (λ range. looped (scope_of program) rec (shape_tree (out-Loop l).head.form.shape.value) (out-Loop l).head.line range m t go) (range_is l)
 
   head-does : (rec : Meaning) (all : Members) (x : Member) (ms : Members) (m : Map) (t : ℕ) → pass_over program rec all (member_before x ms) m t ≡ member_does program rec x m t (λ n u. pass_over program rec all ms n u)
   unfolding pass_over

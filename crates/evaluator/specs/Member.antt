@@ -9,7 +9,7 @@ use Rattle.meaning.specs.Trees.{row_members}
 
 -- what a member does before what follows it
 abbrev pub member_does : List ItemTree → Meaning → Member → Map → ℕ → Follow → Ran
-member_does program rec (Plain x) m t go = step program (shape_tree x.form.shape) x.line m t go
+member_does program rec (Plain x) m t go = step program (shape_tree x.form.shape.value) x.line m t go
 member_does program rec (Loop' head shape range) m t go =
-    looped (scope_of program) rec (shape_tree head.form.shape) head.line (row_members range) m t go
+    looped (scope_of program) rec (shape_tree head.form.shape.value) head.line (row_members range) m t go
 member_does program rec (Block b) m t go = go m t

@@ -51,10 +51,10 @@ pub fn item_whole(
     turns: &mut u64,
 ) -> Option<Fault>
     requires known { IsKnown program.now (item_tree item.now) }
-    requires quiet { IsTrue (not (is_writing (shape_tree item.now.form.shape))) }
+    requires quiet { IsTrue (not (is_writing (shape_tree item.now.form.shape.value))) }
     requires sized { length cells.old ≡ count_in program.now }
     ensures moves { MovesIn program.now cells.old cells.new
-        (step (items_in program.now) (shape_tree item.now.form.shape) item.now.line)
+        (step (items_in program.now) (shape_tree item.now.form.shape.value) item.now.line)
         turns.old turns.new result }
     ensures len { length cells.new ≡ length cells.old }
 {

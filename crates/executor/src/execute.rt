@@ -124,11 +124,11 @@ fn execute_loop<S: Sink>(
     requires unrefused { (S.told sink.old).refused ≡ false }
     ensures steps { StepsIn program.now cells.old cells.new
         (loop_as (items_in program.now)
-        (shape_tree (out-Loop repeated.now).head.form.shape) repeated.now)
+        (shape_tree (out-Loop repeated.now).head.form.shape.value) repeated.now)
         turns.old turns.new result (S.told sink.old) (S.told sink.new) }
     ensures len { length cells.new ≡ length cells.old }
 {
-    match do_of(&repeated.head.form.shape) {
+    match do_of(&*repeated.head.form.shape) {
         Some((variable, limits)) => execute_do(
             alloc, program, repeated, variable, limits, cells, turns, sink,
         ),

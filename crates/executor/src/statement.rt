@@ -157,11 +157,11 @@ pub fn execute_item<S: Sink>(
     requires sized { length cells.old ≡ count_in program.now }
     requires unrefused { (S.told sink.old).refused ≡ false }
     ensures steps { StepsIn program.now cells.old cells.new
-        (step (items_in program.now) (shape_tree item.now.form.shape) item.now.line)
+        (step (items_in program.now) (shape_tree item.now.form.shape.value) item.now.line)
         turns.old turns.new result (S.told sink.old) (S.told sink.new) }
     ensures len { length cells.new ≡ length cells.old }
 {
-    match output_of(&item.form.shape) {
+    match output_of(&*item.form.shape) {
         Some((source, list)) => execute_output(
             alloc, program, item.line, source, list, cells, turns, sink,
         ),

@@ -46,7 +46,7 @@ fn is_unrun(shape: &Shape) -> bool
 fn broken_at(item: &Item) -> Option<Broken>
     ensures { result ≡ least (unrun (item_tree item.now)) }
 {
-    if is_unrun(&item.form.shape) {
+    if is_unrun(&*item.form.shape) {
         Some(Broken {
             line: item.line,
             rule: Rule::K0,

@@ -10,4 +10,4 @@ pub returns-in-Ok-clause-moves : goal.returns-in-Ok-clause-moves
 returns-in-Ok-clause-moves c =
     let p = c.args.program.now in
     let y = c.run_item in
-    does_whole c.args.cells.now y.new.store (λ m n. Moves (λ go. step (items_in p) (shape_tree c.args.item.now.form.shape) c.args.item.now.line (map_at p m) c.args.turns.now go) c.args.turns.now (map_at p n) y.new.turns c.in-Ok.outcome) c.in-Ok.ensures.does
+    does_whole c.args.cells.now y.new.store (λ m n. Moves (λ go. step (items_in p) (shape_tree c.args.item.now.form.shape.value) c.args.item.now.line (map_at p m) c.args.turns.now go) c.args.turns.now (map_at p n) y.new.turns c.in-Ok.outcome) c.in-Ok.ensures.does

@@ -118,7 +118,7 @@ execute_loop-returns-in-Some-clause-steps g t c =
 pub execute_loop-returns-in-None-clause-steps : goal.execute_loop-returns-in-None-clause-steps
 execute_loop-returns-in-None-clause-steps g t c =
     let l = out-Loop c.args.repeated.now in
-    steps_unless_do (scope_in c.args.program.now) (exec (items_in c.args.program.now)) (shape_tree l.head.form.shape) l.head.line (members_tree l.range.items) (map_of c.args.program.now c.args.cells.now) c.args.turns.now (g.S.Sink.told c.args.sink.now) c.in-None.ensures
+    steps_unless_do (scope_in c.args.program.now) (exec (items_in c.args.program.now)) (shape_tree l.head.form.shape.value) l.head.line (members_tree l.range.items) (map_of c.args.program.now c.args.cells.now) c.args.turns.now (g.S.Sink.told c.args.sink.now) c.in-None.ensures
 
 -- ---- members
 
@@ -135,7 +135,7 @@ execute_member-returns-in-Loop-clause-steps g t c =
     let program = items_in c.args.program.now in
     let m = map_of c.args.program.now c.args.cells.now in
     let y = c.execute_loop in
-    let steps = steps_same (λ go. looped (scope_in c.args.program.now) (exec program) (shape_tree (out-Loop c.in-Loop.repeated).head.form.shape) (out-Loop c.in-Loop.repeated).head.line (members_tree (out-Loop c.in-Loop.repeated).range.items) m c.args.turns.now go) (λ go. member_does program (exec program) (Loop c.in-Loop.repeated) m c.args.turns.now go) c.args.turns.now (map_of c.args.program.now y.new.cells) y.new.turns y.result (told c.args.sink.now) (told y.new.sink) (λ go. loop_does program (exec program) c.in-Loop.repeated m c.args.turns.now go) y.ensures.steps in
+    let steps = steps_same (λ go. looped (scope_in c.args.program.now) (exec program) (shape_tree (out-Loop c.in-Loop.repeated).head.form.shape.value) (out-Loop c.in-Loop.repeated).head.line (members_tree (out-Loop c.in-Loop.repeated).range.items) m c.args.turns.now go) (λ go. member_does program (exec program) (Loop c.in-Loop.repeated) m c.args.turns.now go) c.args.turns.now (map_of c.args.program.now y.new.cells) y.new.turns y.result (told c.args.sink.now) (told y.new.sink) (λ go. loop_does program (exec program) c.in-Loop.repeated m c.args.turns.now go) y.ensures.steps in
     subst (λ x. Steps (λ go. member_does program (exec program) x m c.args.turns.now go) c.args.turns.now (map_of c.args.program.now y.new.cells) y.new.turns y.result (told c.args.sink.now) (told y.new.sink)) (sym c.in-Loop.is) steps
 
 pub execute_member-returns-in-Block-clause-steps : goal.execute_member-returns-in-Block-clause-steps
