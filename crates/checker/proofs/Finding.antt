@@ -70,7 +70,7 @@ module _ (arrays : Arrays) (members : List Member) (i : ℕ) (one : Member) (x :
   abbrev rest : List Definition
   rest = defined_in arrays (drop (i + 1) members)
 
-  left_is : defined_in arrays (drop i members) ≡ defined_before (defined_by arrays (shape_tree x.form.shape)) (is_specification (shape_tree x.form.shape)) rest
+  left_is : defined_in arrays (drop i members) ≡ defined_before (defined_by arrays (shape_tree x.form.shape.value)) (is_specification (shape_tree x.form.shape.value)) rest
   left_is =
       ap (λ ms. defined_in arrays ms) (dropped members i one lt is)
       ∙ ap (λ m. defined_in arrays (m ∷ drop (i + 1) members)) plain
@@ -80,15 +80,15 @@ module _ (arrays : Arrays) (members : List Member) (i : ℕ) (one : Member) (x :
       dropped ms j m less same = drop_more ms j m less ∙ ap (λ y. y ∷ drop (j + 1) ms) (sym same)
 
   -- a statement that is no executable one
-  pub passed : {S : Type 0} (m : IndexMap (Vec ℕ) FunctionAt S) (at : ℕ) (all : List Definition) → None ≡ defined_by arrays (shape_tree x.form.shape) → is_specification (shape_tree x.form.shape) ≡ true → Finding all (defined_in arrays (drop i members)) members m at → Finding all rest members m at
+  pub passed : {S : Type 0} (m : IndexMap (Vec ℕ) FunctionAt S) (at : ℕ) (all : List Definition) → None ≡ defined_by arrays (shape_tree x.form.shape.value) → is_specification (shape_tree x.form.shape.value) ≡ true → Finding all (defined_in arrays (drop i members)) members m at → Finding all rest members m at
   passed m at all none passes f =
       subst (λ ds. Finding all ds members m at) (left_is ∙ ap₂ (λ o b. defined_before o b rest) (sym none) passes) f
 
   -- a statement function's
-  pub found_one : {S : Type 0} (m new : IndexMap (Vec ℕ) FunctionAt S) (at next : ℕ) (all : List Definition) (d : Definition) → Some d ≡ defined_by arrays (shape_tree x.form.shape) → next ≡ at + 1 → ((n : List ℕ) → kept_at new n ≡ option_or (kept_at m n) (if bytes_eq n d.name then Some (record { at = at; member = i }) else None)) → Finding all (defined_in arrays (drop i members)) members m at → Finding all rest members new next
+  pub found_one : {S : Type 0} (m new : IndexMap (Vec ℕ) FunctionAt S) (at next : ℕ) (all : List Definition) (d : Definition) → Some d ≡ defined_by arrays (shape_tree x.form.shape.value) → next ≡ at + 1 → ((n : List ℕ) → kept_at new n ≡ option_or (kept_at m n) (if bytes_eq n d.name then Some (record { at = at; member = i }) else None)) → Finding all (defined_in arrays (drop i members)) members m at → Finding all rest members new next
   found_one m new at next all d some more added f =
-      let left : defined_in arrays (drop i members) ≡ d ∷ rest = left_is ∙ ap (λ o. defined_before o (is_specification (shape_tree x.form.shape)) rest) (sym some) in
-      let there : shown_at d.name (slice_get members i) ≡ Some d = ap (shown_at d.name) (get_read members i one lt is ∙ ap Some plain) ∙ shown_is arrays (shape_tree x.form.shape) d (sym some) in
+      let left : defined_in arrays (drop i members) ≡ d ∷ rest = left_is ∙ ap (λ o. defined_before o (is_specification (shape_tree x.form.shape.value)) rest) (sym some) in
+      let there : shown_at d.name (slice_get members i) ≡ Some d = ap (shown_at d.name) (get_read members i one lt is ∙ ap Some plain) ∙ shown_is arrays (shape_tree x.form.shape.value) d (sym some) in
       record {
         found = f.found ++ d ∷ [];
         are = append_assoc f.found (d ∷ []) rest ∙ ap (λ ds. f.found ++ ds) (sym left) ∙ f.are;

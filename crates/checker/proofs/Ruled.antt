@@ -225,7 +225,7 @@ shown_by_name n (definition letters e) d h = sym (ap (λ o. (unwrap_or o d).name
 shown_by_name n s d h = absurd cc
 
 shown_name : (n : List ℕ) (o : Option Member) (d : Definition) → shown_at n o ≡ Some d → d.name ≡ n
-shown_name n (Some (Plain x)) d h = shown_by_name n (shape_tree x.form.shape) d h
+shown_name n (Some (Plain x)) d h = shown_by_name n (shape_tree x.form.shape.value) d h
 shown_name n (Some (Loop' head shape range)) d h = absurd cc
 shown_name n (Some (Block b)) d h = absurd cc
 shown_name n None d h = absurd cc

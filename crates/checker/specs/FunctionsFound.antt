@@ -48,15 +48,15 @@ defined_in arrays members = definitions_of arrays (flat (members_tree members))
 module _ {S : Type 0} (arrays : Arrays) (m new : IndexMap (Vec ℕ) FunctionAt S) (at member : ℕ) where
   -- a statement that is neither executable nor a statement function's
   pub record IsNone (x : Item) (next : ℕ) : Type 0 where
-    pub none : None ≡ defined_by arrays (shape_tree x.form.shape)
-    pub passes : is_specification (shape_tree x.form.shape) ≡ true
+    pub none : None ≡ defined_by arrays (shape_tree x.form.shape.value)
+    pub passes : is_specification (shape_tree x.form.shape.value) ≡ true
     pub same : new ≡ m
     pub stays : next ≡ at
 
   -- a statement function's, kept unless its name is there
   pub record IsOne (x : Item) (next : ℕ) : Type 0 where
     pub definition : Definition
-    pub some : Some definition ≡ defined_by arrays (shape_tree x.form.shape)
+    pub some : Some definition ≡ defined_by arrays (shape_tree x.form.shape.value)
     pub more : next ≡ at + 1
     pub added : (n : List ℕ) → kept_at new n ≡ option_or (kept_at m n) (if bytes_eq n definition.name then Some (record { at = at; member = member }) else None)
 

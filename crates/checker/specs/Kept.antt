@@ -86,7 +86,7 @@ shown_by n (definition letters e) = Some (record { name = n; dummies = []; body 
 shown_by n s = None
 
 abbrev pub shown_at : List ℕ → Option Member → Option Definition
-shown_at n (Some (Plain x)) = shown_by n (shape_tree x.form.shape)
+shown_at n (Some (Plain x)) = shown_by n (shape_tree x.form.shape.value)
 shown_at n (Some (Loop' head shape range)) = None
 shown_at n (Some (Block b)) = None
 shown_at n None = None

@@ -229,7 +229,7 @@ fn add_all_given(
     ensures { OnOk result (Tells facts.now roles.now entries.old entries.new (given_in items.now)) }
 {
     for item in items {
-        add_given(entries, alloc, roles, facts, &item.form.shape)?;
+        add_given(entries, alloc, roles, facts, &*item.form.shape)?;
     }
     Ok(())
 }

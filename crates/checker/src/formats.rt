@@ -41,7 +41,7 @@ fn add_format(
     ensures found { OnOk result (AddsItem member.now formats.old formats.new) }
     ensures small { (s : ℕ) → 2 ^ 32 ≤ s → format_here s (item_tree member.now) ≡ None }
 {
-    match &member.form.shape {
+    match &*member.form.shape {
         Shape::Format(text) => match member.label {
             Some(label) => add_at(formats, alloc, label, text),
             None => Ok(()),
@@ -135,7 +135,7 @@ fn formats_in_texts(
 {
     let mut texts = IndexMap::new(alloc);
     for member in members {
-        add_text(&mut texts, alloc, &member.form.shape)?;
+        add_text(&mut texts, alloc, &*member.form.shape)?;
     }
     Ok(texts)
 }

@@ -98,7 +98,7 @@ fn add_names_at(
 ) -> Result<(), AllocError>
     ensures { OnOk result (PutsNames roles.now stage.now item.now names.old.keys names.new.keys) }
 {
-    let shape = &item.form.shape;
+    let shape = &*item.form.shape;
     let uses = uses_of(alloc, roles, stage.is_defining(roles, item), shape)?;
     add_declared(names, alloc, roles, declarators_in(shape))?;
     add_used(names, alloc, roles, &uses)?;

@@ -152,7 +152,7 @@ fn function_by_member<'a>(
     ensures at { IfSome result (λ f. f.at ≡ at) }
 {
     match member {
-        Some(Member::Plain(item)) => function_by_shape(at, none, &item.form.shape),
+        Some(Member::Plain(item)) => function_by_shape(at, none, &*item.form.shape),
         Some(Member::Loop(_)) => None,
         Some(Member::Block(_)) => None,
         None => None,

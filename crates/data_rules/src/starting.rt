@@ -155,7 +155,7 @@ fn pass_data<'a: 'b, 'b>(
     match filling {
         None => Err(AllocError),
         Some(so_far) => {
-            let sets = sets_in(&item.form.shape);
+            let sets = sets_in(&*item.form.shape);
             match give_sets(so_far, alloc, table, arrays, sets)? {
                 Some(more) => Ok(Passed {
                     broken,

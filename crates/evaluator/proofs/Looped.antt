@@ -75,9 +75,9 @@ module _ (P : ItemTree → Type 0) where
 -- ---- lists
 
 module _ (program : List ItemTree) where
-  pub loop_does : (rec : Meaning) (l : LoopOf) (m : Map) (t : ℕ) (go : Ways) → member_does program rec (Loop l) m t go ≡ looped (scope_of program) rec (shape_tree (out-Loop l).head.form.shape) (out-Loop l).head.line (members_tree (out-Loop l).range.items) m t go
+  pub loop_does : (rec : Meaning) (l : LoopOf) (m : Map) (t : ℕ) (go : Ways) → member_does program rec (Loop l) m t go ≡ looped (scope_of program) rec (shape_tree (out-Loop l).head.form.shape.value) (out-Loop l).head.line (members_tree (out-Loop l).range.items) m t go
   loop_does rec l m t go =
-      ap (λ range. looped (scope_of program) rec (shape_tree (out-Loop l).head.form.shape) (out-Loop l).head.line range m t go) (range_is l)
+      ap (λ range. looped (scope_of program) rec (shape_tree (out-Loop l).head.form.shape.value) (out-Loop l).head.line range m t go) (range_is l)
 
   pub block_does : (rec : Meaning) (b : _) (m : Map) (t : ℕ) (go : Ways) → member_does program rec (Block b) m t go ≡ arms_from (scope_of program) rec true (arms_tree (out-Block b).arms.items) m t go
   unfolding out-Block Rattle.meaning.specs.declared.syntax.Member.TheBlock.shown-the_row-Arm-1 denote.Hole.Carrier.out denote.Hole.Carrier.shown
@@ -214,7 +214,7 @@ unless_do (doing label comma variable limits) scope rec line range m t h go = ab
 unless_do s scope rec line range m t h go = refl
 
 -- a range by itself, when the variable has its first value
-pub repeated_runs : (all : List ItemTree) (l : LoopOf) (first by : ℤ) (count : ℕ) (label : List ℕ) (comma : Bool) (variable : List ℕ) (limits : LimitsTree) → shape_tree (out-Loop l).head.form.shape ≡ doing label comma variable limits → (m n k : Map) (t left : ℕ) (o : Outcome) (used : ℕ) → used ≡ t - left → n ≡ put m variable [] first → Leaves (trips_as all l variable first by count n t) t k left o → repeated_as all l first by count m t ≡ ran_by (record { outcome = o; turns_used = used }) k
+pub repeated_runs : (all : List ItemTree) (l : LoopOf) (first by : ℤ) (count : ℕ) (label : List ℕ) (comma : Bool) (variable : List ℕ) (limits : LimitsTree) → shape_tree (out-Loop l).head.form.shape.value ≡ doing label comma variable limits → (m n k : Map) (t left : ℕ) (o : Outcome) (used : ℕ) → used ≡ t - left → n ≡ put m variable [] first → Leaves (trips_as all l variable first by count n t) t k left o → repeated_as all l first by count m t ≡ ran_by (record { outcome = o; turns_used = used }) k
 repeated_runs all l first by count label comma variable limits is m n k t left o used same set x =
     (λ i. trips_as all l (variable_of (is i)) first by count (put m (variable_of (is i)) [] first) t) ∙ ap (λ y. trips_as all l variable first by count y t) (sym set) ∙ leaves_runs (trips_as all l variable first by count n t) t k left o used same x
 

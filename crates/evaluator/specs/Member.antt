@@ -10,8 +10,8 @@ use Rattle.meaning.specs.Trees.{row_members, row_arms}
 
 -- what a member does before what follows it
 abbrev pub member_does : List ItemTree → Meaning → Member → Map → ℕ → Ways → Ran
-member_does program rec (Plain x) m t go = step program (shape_tree x.form.shape) x.line m t go
+member_does program rec (Plain x) m t go = step program (shape_tree x.form.shape.value) x.line m t go
 member_does program rec (Loop' head shape range) m t go =
-    looped (scope_of program) rec (shape_tree head.form.shape) head.line (row_members range) m t go
+    looped (scope_of program) rec (shape_tree head.form.shape.value) head.line (row_members range) m t go
 member_does program rec (Block (Block' shape arms end)) m t go =
     arms_from (scope_of program) rec true (row_arms arms) m t go

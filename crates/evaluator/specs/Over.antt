@@ -63,7 +63,7 @@ trips_as all l variable first step count m t =
 -- the same, when its variable has its first value
 abbrev pub repeated_as : List ItemTree → Loop → ℤ → ℤ → ℕ → Map → ℕ → Ran
 repeated_as all l first step count m t =
-    let variable = variable_of (shape_tree (out-Loop l).head.form.shape) in
+    let variable = variable_of (shape_tree (out-Loop l).head.form.shape.value) in
     trips_as all l variable first step count (put m variable [] first) t
 
 -- the arms of a block IF

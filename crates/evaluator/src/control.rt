@@ -277,17 +277,17 @@ pub fn run_item<S: Store>(
     turns: &mut u64,
 ) -> Result<Outcome, AllocError>
     requires known { IsKnown program.now (item_tree item.now) }
-    requires quiet { IsTrue (not (is_writing (shape_tree item.now.form.shape))) }
+    requires quiet { IsTrue (not (is_writing (shape_tree item.now.form.shape.value))) }
     requires sized { (S.world store.old).cells ≡ count_in program.now }
     ensures does { IfOk result (MovesOver program.now (S.world store.old) (S.world store.new)
-        (step (items_in program.now) (shape_tree item.now.form.shape) item.now.line)
+        (step (items_in program.now) (shape_tree item.now.form.shape.value) item.now.line)
         turns.old turns.new) }
     ensures spends { IfOk result (λ o. Spends o turns.old turns.new) }
     ensures sure { IsTrue (S.world store.old).sure → IsOk result }
     ensures later { IsLater (S.world store.old) (S.world store.new) }
 {
     let line = item.line;
-    match logical_if_of(&item.form.shape) {
+    match logical_if_of(&*item.form.shape) {
         Some((condition, statement)) => {
             if !take_turn(turns) {
                 return Ok(Outcome::Fault(Fault {
@@ -305,7 +305,7 @@ pub fn run_item<S: Store>(
                 Err(kind) => Ok(Outcome::Fault(Fault { kind, line })),
             }
         }
-        None => run_simple(program, line, &item.form.shape, store, turns),
+        None => run_simple(program, line, &*item.form.shape, store, turns),
     }
 }
 
@@ -326,7 +326,7 @@ pub fn test_arm<S: Store>(
     ensures cells { (S.world store.new).cells ≡ (S.world store.old).cells }
 {
     let line = head.line;
-    match condition_of(&head.form.shape) {
+    match condition_of(&*head.form.shape) {
         Some(condition) => {
             if !take_turn(turns) {
                 let kind = FaultKind::F4;

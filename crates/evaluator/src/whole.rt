@@ -46,10 +46,10 @@ pub fn set_whole(program: &Program, name: &[u8], x: i32, cells: &mut Whole)
 /// Executes one statement that stands by itself and writes nothing, or passes over one that isn't executable.
 pub fn item_whole(program: &Program, item: &Item, cells: &mut Whole, turns: &mut u64) -> Outcome
     requires known { IsKnown program.now (item_tree item.now) }
-    requires quiet { IsTrue (not (is_writing (shape_tree item.now.form.shape))) }
+    requires quiet { IsTrue (not (is_writing (shape_tree item.now.form.shape.value))) }
     requires sized { length cells.old ≡ count_in program.now }
     ensures moves { MovesIn program.now cells.old cells.new
-        (step (items_in program.now) (shape_tree item.now.form.shape) item.now.line)
+        (step (items_in program.now) (shape_tree item.now.form.shape.value) item.now.line)
         turns.old turns.new result }
     ensures spends { Spends result turns.old turns.new }
     ensures len { length cells.new ≡ length cells.old }
@@ -69,7 +69,7 @@ pub fn loop_whole(program: &Program, repeated: &Loop, cells: &mut Whole, turns: 
     requires head { IsKnown program.now (item_tree (out-Loop repeated.now).head) }
     requires sized { length cells.old ≡ count_in program.now }
     ensures moves { MovesIn program.now cells.old cells.new
-        (loop_as (items_in program.now) (shape_tree (out-Loop repeated.now).head.form.shape)
+        (loop_as (items_in program.now) (shape_tree (out-Loop repeated.now).head.form.shape.value)
         repeated.now)
         turns.old turns.new result }
     ensures spends { Spends result turns.old turns.new }

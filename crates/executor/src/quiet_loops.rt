@@ -40,7 +40,7 @@ pub trait QuietLoops {
         requires sized { length cells.old ≡ count_in program.now }
         ensures moves { IfOk result (MovesIn program.now cells.old cells.new
             (loop_as (items_in program.now)
-            (shape_tree (out-Loop repeated.now).head.form.shape) repeated.now)
+            (shape_tree (out-Loop repeated.now).head.form.shape.value) repeated.now)
             turns.old turns.new) }
         ensures spends { IfOk result (λ o. Spends o turns.old turns.new) }
         ensures len { length cells.new ≡ length cells.old };

@@ -216,13 +216,13 @@ fn execute_under<S: Sink>(
     turns: &mut u64,
     sink: &mut S,
 ) -> Result<Outcome, Halt>
-    requires logical { shape_tree item.now.form.shape ≡
+    requires logical { shape_tree item.now.form.shape.value ≡
         logical_if (expr_tree condition.now) (shape_tree statement.now) }
     requires known { IsKnown program.now (item_tree item.now) }
     requires sized { length cells.old ≡ count_in program.now }
     requires unrefused { (S.told sink.old).refused ≡ false }
     ensures steps { StepsIn program.now cells.old cells.new
-        (step (items_in program.now) (shape_tree item.now.form.shape) item.now.line)
+        (step (items_in program.now) (shape_tree item.now.form.shape.value) item.now.line)
         turns.old turns.new result (S.told sink.old) (S.told sink.new) }
     ensures spends { IfOk result (λ o. Spends o turns.old turns.new) }
     ensures len { length cells.new ≡ length cells.old }
@@ -244,17 +244,17 @@ fn execute_alone<S: Sink>(
     turns: &mut u64,
     sink: &mut S,
 ) -> Result<Outcome, Halt>
-    requires alone { IsTrue (not (is_logical_if (shape_tree item.now.form.shape))) }
+    requires alone { IsTrue (not (is_logical_if (shape_tree item.now.form.shape.value))) }
     requires known { IsKnown program.now (item_tree item.now) }
     requires sized { length cells.old ≡ count_in program.now }
     requires unrefused { (S.told sink.old).refused ≡ false }
     ensures steps { StepsIn program.now cells.old cells.new
-        (step (items_in program.now) (shape_tree item.now.form.shape) item.now.line)
+        (step (items_in program.now) (shape_tree item.now.form.shape.value) item.now.line)
         turns.old turns.new result (S.told sink.old) (S.told sink.new) }
     ensures spends { IfOk result (λ o. Spends o turns.old turns.new) }
     ensures len { length cells.new ≡ length cells.old }
 {
-    match output_of(&item.form.shape) {
+    match output_of(&*item.form.shape) {
         Some((source, list)) => execute_output(
             alloc, program, item.line, source, list, cells, turns, sink,
         ),
@@ -275,12 +275,12 @@ pub fn execute_item<S: Sink>(
     requires sized { length cells.old ≡ count_in program.now }
     requires unrefused { (S.told sink.old).refused ≡ false }
     ensures steps { StepsIn program.now cells.old cells.new
-        (step (items_in program.now) (shape_tree item.now.form.shape) item.now.line)
+        (step (items_in program.now) (shape_tree item.now.form.shape.value) item.now.line)
         turns.old turns.new result (S.told sink.old) (S.told sink.new) }
     ensures spends { IfOk result (λ o. Spends o turns.old turns.new) }
     ensures len { length cells.new ≡ length cells.old }
 {
-    match logical_if_of(&item.form.shape) {
+    match logical_if_of(&*item.form.shape) {
         Some((condition, statement)) => execute_under(
             alloc, program, item, condition, statement, cells, turns, sink,
         ),

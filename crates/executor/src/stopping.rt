@@ -117,7 +117,7 @@ pub fn message_in(alloc: Global, program: &Program, line: u32) -> Result<StopMes
     ensures { IfOk result (λ m. m ≡ message_at (items_in program.now) line) }
 {
     match find_in_list(&program.tree().body, line) {
-        Some(item) => Ok(StopMessage::new(message(alloc, &item.form.shape)?)),
+        Some(item) => Ok(StopMessage::new(message(alloc, &*item.form.shape)?)),
         None => Ok(StopMessage::new(Vec::new(alloc))),
     }
 }

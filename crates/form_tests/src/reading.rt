@@ -29,7 +29,7 @@ pub fn reading(rt: &impl Abort, alloc: Global, text: &[u8]) -> Text {
     let mut out = Text::new(alloc);
     match form(alloc, &bare_of(rt, alloc, text)) {
         Ok(read) => {
-            write_shape(&mut out, &read.shape);
+            write_shape(&mut out, &*read.shape);
             drop(read);
         }
         Err(Refusal::Rule { rule, line }) => out.put(refusal_text(rule, line)),

@@ -210,7 +210,7 @@ impl Behind for Misuses<'_> {
 
     fn is_broken(&self, item: &Item) -> Result<bool, AllocError> {
         let defines = self.stage.is_defining(self.roles, item);
-        let shape = &item.form.shape;
+        let shape = &*item.form.shape;
         let uses = uses_of(self.alloc, self.roles, defines, shape)?;
         let reads = reads_of(self.alloc, self.roles, defines, shape)?;
         Ok(has_misused(self.roles, &uses, &reads))

@@ -178,7 +178,7 @@ fn function_here<'a>(roles: &Roles, stage: &Stage, item: &'a Item) -> Option<Fun
     ensures { IsHere roles.now stage.now item.now result }
 {
     if stage.is_before_executables {
-        defined_by(&roles.ranks, &item.form.shape)
+        defined_by(&roles.ranks, &*item.form.shape)
     } else {
         None
     }
@@ -231,7 +231,7 @@ impl Behind for Definitions<'_> {
     ghost knows = { λ s before. DescribesAt s.roles.now s.stage s.kept before };
 
     fn is_broken(&self, item: &Item) -> Result<bool, AllocError> {
-        let shape = &item.form.shape;
+        let shape = &*item.form.shape;
         match defined_by(&self.roles.ranks, shape) {
             Some(function) => {
                 if self.stage.is_before_executables {

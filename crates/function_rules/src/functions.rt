@@ -48,7 +48,7 @@ impl Behind for UnknownFunctions<'_> {
             self.alloc,
             self.roles,
             defines,
-            &item.form.shape,
+            &*item.form.shape,
         )?;
         Ok(has_passing(&reads, &Unknown { roles: self.roles }))
     }

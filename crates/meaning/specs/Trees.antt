@@ -44,7 +44,7 @@ flatten t = flat t.body
 -- ---- what the Rust values stand for
 
 abbrev pub item_tree : Item → ItemTree
-item_tree x = record { line = x.line; label = x.label; shape = shape_tree x.form.shape }
+item_tree x = record { line = x.line; label = x.label; shape = shape_tree x.form.shape.value }
 
 abbrev mutual
   -- a member before others

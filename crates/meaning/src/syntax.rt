@@ -315,11 +315,12 @@ pub enum Shape {
     End,
 }
 
-/// A form: what a statement says, no longer than a statement can be.
+/// A form: what a statement says, no longer than a statement can be. It stands behind a pointer, so that a form in its place is
+/// moved as a few words are, and the proofs of those that move one needn't say all that a form can be.
 pub struct Form {
-    pub shape: Shape,
+    pub shape: Box<Shape>,
     /// Twenty lines of 66 columns at most.
-    ghost short: { length (spell (shape_tree shape)) ≤ 1320 },
+    ghost short: { length (spell (shape_tree shape.value)) ≤ 1320 },
 }
 
 /// Written out, so that the crates above call it and don't prove again how each part of a form is dropped.

@@ -71,7 +71,7 @@ impl Behind for Against<'_> {
 
     fn is_broken(&self, item: &Item) -> Result<bool, AllocError> {
         let defines = self.stage.is_defining(self.roles, item);
-        let shape = &item.form.shape;
+        let shape = &*item.form.shape;
         let uses = uses_of(self.alloc, self.roles, defines, shape)?;
         Ok(is_against(self.roles, &uses, shape))
     }

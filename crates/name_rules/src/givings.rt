@@ -111,14 +111,14 @@ impl Behind for Givings<'_> {
 
     fn is_broken(&self, item: &Item) -> Result<bool, AllocError> {
         let defines = self.stage.is_defining(self.roles, item);
-        let given = given_by(self.alloc, self.roles, defines, &item.form.shape)?;
+        let given = given_by(self.alloc, self.roles, defines, &*item.form.shape)?;
         let much = gives_too_much(self.alloc, &self.names, &given)?;
         Ok(much)
     }
 
     fn pass(&mut self, item: &Item) -> Result<(), AllocError> {
         let defines = self.stage.is_defining(self.roles, item);
-        let given = given_by(self.alloc, self.roles, defines, &item.form.shape)?;
+        let given = given_by(self.alloc, self.roles, defines, &*item.form.shape)?;
         add_given(&mut self.names, self.alloc, &given)?;
         self.stage.pass(self.roles, item);
         Ok(())

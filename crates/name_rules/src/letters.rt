@@ -178,12 +178,12 @@ impl Behind for Implied {
     ghost knows = { λ s before. KnowsLetters s.taken before };
 
     fn is_broken(&self, item: &Item) -> Result<bool, AllocError> {
-        let letters = letters_in(self.alloc, &item.form.shape)?;
+        let letters = letters_in(self.alloc, &*item.form.shape)?;
         clashes(self.alloc, &self.taken, &letters)
     }
 
     fn pass(&mut self, item: &Item) -> Result<(), AllocError> {
-        let letters = letters_in(self.alloc, &item.form.shape)?;
+        let letters = letters_in(self.alloc, &*item.form.shape)?;
         take_all(&mut self.taken, &letters)
     }
 }

@@ -136,7 +136,7 @@ impl Behind for Logicals<'_> {
 
     fn is_broken(&self, item: &Item) -> Result<bool, AllocError> {
         let defines = self.stage.is_defining(self.roles, item);
-        let shape = &item.form.shape;
+        let shape = &*item.form.shape;
         let names = logical_names(self.alloc, shape)?;
         let functions = intrinsics_in(self.alloc, self.roles, defines, shape)?;
         is_logical(self, &names, &functions)
@@ -144,7 +144,7 @@ impl Behind for Logicals<'_> {
 
     fn pass(&mut self, item: &Item) -> Result<(), AllocError> {
         let defines = self.stage.is_defining(self.roles, item);
-        let shape = &item.form.shape;
+        let shape = &*item.form.shape;
         add_logical(&mut self.logicals, self.alloc, shape)?;
         add_intrinsics(&mut self.intrinsics, self.alloc, self.roles, defines, shape)?;
         self.stage.pass(self.roles, item);

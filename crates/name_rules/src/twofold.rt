@@ -156,7 +156,7 @@ impl Behind for Twofold<'_> {
 
     fn is_broken(&self, item: &Item) -> Result<bool, AllocError> {
         let defines = self.stage.is_defining(self.roles, item);
-        let shape = &item.form.shape;
+        let shape = &*item.form.shape;
         let variables = variables_in(self.alloc, self.roles, defines, shape)?;
         let functions = functions_in(self.alloc, self.roles, defines, shape)?;
         is_both(self, &variables, &functions)
@@ -164,7 +164,7 @@ impl Behind for Twofold<'_> {
 
     fn pass(&mut self, item: &Item) -> Result<(), AllocError> {
         let defines = self.stage.is_defining(self.roles, item);
-        let shape = &item.form.shape;
+        let shape = &*item.form.shape;
         add_variables(&mut self.variables, self.alloc, self.roles, defines, shape)?;
         add_functions(&mut self.functions, self.alloc, self.roles, defines, shape)?;
         self.stage.pass(self.roles, item);

@@ -27,7 +27,7 @@ impl Behind for WrongType<'_> {
 
     fn is_broken(&self, item: &Item) -> Result<bool, AllocError> {
         let defines = self.stage.is_defining(self.roles, item);
-        Ok(has_wrong_type(self.roles, defines, &item.form.shape))
+        Ok(has_wrong_type(self.roles, defines, &*item.form.shape))
     }
 
     fn pass(&mut self, item: &Item) -> Result<(), AllocError> {

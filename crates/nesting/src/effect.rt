@@ -29,7 +29,7 @@ pub enum Effect {
 pub fn effect_of_item(item: &Item) -> Effect
     ensures { effect result ≡ effect_of (item_tree item.now).shape }
 {
-    match &item.form.shape {
+    match &*item.form.shape {
         Shape::Do { label, .. } => Effect::OpensRange(number(label)),
         Shape::IfThen(_) => Effect::OpensBlock,
         Shape::ElseIf(_) => Effect::OpensArm,
@@ -51,7 +51,7 @@ pub fn effect_of_item(item: &Item) -> Effect
 pub fn is_else_item(item: &Item) -> bool
     ensures { result ≡ is_else (item_tree item.now).shape }
 {
-    match item.form.shape {
+    match &*item.form.shape {
         Shape::Else => true,
         _ => false,
     }

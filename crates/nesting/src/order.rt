@@ -25,7 +25,7 @@ pub enum Place {
 fn place_of_item(item: &Item) -> Place
     ensures { place result ≡ place_of (item_tree item.now).shape }
 {
-    match &item.form.shape {
+    match &*item.form.shape {
         Shape::Program(_) => Place::Program,
         Shape::Implicit(_) => Place::Implicit,
         Shape::Parameter(_) => Place::Parameter,

@@ -82,7 +82,12 @@ pub fn declared_in<'a>(alloc: Global, roles: &'a Roles<'a>) -> Result<Declared<'
     let mut table = table_of(alloc, roles);
     let mut arrays = IndexMap::new(alloc);
     for item in roles.items {
-        add_arrays(&mut arrays, alloc, &table, declarators_in(&item.form.shape))?;
+        add_arrays(
+            &mut arrays,
+            alloc,
+            &table,
+            declarators_in(&*item.form.shape),
+        )?;
         pass_constants(&mut table, alloc, item)?;
     }
     Ok(Declared { table, arrays })

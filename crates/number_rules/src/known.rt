@@ -98,7 +98,7 @@ pub fn pass_constants(table: &mut Table, alloc: Global, item: &Item) -> Result<(
     ensures roles { OnOk result (table.new.roles ≡ table.old.roles) }
     ensures behind { OnOk result (Passes (IsBehind table.old) (IsBehind table.new) item.now) }
 {
-    match &item.form.shape {
+    match &*item.form.shape {
         Shape::Parameter(constants) => put_constants(table, alloc, constants),
         _ => Ok(()),
     }

@@ -126,7 +126,7 @@ impl Behind for BadNumbers<'_> {
     ghost knows = { λ s before. IsBehind s.table before };
 
     fn is_broken(&self, item: &Item) -> Result<bool, AllocError> {
-        let shape = &item.form.shape;
+        let shape = &*item.form.shape;
         let is_bad = has_bad_constant(self.alloc, &self.table, shape)?;
         Ok(has_too_great(shape) || (is_bad || has_bad_bound(&self.table, declarators_in(shape))))
     }

@@ -144,11 +144,15 @@ impl Behind for LargeArrays<'_> {
     ghost knows = { λ s before. AreBehind s.table s.elements before };
 
     fn is_broken(&self, item: &Item) -> Result<bool, AllocError> {
-        Ok(have_too_large(&self.table, self.elements, declarators_in(&item.form.shape)))
+        Ok(have_too_large(
+            &self.table,
+            self.elements,
+            declarators_in(&*item.form.shape),
+        ))
     }
 
     fn pass(&mut self, item: &Item) -> Result<(), AllocError> {
-        let declarators = declarators_in(&item.form.shape);
+        let declarators = declarators_in(&*item.form.shape);
         self.elements = with_elements(&self.table, self.elements, declarators);
         pass_constants(&mut self.table, self.alloc, item)
     }

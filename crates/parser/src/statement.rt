@@ -337,12 +337,20 @@ fn read_shape_of(alloc: Global, bare: &Bare) -> Result<Shape, ReadError>
     read_statement(alloc, kind(bare), &bare.text)
 }
 
+/// That form behind a pointer.
+fn boxed_shape_of(alloc: Global, bare: &Bare) -> Result<Box<Shape>, ReadError>
+    ensures { Agrees (λ x. shape_tree x.value) result (shape_of bare.now.text.items) }
+{
+    let shape = read_shape_of(alloc, bare)?;
+    Ok(Box::new(alloc, shape)?)
+}
+
 /// The form that a bare text reads as. More than 64 parentheses open at once break G3, and no growth is made before that is
 /// known, so that want of memory is never answered then. Where there is no reading, the text breaks G2 if it begins as a
 /// statement that is left out, and else G1. Fails too if memory is refused.
 #[tactic(auto, unfolding(meaning::specs::Reading::read_shape, meaning::specs::Reading::either))]
 pub fn form(alloc: Global, bare: &Bare) -> Result<Form, Refusal>
-    ensures exact { Gives (λ f. shape_tree f.shape) result (at_line bare.now.line (read_shape bare.now.text.items)) }
+    ensures exact { Gives (λ f. shape_tree f.shape.value) result (at_line bare.now.line (read_shape bare.now.text.items)) }
     ensures deep { 64 < most_open 0 false bare.now.text.items → result ≡ Err (Refusal.Rule Rule.G3 bare.now.line) }
 {
     let line = bare.line;
@@ -352,7 +360,7 @@ pub fn form(alloc: Global, bare: &Bare) -> Result<Form, Refusal>
             line,
         });
     }
-    match read_shape_of(alloc, bare) {
+    match boxed_shape_of(alloc, bare) {
         Ok(shape) => Ok(Form { shape }),
         Err(ReadError::Memory) => Err(Refusal::Memory),
         Err(ReadError::NoReading) => {

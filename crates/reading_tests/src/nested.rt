@@ -10,7 +10,7 @@ use std::process::Abort;
 
 /// A letter for a statement.
 fn letter(item: &Item) -> u8 {
-    match item.form.shape {
+    match &*item.form.shape {
         Shape::Program(_) => b'p',
         Shape::Implicit(_) => b'm',
         Shape::Parameter(_) => b'k',

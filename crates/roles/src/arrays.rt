@@ -61,7 +61,7 @@ fn ranks_of(alloc: Global, items: &[&Item]) -> Result<IndexMap<Vec<u8>, usize>, 
 {
     let mut kept = IndexMap::new(alloc);
     for item in items {
-        add_ranks(&mut kept, alloc, declarators_in(&item.form.shape))?;
+        add_ranks(&mut kept, alloc, declarators_in(&*item.form.shape))?;
     }
     Ok(kept)
 }

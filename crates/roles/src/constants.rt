@@ -46,7 +46,7 @@ pub fn constants_of(alloc: Global, items: &[&Item]) -> Result<IndexSet<Vec<u8>>,
 {
     let mut names = IndexSet::new(alloc);
     for item in items {
-        add_constants_in(&mut names, alloc, &item.form.shape)?;
+        add_constants_in(&mut names, alloc, &*item.form.shape)?;
     }
     Ok(names)
 }

@@ -50,7 +50,7 @@ fn types_declared(alloc: Global, items: &[&Item]) -> Result<IndexMap<Vec<u8>, Da
 {
     let mut kept = IndexMap::new(alloc);
     for item in items {
-        add_types_in(&mut kept, alloc, &item.form.shape)?;
+        add_types_in(&mut kept, alloc, &*item.form.shape)?;
     }
     Ok(kept)
 }
@@ -108,7 +108,7 @@ fn parts_of<'a>(alloc: Global, items: &[&'a Item]) -> Result<Vec<&'a ImplicitPar
 {
     let mut found = Vec::new(alloc);
     for item in items {
-        add_parts_in(&mut found, &item.form.shape)?;
+        add_parts_in(&mut found, &*item.form.shape)?;
     }
     Ok(found)
 }

@@ -87,10 +87,10 @@ pub fn functions_of<'a>(
 {
     let mut found = Vec::new(alloc);
     for item in items {
-        match defined_by(ranks, &item.form.shape) {
+        match defined_by(ranks, &*item.form.shape) {
             Some(function) => found.push(function)?,
             None => {
-                if !is_specification(&item.form.shape) {
+                if !is_specification(&*item.form.shape) {
                     return Ok(found);
                 }
             }

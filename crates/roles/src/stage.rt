@@ -34,7 +34,7 @@ impl Stage {
     pub fn pass(&mut self, roles: &Roles, item: &Item)
         ensures { (before : List ItemTree) → IsBehind roles.now self.old before → IsBehind roles.now self.new (before ++ item_tree item.now ∷ []) }
     {
-        let shape = &item.form.shape;
+        let shape = &*item.form.shape;
         if !is_specification(shape) && defined_by(&roles.ranks, shape).is_none() {
             self.is_before_executables = false;
         }
@@ -44,6 +44,6 @@ impl Stage {
     pub fn is_defining(&self, roles: &Roles, item: &Item) -> bool
         ensures { (before : List ItemTree) → IsBehind roles.now self.now before → result ≡ is_defining_behind (roles_at roles.now) before (item_tree item.now) }
     {
-        self.is_before_executables && defined_by(&roles.ranks, &item.form.shape).is_some()
+        self.is_before_executables && defined_by(&roles.ranks, &*item.form.shape).is_some()
     }
 }

@@ -58,7 +58,7 @@ shape_misses t s a = misses_by t (shape_tree s) a
 
 -- a statement behind others isn't executable
 abbrev pub is_not_executable : Roles → Item → List ItemTree → Bool
-is_not_executable r x before = is_specification (shape_tree x.form.shape) || is_defining (roles_at r) before (item_tree x)
+is_not_executable r x before = is_specification (shape_tree x.form.shape.value) || is_defining (roles_at r) before (item_tree x)
 
 -- a label is put to others, if it is to be
 abbrev pub Closes : Bool → Option ℕ → BTreeSet ℕ → BTreeSet ℕ → Type 0

@@ -159,11 +159,11 @@ impl Within for Controlled<'_> {
     ghost knows = { λ s a. counters s.variables.items ≡ reverse a.variables };
 
     fn is_broken(&self, item: &Item) -> bool {
-        misuses_variable(self.roles, &self.variables, &item.form.shape)
+        misuses_variable(self.roles, &self.variables, &*item.form.shape)
     }
 
     fn enter_range(&mut self, head: &Item, _range: &[Member]) -> Result<(), AllocError> {
-        enter_counter(&mut self.variables, self.alloc, &head.form.shape)
+        enter_counter(&mut self.variables, self.alloc, &*head.form.shape)
     }
 
     fn leave_range(&mut self, head: &Item, _range: &[Member]) {

@@ -25,7 +25,7 @@ fn format_label(item: &Item) -> Option<u32>
     ensures label { (s : ℕ) → is_label_at result s ≡ is_format_at s (item_tree item.now) }
     ensures small { (s : ℕ) → 2 ^ 32 ≤ s → is_label_at result s ≡ false }
 {
-    match &item.form.shape {
+    match &*item.form.shape {
         Shape::Format(_) => {
             let label = item.label?;
             Some(label)
@@ -170,7 +170,7 @@ impl Behind for BadOutput<'_> {
     ghost knows = { λ s before. KnowsOutput s before };
 
     fn is_broken(&self, item: &Item) -> Result<bool, AllocError> {
-        is_misformed(self, item.label, &item.form.shape)
+        is_misformed(self, item.label, &*item.form.shape)
     }
 
     fn pass(&mut self, item: &Item) -> Result<(), AllocError> {

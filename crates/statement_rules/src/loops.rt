@@ -13,7 +13,7 @@ use roles::{Roles, is_other_name, type_of_name};
 pub fn leave_counter(variables: &mut Vec<Vec<u8>>, item: &Item)
     ensures { LeavesCounter item.now variables.old.items variables.new.items }
 {
-    match counter_of(&item.form.shape) {
+    match counter_of(&*item.form.shape) {
         Some(_) => {
             let _ = variables.pop();
         }

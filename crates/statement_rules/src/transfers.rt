@@ -99,7 +99,7 @@ impl Within for Transfers<'_> {
     ghost knows = { λ s a. IsAround s a };
 
     fn is_broken(&self, item: &Item) -> bool {
-        transfer_misses(self, &item.form.shape)
+        transfer_misses(self, &*item.form.shape)
     }
 
     fn enter_range(&mut self, _head: &Item, range: &[Member]) -> Result<(), AllocError> {
@@ -134,7 +134,7 @@ fn counts_of(alloc: Global, items: &[&Item]) -> Result<BTreeMap<u32, u64>, Alloc
 fn is_closed(roles: &Roles, stage: &Stage, item: &Item) -> bool
     ensures { Finds (IsBehind roles.now stage.now) (is_not_executable roles.now item.now) result }
 {
-    is_specification(&item.form.shape) || stage.is_defining(roles, item)
+    is_specification(&*item.form.shape) || stage.is_defining(roles, item)
 }
 
 /// Puts a label to others, if it is to be and there is one.

@@ -57,7 +57,7 @@ returns-in-None-clause-does g c =
     let p = c.args.program.now in
     let all = items_in p in
     let line = c.args.item.now.line in
-    let s = shape_tree c.args.item.now.form.shape in
+    let s = shape_tree c.args.item.now.form.shape.value in
     let t = c.args.turns.now in
     let y = c.run_simple-in-None in
     if_ok_so y.result _ _ (λ o does. does_so _ _ _ _ does (λ m n x. moves_same (λ go. simple all s line (map_at p m) t go) (λ go. step all s line (map_at p m) t go) t (map_at p n) y.new.turns o (unless_logical all s line (map_at p m) t c.in-None.ensures) x)) y.ensures.does

@@ -9,4 +9,4 @@ pub returns-in-Ok-clause-moves : goal.returns-in-Ok-clause-moves
 returns-in-Ok-clause-moves c =
     let p = c.args.program.now in
     let y = c.run_loop in
-    does_whole c.args.cells.now y.new.store (MovesAt p (loop_as (items_in p) (shape_tree (out-Loop c.args.repeated.now).head.form.shape) c.args.repeated.now) c.args.turns.now y.new.turns c.in-Ok.outcome) c.in-Ok.ensures.does
+    does_whole c.args.cells.now y.new.store (MovesAt p (loop_as (items_in p) (shape_tree (out-Loop c.args.repeated.now).head.form.shape.value) c.args.repeated.now) c.args.turns.now y.new.turns c.in-Ok.outcome) c.in-Ok.ensures.does

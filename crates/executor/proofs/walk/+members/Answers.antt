@@ -591,7 +591,7 @@ walk_loop-returns-in-None-clause-steps g t c =
     let l = out-Loop c.args.repeated.now in
     let range = members_tree l.range.items in
     let m = map_of p c.args.cells.now in
-    steps_same (λ go. go onward m c.args.turns.now) (λ go. looped (scope_in p) (exec program) (shape_tree l.head.form.shape) l.head.line range m c.args.turns.now go) c.args.turns.now m c.args.turns.now (Ok outcomes.Normal) (told c.args.sink.now) (told c.args.sink.now) (unless_do (shape_tree l.head.form.shape) (scope_in p) (exec program) l.head.line range m c.args.turns.now c.in-None.ensures) (steps_quietly _ c.args.turns.now m c.args.turns.now outcomes.Normal (told c.args.sink.now) (passes_over m c.args.turns.now))
+    steps_same (λ go. go onward m c.args.turns.now) (λ go. looped (scope_in p) (exec program) (shape_tree l.head.form.shape.value) l.head.line range m c.args.turns.now go) c.args.turns.now m c.args.turns.now (Ok outcomes.Normal) (told c.args.sink.now) (told c.args.sink.now) (unless_do (shape_tree l.head.form.shape.value) (scope_in p) (exec program) l.head.line range m c.args.turns.now c.in-None.ensures) (steps_quietly _ c.args.turns.now m c.args.turns.now outcomes.Normal (told c.args.sink.now) (passes_over m c.args.turns.now))
 
 pub walk_member-walk_loop-requires : goal.walk_member-walk_loop-requires
 walk_member-walk_loop-requires g t c =
@@ -633,7 +633,7 @@ walk_member-returns-in-Loop-clause-steps g t c =
     let y = c.walk_loop in
     let b = c.in-Loop.repeated in
     let t0 = c.args.turns.now in
-    subst (λ x. Steps (λ go. member_does program (exec program) x m c.args.turns.now go) c.args.turns.now (map_of p y.new.cells) y.new.turns y.result (told c.args.sink.now) (told y.new.sink)) (sym c.in-Loop.is) (steps_same (λ go. looped (scope_in p) (exec program) (shape_tree (out-Loop b).head.form.shape) (out-Loop b).head.line (members_tree (out-Loop b).range.items) m t0 go) (λ go. member_does program (exec program) (Loop b) m t0 go) c.args.turns.now (map_of p y.new.cells) y.new.turns y.result (told c.args.sink.now) (told y.new.sink) (λ go. loop_does program (exec program) b m t0 go) y.ensures.steps)
+    subst (λ x. Steps (λ go. member_does program (exec program) x m c.args.turns.now go) c.args.turns.now (map_of p y.new.cells) y.new.turns y.result (told c.args.sink.now) (told y.new.sink)) (sym c.in-Loop.is) (steps_same (λ go. looped (scope_in p) (exec program) (shape_tree (out-Loop b).head.form.shape.value) (out-Loop b).head.line (members_tree (out-Loop b).range.items) m t0 go) (λ go. member_does program (exec program) (Loop b) m t0 go) c.args.turns.now (map_of p y.new.cells) y.new.turns y.result (told c.args.sink.now) (told y.new.sink) (λ go. loop_does program (exec program) b m t0 go) y.ensures.steps)
 
 pub walk_member-returns-in-Block-clause-steps : goal.walk_member-returns-in-Block-clause-steps
 walk_member-returns-in-Block-clause-steps g t c =

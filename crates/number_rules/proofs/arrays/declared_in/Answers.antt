@@ -26,7 +26,7 @@ loop-item-preserved c =
     let ms = c.args.roles.now.items.now in
     let i = c.loop-item.item-index in
     let m = c.item-item.result in
-    let shape = shape_tree m.now.form.shape in
+    let shape = shape_tree m.now.form.shape.value in
     let known = known_at c.loop-item.table in
     let lt = c.loop-item-test.true in
     record {

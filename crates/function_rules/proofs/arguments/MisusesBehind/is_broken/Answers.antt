@@ -10,7 +10,7 @@ use Rattle.function_rules.proofs.arguments.MisusesBehind.is_broken.Goals as goal
 pub returns : goal.returns
 returns c = λ before known.
     let roles = roles_at c.args.self.now.roles.now in
-    let shape = shape_tree c.args.item.now.form.shape in
+    let shape = shape_tree c.args.item.now.form.shape.value in
     let defines = c.is_defining-defines.ensures before known in
     c.has_misused.ensures
     ∙ ap₂ (λ us rs. list_any (is_misused_array roles) us || list_any (is_misused_function roles) rs)

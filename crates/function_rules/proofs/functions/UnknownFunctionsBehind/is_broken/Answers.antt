@@ -10,7 +10,7 @@ use Rattle.function_rules.proofs.functions.UnknownFunctionsBehind.is_broken.Goal
 pub returns : goal.returns
 returns c = λ before known.
     let roles = roles_at c.args.self.now.roles.now in
-    let shape = shape_tree c.args.item.now.form.shape in
+    let shape = shape_tree c.args.item.now.form.shape.value in
     let unknown = is_unknown_function roles in
     c.has_passing.ensures ∙ ap (λ r. list_any unknown (uses_at r)) c.deref.ensures.value
     ∙ ap (list_any unknown) (c.in_ok-add_reads.ensures ∙ ap (λ xs. uses_at xs ++ (parts_of roles c.is_defining-defines.result shape).reads) c.new-reads.ensures.items)

@@ -10,7 +10,7 @@ use Rattle.name_rules.proofs.against.AgainstBehind.is_broken.Goals as goal
 pub returns : goal.returns
 returns c = λ before known.
     let roles = roles_at c.args.self.now.roles.now in
-    let shape = shape_tree c.args.item.now.form.shape in
+    let shape = shape_tree c.args.item.now.form.shape.value in
     c.is_against.ensures
     ∙ ap (λ us. list_any (is_against_role roles) us || sets_constant roles shape)
     (ap uses_at c.deref.ensures.value ∙ c.in_ok-uses.ensures ∙ ap (λ b. (parts_of roles b shape).sets ++ (parts_of roles b shape).reads) (c.is_defining-defines.ensures before known))

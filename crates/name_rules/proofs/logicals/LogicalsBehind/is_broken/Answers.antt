@@ -20,7 +20,7 @@ returns c = ok_then
     (λ b both before known.
     let s = c.args.self.now in
     let roles = roles_at s.roles.now in
-    let shape = shape_tree c.args.item.now.form.shape in
+    let shape = shape_tree c.args.item.now.form.shape.value in
     let x = item_tree c.args.item.now in
     let defines = c.is_defining-defines.ensures before known.stage in
     let functions = c.in_ok-functions.ensures ∙ ap (λ b. names_used (is_intrinsic_use roles) (reads_in roles b shape)) defines in

@@ -10,7 +10,7 @@ use Rattle.name_rules.proofs.reals.RealsBehind.is_broken.Goals as goal
 pub returns : goal.returns
 returns c = λ before known.
     let roles = roles_at c.args.self.now.roles.now in
-    let shape = shape_tree c.args.item.now.form.shape in
+    let shape = shape_tree c.args.item.now.form.shape.value in
     let defines = c.is_defining-defines.ensures before known in
     c.has_real.ensures
     ∙ ap₂ (λ b us. list_any (is_real roles) (names_defined roles b shape) || list_any (is_real_use roles) us) defines

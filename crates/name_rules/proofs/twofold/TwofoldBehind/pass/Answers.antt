@@ -13,7 +13,7 @@ pub returns-clause-knows : goal.returns-clause-knows
 returns-clause-knows c = λ before known.
     let s = c.args.self.now in
     let roles = roles_at s.roles.now in
-    let shape = shape_tree c.args.item.now.form.shape in
+    let shape = shape_tree c.args.item.now.form.shape.value in
     let x = item_tree c.args.item.now in
     let defines = c.is_defining-defines.ensures before known.stage in
     let variables = c.in_ok-add_variables.ensures ∙ ap (λ b. with_names (texts s.variables.keys) (names_used (is_variable_use roles) (uses_in roles b shape))) defines in

@@ -6,4 +6,4 @@ use Rattle.name_rules.proofs.types.WrongTypeBehind.is_broken.Goals as goal
 
 pub returns : goal.returns
 returns c = λ before known.
-    c.has_wrong_type.ensures ∙ ap (λ d. has_wrong_type (roles_at c.args.self.now.roles.now).names d (shape_tree c.args.item.now.form.shape)) (c.is_defining-defines.ensures before known)
+    c.has_wrong_type.ensures ∙ ap (λ d. has_wrong_type (roles_at c.args.self.now.roles.now).names d (shape_tree c.args.item.now.form.shape.value)) (c.is_defining-defines.ensures before known)
