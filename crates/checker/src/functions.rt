@@ -24,13 +24,14 @@ fn pass_statement(
     requires { at < 2 ^ 64 - 1 }
     ensures { IfOk result (Passes roles.now functions.old functions.new at member item.now) }
 {
-    match defined_by(&roles.ranks, &*item.form.shape) {
+    let shape = &*item.form.shape;
+    match defined_by(&roles.ranks, shape) {
         Some(function) => {
             add_first(functions, alloc, function.name, FunctionAt { at, member })?;
             Ok(Some(at + 1))
         }
         None => {
-            if is_specification(&*item.form.shape) {
+            if is_specification(shape) {
                 Ok(Some(at))
             } else {
                 Ok(None)

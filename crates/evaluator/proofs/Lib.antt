@@ -3,7 +3,6 @@ pub mod Wholes
 pub mod Assigned
 pub mod Targets
 pub mod Limiting
-pub mod Quotients
 pub mod Composed
 pub mod Turning
 pub mod Executed

@@ -287,7 +287,7 @@ pub fn run_item<S: Store>(
     ensures later { IsLater (S.world store.old) (S.world store.new) }
 {
     let line = item.line;
-    match logical_if_of(&*item.form.shape) {
+    match logical_if_of(item) {
         Some((condition, statement)) => {
             if !take_turn(turns) {
                 return Ok(Outcome::Fault(Fault {
@@ -326,7 +326,7 @@ pub fn test_arm<S: Store>(
     ensures cells { (S.world store.new).cells ≡ (S.world store.old).cells }
 {
     let line = head.line;
-    match condition_of(&*head.form.shape) {
+    match condition_of(head) {
         Some(condition) => {
             if !take_turn(turns) {
                 let kind = FaultKind::F4;

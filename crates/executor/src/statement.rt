@@ -1,6 +1,6 @@
 //! Single statements (ANSI X3.9-1978, 10.1, 11.5, 11.11 and 12.8).
 
-ghost use Rattle.std.specs.Prelude.{◌≡◌, Some, false, not, length, unwrap_or, IfOk, IsTrue};
+ghost use Rattle.std.specs.Prelude.{◌≡◌, Some, false, not, length, unwrap_or, option_map, IfOk, IsTrue};
 ghost use Rattle.meaning.specs.Syntax.{ShapeTree, expr_tree, format_tree, list_items_tree, logical_if, shape_tree};
 ghost use Rattle.meaning.specs.Trees.{item_tree};
 ghost use Rattle.meaning.specs.Execution.{parts_for, step};
@@ -12,7 +12,7 @@ ghost use Rattle.checker.specs.Checked.{items_in, count_in};
 ghost use Rattle.checker.specs.Starts.{map_of};
 ghost use Rattle.values.specs.Programs.{scope_in};
 ghost use Rattle.evaluator.specs.Known.{IsCounted, IsKnown};
-ghost use Rattle.evaluator.specs.Quiet.{is_logical_if, output_in};
+ghost use Rattle.evaluator.specs.Quiet.{is_logical_if, output_in, output_tree};
 ghost use Rattle.evaluator.specs.Statements.{Spends};
 ghost use Rattle.executor.specs.Walk.{StepsIn, output_as};
 ghost use Rattle.executor.specs.Recorded.{AreEdited, AreRecorded, recorded};
@@ -235,6 +235,13 @@ fn execute_under<S: Sink>(
     }
 }
 
+// The format and the list of a statement that is WRITE or PRINT.
+fn output_in_place(item: &Item) -> Option<(&FormatSource, &ListItems)>
+    ensures { option_map output_tree result ≡ output_in (shape_tree item.now.form.shape.value) }
+{
+    output_of(&*item.form.shape)
+}
+
 // Executes a statement that is no logical IF.
 fn execute_alone<S: Sink>(
     alloc: Global,
@@ -254,7 +261,7 @@ fn execute_alone<S: Sink>(
     ensures spends { IfOk result (λ o. Spends o turns.old turns.new) }
     ensures len { length cells.new ≡ length cells.old }
 {
-    match output_of(&*item.form.shape) {
+    match output_in_place(item) {
         Some((source, list)) => execute_output(
             alloc, program, item.line, source, list, cells, turns, sink,
         ),
@@ -280,7 +287,7 @@ pub fn execute_item<S: Sink>(
     ensures spends { IfOk result (λ o. Spends o turns.old turns.new) }
     ensures len { length cells.new ≡ length cells.old }
 {
-    match logical_if_of(&*item.form.shape) {
+    match logical_if_of(item) {
         Some((condition, statement)) => execute_under(
             alloc, program, item, condition, statement, cells, turns, sink,
         ),

@@ -87,10 +87,11 @@ pub fn functions_of<'a>(
 {
     let mut found = Vec::new(alloc);
     for item in items {
-        match defined_by(ranks, &*item.form.shape) {
+        let shape = &*item.form.shape;
+        match defined_by(ranks, shape) {
             Some(function) => found.push(function)?,
             None => {
-                if !is_specification(&*item.form.shape) {
+                if !is_specification(shape) {
                     return Ok(found);
                 }
             }

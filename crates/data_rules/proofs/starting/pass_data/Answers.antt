@@ -1,3 +1,5 @@
+use Rattle.meaning.specs.Initial.{sets_of}
+use Rattle.meaning.specs.Syntax.{shape_tree}
 use Rattle.std.proofs.Common.{option_map, sym, ap, ap₂, ◌∙◌}
 use Rattle.meaning.specs.Trees.{item_tree}
 use Rattle.roles.specs.RolesAt.{roles_at}
@@ -14,11 +16,11 @@ returns-in-Some-2 c =
     λ others before behind h.
     let r = roles_at c.args.table.now.roles.now in
     fitting r others before (item_tree c.args.item.now) c.args.passed h c.in-Some.so_far c.in-Some.is c.in-Some-2.more
-    (sym (ap (option_map stage_by) c.in-Some-2.is) ∙ c.in_ok-more-in-Some.ensures ∙ ap₂ (λ k xs. fill_sets r k xs (stage_by c.in-Some.so_far)) behind c.sets_in-sets.ensures)
+    (sym (ap (option_map stage_by) c.in-Some-2.is) ∙ c.in_ok-more-in-Some.ensures ∙ ap₂ (λ k xs. fill_sets r k xs (stage_by c.in-Some.so_far)) behind (c.sets_in-sets.ensures ∙ ap (λ s. sets_of (shape_tree s)) c.deref.ensures))
 
 pub returns-in-None-2 : goal.returns-in-None-2
 returns-in-None-2 c =
     λ others before behind h.
     let r = roles_at c.args.table.now.roles.now in
     unfitting r others before (item_tree c.args.item.now) c.args.passed h c.in-Some.so_far c.in-Some.is (sym c.is_first.ensures ∙ c.if-not-is_first.false)
-    (sym (ap (option_map stage_by) c.in-None-2.is) ∙ c.in_ok-more-in-Some.ensures ∙ ap₂ (λ k xs. fill_sets r k xs (stage_by c.in-Some.so_far)) behind c.sets_in-sets.ensures)
+    (sym (ap (option_map stage_by) c.in-None-2.is) ∙ c.in_ok-more-in-Some.ensures ∙ ap₂ (λ k xs. fill_sets r k xs (stage_by c.in-Some.so_far)) behind (c.sets_in-sets.ensures ∙ ap (λ s. sets_of (shape_tree s)) c.deref.ensures))

@@ -1,3 +1,4 @@
+use Rattle.std.proofs.Common.{sym, ap, ◌∙◌}
 use Rattle.meaning.specs.declared.ending.FaultKind.TheVariants.{F4}
 use Rattle.meaning.specs.declared.ending.Outcome.TheVariants as outcomes
 use Rattle.meaning.specs.Syntax.{logical_if, shape_tree, expr_tree}
@@ -60,4 +61,4 @@ returns-in-None-clause-does g c =
     let s = shape_tree c.args.item.now.form.shape.value in
     let t = c.args.turns.now in
     let y = c.run_simple-in-None in
-    if_ok_so y.result _ _ (λ o does. does_so _ _ _ _ does (λ m n x. moves_same (λ go. simple all s line (map_at p m) t go) (λ go. step all s line (map_at p m) t go) t (map_at p n) y.new.turns o (unless_logical all s line (map_at p m) t c.in-None.ensures) x)) y.ensures.does
+    if_ok_so y.result _ _ (λ o does. does_so _ _ _ _ does (λ m n x. moves_same (λ go. simple all (shape_tree c.deref.result.now) line (map_at p m) t go) (λ go. step all s line (map_at p m) t go) t (map_at p n) y.new.turns o (λ go. unless_logical all s line (map_at p m) t c.in-None.ensures go ∙ ap (λ z. simple all (shape_tree z) line (map_at p m) t go) (sym c.deref.ensures)) x)) y.ensures.does

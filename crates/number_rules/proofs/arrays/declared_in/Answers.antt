@@ -1,7 +1,7 @@
 use Rattle.std.proofs.Common.{map, take, option_map, sym, ap, ◌∙◌}
 use Rattle.std.specs.Map.{lookup}
 use Rattle.std.specs.Str.{bytes_eq}
-use Rattle.meaning.specs.Scopes.{dimensions_in, known_behind, known_of, or_dimensions}
+use Rattle.meaning.specs.Scopes.{declarators_in, dimensions_in, known_behind, known_of, or_dimensions}
 use Rattle.meaning.specs.Syntax.{declarator_tree, shape_tree}
 use Rattle.roles.proofs.Passes.{map_more}
 use Rattle.roles.specs.RolesAt.{roles_at}
@@ -41,5 +41,6 @@ loop-item-preserved c =
           items_more types ms i m n (arrays_kept c.loop-item.arrays n) _ known lt c.item-item.is before.constants (before.arrays n)
           (c.in_ok-add_arrays.ensures n
           ∙ ap (λ r. or_dimensions (arrays_kept c.loop-item.arrays n) (dimensions_in (roles_at r).names.types known (map declarator_tree c.declarators_in.result.now) n)) before.roles
-          ∙ ap (λ ds. or_dimensions (arrays_kept c.loop-item.arrays n) (dimensions_in types known ds n)) c.declarators_in.ensures);
+          ∙ ap (λ ds. or_dimensions (arrays_kept c.loop-item.arrays n) (dimensions_in types known ds n)) c.declarators_in.ensures
+          ∙ ap (λ s. or_dimensions (arrays_kept c.loop-item.arrays n) (dimensions_in types known (declarators_in (shape_tree s)) n)) c.deref.ensures);
     }

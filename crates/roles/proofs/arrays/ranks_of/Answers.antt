@@ -1,3 +1,4 @@
+use Rattle.meaning.specs.Syntax.{shape_tree}
 use Rattle.std.proofs.Common.{None, ap, ◌∙◌}
 use Rattle.std.specs.Option.{option_or}
 use Rattle.meaning.specs.Scopes.{declarators_in}
@@ -10,4 +11,4 @@ use Rattle.roles.proofs.arrays.ranks_of.Goals as goal
 
 pub loop-item-preserved : goal.loop-item-preserved
 loop-item-preserved c =
-    λ n. first_more (λ ms. rank_by (declarators_of (trees_at ms)) n) (λ m. rank_by (declarators_in (tree_at m).shape) n) (ranks_law n) c.args.items.now c.loop-item.item-index c.item-item.result None _ _ c.loop-item-test.true c.item-item.is (c.loop-item.invariant n) (c.in_ok-add_ranks.ensures n ∙ ap (λ ds. option_or (kept_at c.loop-item.kept n) (rank_by ds n)) c.declarators_in.ensures)
+    λ n. first_more (λ ms. rank_by (declarators_of (trees_at ms)) n) (λ m. rank_by (declarators_in (tree_at m).shape) n) (ranks_law n) c.args.items.now c.loop-item.item-index c.item-item.result None _ _ c.loop-item-test.true c.item-item.is (c.loop-item.invariant n) (c.in_ok-add_ranks.ensures n ∙ ap (λ ds. option_or (kept_at c.loop-item.kept n) (rank_by ds n)) c.declarators_in.ensures ∙ ap (λ s. option_or (kept_at c.loop-item.kept n) (rank_by (declarators_in (shape_tree s)) n)) c.deref.ensures)

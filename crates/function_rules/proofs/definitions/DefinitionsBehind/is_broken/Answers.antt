@@ -1,7 +1,7 @@
 use Rattle.std.proofs.Common.{◌≡◌, Bool, List, option_map, sym, ap, ◌∙◌}
 use Rattle.meaning.specs.NameRules.{breaks_function_rules}
 use Rattle.meaning.specs.Scopes.{arrays_of, defined_by}
-use Rattle.meaning.specs.Syntax.{ItemTree}
+use Rattle.meaning.specs.Syntax.{ItemTree, shape_tree}
 use Rattle.meaning.specs.Trees.{item_tree}
 use Rattle.roles.specs.Functions.{definition_at}
 use Rattle.roles.specs.Listed.{trees_at}
@@ -23,4 +23,4 @@ returns-then-self c =
     (λ (b : Bool). b ≡ is_bad_by roles (is_kept s.kept) (level_at s.kept) (nodes_at s.kept) d)
     (λ (b : Bool). (before : List ItemTree) → Describes (IsBehind s.roles.now s.stage before) roles before (level_at s.kept) (nodes_at s.kept) → b ≡ breaks_function_rules roles before x)
     c.is_bad.result c.is_bad.ensures
-    (λ b told before known. bad_here roles before x d (is_kept s.kept) (level_at s.kept) (nodes_at s.kept) b (ap (option_map definition_at) (sym c.in-Some.is) ∙ c.defined_by.ensures ∙ ap (λ ms. defined_by (arrays_of (trees_at ms)) x.shape) s.roles.now.ranked) (sym known.stage ∙ c.if-self.true) (kept_named s.kept) known.levels known.nodes told)
+    (λ b told before known. bad_here roles before x d (is_kept s.kept) (level_at s.kept) (nodes_at s.kept) b (ap (option_map definition_at) (sym c.in-Some.is) ∙ c.defined_by.ensures ∙ ap (λ s. defined_by (arrays_of (trees_at c.args.self.now.roles.now.ranks.items.now)) (shape_tree s)) c.deref-shape.ensures ∙ ap (λ ms. defined_by (arrays_of (trees_at ms)) x.shape) s.roles.now.ranked) (sym known.stage ∙ c.if-self.true) (kept_named s.kept) known.levels known.nodes told)

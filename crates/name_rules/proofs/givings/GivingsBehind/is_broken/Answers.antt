@@ -1,3 +1,4 @@
+use Rattle.meaning.specs.Syntax.{shape_tree}
 use Rattle.std.proofs.Common.{[], ◌||◌, ap, ◌∙◌}
 use Rattle.meaning.specs.NameRules.{given_by, given_from, given_twice, has_two_roles}
 use Rattle.meaning.specs.Trees.{item_tree}
@@ -15,4 +16,4 @@ returns c = λ before known.
     let gs = given_from roles [] before in
     let g = given_at c.in_ok-given.given in
     c.in_ok-much.ensures ∙ too_much n.typed.keys n.bounded.keys n.valued.keys n.defined.keys gs g known.typed_held known.bounded_held known.valued_held known.defined_held
-    ∙ ap (λ h. given_twice gs h || has_two_roles gs h) (c.in_ok-given.ensures ∙ ap (λ b. given_by roles b x.shape) (c.is_defining-defines.ensures before known.stage))
+    ∙ ap (λ h. given_twice gs h || has_two_roles gs h) (c.in_ok-given.ensures ∙ ap (λ s. given_by roles c.is_defining-defines.result (shape_tree s)) c.deref.ensures ∙ ap (λ b. given_by roles b x.shape) (c.is_defining-defines.ensures before known.stage))

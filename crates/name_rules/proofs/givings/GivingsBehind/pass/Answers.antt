@@ -1,3 +1,4 @@
+use Rattle.meaning.specs.Syntax.{shape_tree}
 use Rattle.std.proofs.Common.{[], ◌∷◌, ◌++◌, ap, ◌∙◌}
 use Rattle.meaning.specs.NameRules.{given_by}
 use Rattle.meaning.specs.Trees.{item_tree}
@@ -15,4 +16,4 @@ returns-clause-knows c = λ before known.
     let old = s.names in
     let new = c.add_given.new.names in
     let added = c.in_ok-add_given.ensures in
-    gives_more (IsBehind s.roles.now s.stage before) (IsBehind s.roles.now c.pass.new.self (before ++ x ∷ [])) roles before x (given_at c.in_ok-given.given) old.typed.keys old.bounded.keys old.valued.keys old.defined.keys new.typed.keys new.bounded.keys new.valued.keys new.defined.keys known (c.pass.ensures before known.stage) (c.in_ok-given.ensures ∙ ap (λ b. given_by roles b x.shape) (c.is_defining-defines.ensures before known.stage)) added.typed added.bounded added.valued added.defined
+    gives_more (IsBehind s.roles.now s.stage before) (IsBehind s.roles.now c.pass.new.self (before ++ x ∷ [])) roles before x (given_at c.in_ok-given.given) old.typed.keys old.bounded.keys old.valued.keys old.defined.keys new.typed.keys new.bounded.keys new.valued.keys new.defined.keys known (c.pass.ensures before known.stage) (c.in_ok-given.ensures ∙ ap (λ s. given_by roles c.is_defining-defines.result (shape_tree s)) c.deref.ensures ∙ ap (λ b. given_by roles b x.shape) (c.is_defining-defines.ensures before known.stage)) added.typed added.bounded added.valued added.defined

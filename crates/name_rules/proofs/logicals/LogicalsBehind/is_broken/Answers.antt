@@ -1,3 +1,4 @@
+use Rattle.name_rules.specs.NamesIn.{logical as logical_in}
 use Rattle.std.proofs.Common.{◌≡◌, Bool, List, [], ap, ◌∙◌}
 use Rattle.meaning.specs.NameRules.{is_intrinsic_use, names_used}
 use Rattle.meaning.specs.Syntax.{ItemTree, shape_tree}
@@ -20,8 +21,7 @@ returns c = ok_then
     (λ b both before known.
     let s = c.args.self.now in
     let roles = roles_at s.roles.now in
-    let shape = shape_tree c.args.item.now.form.shape.value in
     let x = item_tree c.args.item.now in
     let defines = c.is_defining-defines.ensures before known.stage in
-    let functions = c.in_ok-functions.ensures ∙ ap (λ b. names_used (is_intrinsic_use roles) (reads_in roles b shape)) defines in
-    both ∙ logical_is roles before x (parts_from roles [] before).reads (parts_at roles before x).reads s.intrinsics.keys s.logicals.keys (names_at c.deref.result.now) (names_at c.deref-2.result.now) known.intrinsics_held known.logicals_held (ap names_at c.deref.ensures.value ∙ c.in_ok-names.ensures) (ap names_at c.deref-2.ensures.value ∙ functions))
+    let functions = c.in_ok-functions.ensures ∙ ap (λ s. names_used (is_intrinsic_use roles) (reads_in roles c.is_defining-defines.result (shape_tree s))) c.deref-shape.ensures ∙ ap (λ b. names_used (is_intrinsic_use roles) (reads_in roles b x.shape)) defines in
+    both ∙ logical_is roles before x (parts_from roles [] before).reads (parts_at roles before x).reads s.intrinsics.keys s.logicals.keys (names_at c.deref.result.now) (names_at c.deref-2.result.now) known.intrinsics_held known.logicals_held (ap names_at c.deref.ensures.value ∙ c.in_ok-names.ensures ∙ ap (λ s. logical_in (shape_tree s)) c.deref-shape.ensures) (ap names_at c.deref-2.ensures.value ∙ functions))

@@ -1,3 +1,4 @@
+use Rattle.name_rules.specs.NamesIn.{logical as logical_in}
 use Rattle.std.proofs.Common.{[], ◌∷◌, ◌++◌, refl, ap, ◌∙◌}
 use Rattle.meaning.specs.NameRules.{is_intrinsic_use, names_used}
 use Rattle.meaning.specs.Syntax.{shape_tree}
@@ -13,8 +14,7 @@ pub returns-clause-knows : goal.returns-clause-knows
 returns-clause-knows c = λ before known.
     let s = c.args.self.now in
     let roles = roles_at s.roles.now in
-    let shape = shape_tree c.args.item.now.form.shape.value in
     let x = item_tree c.args.item.now in
     let defines = c.is_defining-defines.ensures before known.stage in
-    let functions = c.in_ok-add_intrinsics.ensures ∙ ap (λ b. with_names (texts s.intrinsics.keys) (names_used (is_intrinsic_use roles) (reads_in roles b shape))) defines in
-    logical_more (IsBehind s.roles.now s.stage before) (IsBehind s.roles.now c.pass.new.self (before ++ x ∷ [])) roles before x s.intrinsics.keys s.logicals.keys c.add_intrinsics.new.seen.keys c.add_logical.new.seen.keys _ _ known (c.pass.ensures before known.stage) refl refl c.in_ok-add_logical.ensures functions
+    let functions = c.in_ok-add_intrinsics.ensures ∙ ap (λ s. with_names (texts c.args.self.now.intrinsics.keys) (names_used (is_intrinsic_use roles) (reads_in roles c.is_defining-defines.result (shape_tree s)))) c.deref-shape.ensures ∙ ap (λ b. with_names (texts s.intrinsics.keys) (names_used (is_intrinsic_use roles) (reads_in roles b x.shape))) defines in
+    logical_more (IsBehind s.roles.now s.stage before) (IsBehind s.roles.now c.pass.new.self (before ++ x ∷ [])) roles before x s.intrinsics.keys s.logicals.keys c.add_intrinsics.new.seen.keys c.add_logical.new.seen.keys _ _ known (c.pass.ensures before known.stage) refl refl (c.in_ok-add_logical.ensures ∙ ap (λ s. with_names (texts c.args.self.now.logicals.keys) (logical_in (shape_tree s))) c.deref-shape.ensures) functions

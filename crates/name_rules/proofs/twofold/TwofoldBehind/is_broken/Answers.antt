@@ -20,9 +20,8 @@ returns c = ok_then
     (λ b both before known.
     let s = c.args.self.now in
     let roles = roles_at s.roles.now in
-    let shape = shape_tree c.args.item.now.form.shape.value in
     let x = item_tree c.args.item.now in
     let defines = c.is_defining-defines.ensures before known.stage in
-    let variables = c.in_ok-variables.ensures ∙ ap (λ b. names_used (is_variable_use roles) (uses_in roles b shape)) defines in
-    let functions = c.in_ok-functions.ensures ∙ ap (λ b. names_used (is_function_use roles) (reads_in roles b shape)) defines in
+    let variables = c.in_ok-variables.ensures ∙ ap (λ s. names_used (is_variable_use roles) (uses_in roles c.is_defining-defines.result (shape_tree s))) c.deref-shape.ensures ∙ ap (λ b. names_used (is_variable_use roles) (uses_in roles b x.shape)) defines in
+    let functions = c.in_ok-functions.ensures ∙ ap (λ s. names_used (is_function_use roles) (reads_in roles c.is_defining-defines.result (shape_tree s))) c.deref-shape.ensures ∙ ap (λ b. names_used (is_function_use roles) (reads_in roles b x.shape)) defines in
     both ∙ both_is roles (parts_from roles [] before) (parts_at roles before x) s.variables.keys s.functions.keys (names_at c.deref.result.now) (names_at c.deref-2.result.now) known.variables_held known.functions_held (ap names_at c.deref.ensures.value ∙ variables) (ap names_at c.deref-2.ensures.value ∙ functions))

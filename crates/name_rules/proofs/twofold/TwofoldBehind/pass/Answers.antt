@@ -13,9 +13,8 @@ pub returns-clause-knows : goal.returns-clause-knows
 returns-clause-knows c = λ before known.
     let s = c.args.self.now in
     let roles = roles_at s.roles.now in
-    let shape = shape_tree c.args.item.now.form.shape.value in
     let x = item_tree c.args.item.now in
     let defines = c.is_defining-defines.ensures before known.stage in
-    let variables = c.in_ok-add_variables.ensures ∙ ap (λ b. with_names (texts s.variables.keys) (names_used (is_variable_use roles) (uses_in roles b shape))) defines in
-    let functions = c.in_ok-add_functions.ensures ∙ ap (λ b. with_names (texts s.functions.keys) (names_used (is_function_use roles) (reads_in roles b shape))) defines in
+    let variables = c.in_ok-add_variables.ensures ∙ ap (λ s. with_names (texts c.args.self.now.variables.keys) (names_used (is_variable_use roles) (uses_in roles c.is_defining-defines.result (shape_tree s)))) c.deref-shape.ensures ∙ ap (λ b. with_names (texts s.variables.keys) (names_used (is_variable_use roles) (uses_in roles b x.shape))) defines in
+    let functions = c.in_ok-add_functions.ensures ∙ ap (λ s. with_names (texts c.args.self.now.functions.keys) (names_used (is_function_use roles) (reads_in roles c.is_defining-defines.result (shape_tree s)))) c.deref-shape.ensures ∙ ap (λ b. with_names (texts s.functions.keys) (names_used (is_function_use roles) (reads_in roles b x.shape))) defines in
     used_more (IsBehind s.roles.now s.stage before) (IsBehind s.roles.now c.pass.new.self (before ++ x ∷ [])) roles before x s.variables.keys s.functions.keys c.add_variables.new.seen.keys c.add_functions.new.seen.keys _ _ known (c.pass.ensures before known.stage) refl refl variables functions

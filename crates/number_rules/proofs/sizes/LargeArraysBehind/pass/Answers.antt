@@ -1,3 +1,4 @@
+use Rattle.meaning.specs.Syntax.{shape_tree}
 use Rattle.std.proofs.Common.{◌+◌, ◌++◌, ◌∷◌, [], sum_by, sym, ap, ◌∙◌}
 use Rattle.meaning.specs.NumberRules.{elements_in, elements_of, has_large_array}
 use Rattle.meaning.specs.Scopes.{declarators_in}
@@ -25,6 +26,7 @@ returns-clause-knows c =
       elements =
           c.with_elements-self.ensures (elements_in r [] before) known.elements
           ∙ ap (λ ds. capped (elements_in r [] before + sum_by (elements_of types (known_at table)) ds)) c.declarators_in-declarators.ensures
+          ∙ ap (λ s. capped (elements_in r [] before + sum_by (elements_of types (known_at table)) (declarators_in (shape_tree s)))) c.deref.ensures
           ∙ ap (λ k. capped (elements_in r [] before + sum_by (elements_of types k) (declarators_in x.shape))) known.table
           ∙ ap capped (sym (elements_push r before x))
           ∙ ap (λ q. capped (elements_in (roles_at q.now) [] (before ++ x ∷ []))) (sym same);

@@ -10,5 +10,6 @@ use Rattle.statement_rules.proofs.control.ControlledWithin.is_broken.Goals as go
 pub returns : goal.returns
 returns c = λ a known.
     let roles = roles_at c.args.self.now.roles.now in
-    c.misuses_variable.ensures ∙ ap (λ vs. misuses_by roles (counters vs) (shape_tree c.args.item.now.form.shape.value)) c.deref.ensures.value
+    c.misuses_variable.ensures ∙ ap (λ vs. misuses_by roles (counters vs) (shape_tree c.deref-2.result.now)) c.deref.ensures.value
+    ∙ ap (λ s. misuses_by roles (counters c.args.self.now.variables.items) (shape_tree s)) c.deref-2.ensures
     ∙ misuses_around roles (counters c.args.self.now.variables.items) a (item_tree c.args.item.now) known
