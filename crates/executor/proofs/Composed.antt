@@ -1,7 +1,6 @@
 -- Runs of statements, one after another.
-use Rattle.std.proofs.Common.{◌≡◌, ℕ, ℤ, suc, ◌+◌, ◌-◌, ◌<◌, ◌≤◌, Bool, true, false, if◌then◌else◌, List, [], ◌∷◌, ◌++◌, length, get_or, drop, Option, Some, None, Result, Ok, Err, refl, sym, ap, ◌∙◌, arith, append_assoc, subst}
+use Rattle.std.proofs.Common.{◌≡◌, ℕ, ℤ, suc, ◌+◌, ◌-◌, ◌<◌, ◌≤◌, Bool, true, List, [], ◌∷◌, ◌++◌, length, get_or, drop, Some, None, Result, Ok, Err, refl, sym, ap, ◌∙◌, arith, append_assoc, subst}
 use Rattle.std.specs.List.{concat}
-use Rattle.std.proofs.lemmas.List.{append-nil}
 use Rattle.meaning.specs.declared.syntax.Arm.{Arm}
 use Rattle.meaning.specs.declared.syntax.Member.{Member}
 use Rattle.meaning.specs.declared.ending.FaultKind.{FaultKind}
@@ -12,17 +11,17 @@ use Rattle.meaning.specs.Trees.{Members, members_tree, item_tree}
 use Rattle.meaning.specs.Trips.{Span, span_of, trips}
 use Rattle.meaning.specs.Values.{Scope}
 use Rattle.meaning.specs.Maps.{Map, put}
-use Rattle.meaning.specs.Execution.{Outcome as Ended, normal, jump, stopped, fault, Ran, more, ended_by, Meaning, Follow, Ways, onward, at_label, goes_on, goes_on_by, leads_on, leads_on_by, fold_trips, trips_from, looped, tested, arms_from, labelled, goes_at, exec}
+use Rattle.meaning.specs.Execution.{Outcome as Ended, normal, jump, stopped, fault, Ran, more, ended_by, Meaning, Follow, Ways, onward, at_label, goes_on, goes_on_by, leads_on, leads_on_by, fold_trips, trips_from, looped, tested, labelled, goes_at, exec}
 use Rattle.meaning.specs.Promise.{Told, Took, IsFront, IsBroken}
 use Rattle.meaning.proofs.Running.{more-more, more-none}
 use Rattle.evaluator.specs.Member.{member_does}
-use Rattle.evaluator.specs.Statements.{outcome_of, Leaves, Passes, Moves, Comes, Picks, Adds}
+use Rattle.evaluator.specs.Statements.{outcome_of, Leaves, Moves, Comes, Picks, Adds}
 use Rattle.evaluator.proofs.Composed.{IsEnd}
 use Rattle.evaluator.proofs.Executed.{fault_at, one_less, added_goes, added_fails}
 use Rattle.evaluator.proofs.Looped.{from_place, behind_place, at_place, at_end_of, trips_left, behind_range, at_trip, at_last_trip, arms_left, after_test, do_is}
 use Rattle.executor.specs.declared.halt.Halt.{Halt}
 use Rattle.executor.specs.declared.halt.Halt.TheVariants as halts
-use Rattle.executor.specs.Walk.{IsLeft, IsOver, Halts, Runs, GoesOn, Steps, SoFar, Ends}
+use Rattle.executor.specs.Walk.{IsLeft, IsOver, Halts, Runs, Steps, SoFar, Ends}
 use Rattle.executor.proofs.Taken.{Took-none, Took-then, Took-refused}
 
 pub concat-append : (xs ys : List (List ℕ)) → concat (xs ++ ys) ≡ concat xs ++ concat ys

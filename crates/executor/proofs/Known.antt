@@ -1,6 +1,6 @@
 -- In a program unit that breaks no rule, what assignments, DO statements and implied DOs set has a cell, and transfers go to labels
 -- that statements can have.
-use Rattle.std.proofs.Common.{◌≡◌, ◌+◌, arith, ℕ, ℤ, suc, zero, Bool, true, false, ◌||◌, ◌&&◌, not, List, [], ◌∷◌, ◌++◌, length, map, Option, Some, None, Ok, refl, sym, ap, subst, ◌∙◌}
+use Rattle.std.proofs.Common.{◌≡◌, ◌+◌, arith, ℕ, ℤ, suc, Bool, true, false, ◌||◌, ◌&&◌, not, List, [], ◌∷◌, ◌++◌, length, map, Option, Some, None, Ok, refl, sym, ap, subst, ◌∙◌}
 use mathlib.Core.Path.{fun_ext}
 use Rattle.std.specs.Prelude.{◌==◌, count_by, if◌then◌else◌, is_some, is_none}
 use Rattle.std.specs.List.{AllByRecursion, filter, list_any}
@@ -26,10 +26,9 @@ use Rattle.meaning.specs.Scopes.{declarators_in, defined_by, definition_if, list
 use Rattle.meaning.specs.Statements.{broken_if}
 use Rattle.meaning.specs.Surroundings.{Around, controlled_by, in_arm, in_body, in_range, loop_variables, told_in, told_in_arms}
 use Rattle.meaning.specs.Syntax.{ExprTree, ExprsTree, no_exprs, exprs, FormatTree, LimitsTree, ListItemsTree, no_items, more_items, value_item, loop_item, ShapeTree, ItemTree, assignment, doing, logical_if, writing, printing}
-use Rattle.meaning.specs.Trees.{Members, none, plain, loop, block, Arms, no_arms, arm, Nested, nested, flat, flat_arms, flatten}
+use Rattle.meaning.specs.Trees.{Members, none, plain, loop, block, Arms, no_arms, arm, Nested, nested, flat, flat_arms}
 use Rattle.meaning.specs.Uses.{Roles, Use, bare_use, count, is_array, is_before_executables, is_constant, is_defining, is_function, is_one_of, is_other, item_uses, limit_uses, parts_of, roles_of, target_use, uses_at, uses_in, uses_in_all, unit_uses, value_uses}
 use Rattle.meaning.specs.Values.{dimensions_in}
-use Rattle.roles.specs.NameSets.{with_names}
 use Rattle.roles.proofs.NameSets.{any_with_names}
 use Rattle.checker.specs.Checked.{items_in}
 use Rattle.checker.specs.Starts.{map_of, start_in}

@@ -1,5 +1,5 @@
 -- WRITE and PRINT statements.
-use Rattle.std.proofs.Common.{◌≡◌, ℕ, suc, ◌+◌, Bool, true, false, List, [], ◌∷◌, ◌++◌, if◌then◌else◌, Option, Some, None, Result, Ok, Err, refl, sym, ap, ◌∙◌, subst, arith, append_assoc}
+use Rattle.std.proofs.Common.{◌≡◌, ℕ, suc, true, List, [], ◌∷◌, ◌++◌, if◌then◌else◌, Option, Some, None, Result, Ok, Err, refl, sym, ap, ◌∙◌, subst, append_assoc}
 use Rattle.std.specs.Prelude.{not, IsTrue, is_some}
 use Rattle.std.proofs.lemmas.Bool.{false≢true}
 use Rattle.std.specs.Global.{Vec}
@@ -8,8 +8,6 @@ use Rattle.std.proofs.lemmas.List.{append-nil}
 use Rattle.std.proofs.lemmas.Option.{same_Some}
 use Rattle.meaning.specs.declared.ending.FaultKind.{FaultKind}
 use Rattle.meaning.specs.declared.ending.FaultKind.TheVariants.{F4}
-use Rattle.meaning.specs.declared.ending.Outcome.{Outcome}
-use Rattle.meaning.specs.declared.ending.Outcome.TheVariants as outcomes
 use Rattle.meaning.specs.declared.ending.Value.{Value}
 use Rattle.meaning.specs.Scopes.{scope_of}
 use Rattle.meaning.specs.Lists.{Listed, listed, list_limit}
@@ -23,12 +21,10 @@ use Rattle.meaning.proofs.Running.{more-more}
 use Rattle.evaluator.specs.Listing.{Gives}
 use Rattle.evaluator.specs.Quiet.{output_in, is_writing, is_logical_if, under}
 use Rattle.evaluator.specs.Statements.{Leaves, Moves, Comes}
-use Rattle.evaluator.proofs.Executed.{fault_at, one_less, turn_none, turn_goes, turn_fails, if_unexecuted, if_fails, if_false}
-use Rattle.executor.specs.declared.halt.Halt.{Halt}
+use Rattle.evaluator.proofs.Executed.{fault_at, one_less, turn_none, turn_goes, turn_fails}
 use Rattle.executor.specs.Recorded.{AreEdited, AreRecorded, recorded}
-use Rattle.executor.specs.Walk.{GoesOn, IsOver, Steps, output_as}
-use Rattle.executor.proofs.Composed.{pieces-more, quiet_over, steps_behind, steps_same, steps_quietly}
-use Rattle.executor.proofs.Taken.{Took-none}
+use Rattle.executor.specs.Walk.{GoesOn, IsOver, output_as}
+use Rattle.executor.proofs.Composed.{pieces-more, quiet_over}
 
 -- ---- the records
 

@@ -1,13 +1,13 @@
 -- Functions: their arguments, and what they make of them, read from a store.
-use Rattle.std.proofs.Common.{◌≡◌, ℕ, zero, suc, ◌≤◌, ℤ, pos, List, [], ◌∷◌, ◌++◌, take, map, length, append_assoc, Option, Some, None, Result, Ok, Err, refl, sym, ap, subst, ◌∙◌, arith}
+use Rattle.std.proofs.Common.{◌≡◌, ℕ, zero, suc, ◌≤◌, ℤ, pos, List, [], ◌∷◌, ◌++◌, take, map, length, append_assoc, Some, None, Result, Ok, Err, refl, sym, ap, subst, ◌∙◌, arith}
 use Rattle.meaning.specs.declared.ending.FaultKind.{FaultKind}
 use Rattle.meaning.specs.declared.ending.Value.{Value}
 use Rattle.meaning.specs.declared.ending.Value.TheVariants as values
 use Rattle.meaning.specs.declared.syntax.Exprs.{Exprs}
 use Rattle.meaning.specs.Syntax.{ExprTree, expr_tree, ExprsTree, no_exprs, exprs, exprs_tree}
 use Rattle.meaning.specs.Maps.{Map, CellNumbers, map_by}
-use Rattle.meaning.specs.Values.{Scope, Valued, Known, value, arguments, called, as_integer, and_then, ◌>>=◌}
-use Rattle.meaning.specs.Scopes.{listed, with_dummies, calls_by, intrinsic_call}
+use Rattle.meaning.specs.Values.{Scope, Valued, value, arguments, called, as_integer, and_then, ◌>>=◌}
+use Rattle.meaning.specs.Scopes.{listed, calls_by, intrinsic_call}
 use Rattle.meaning.specs.Intrinsics.{Intrinsic, intrinsic_named}
 use Rattle.meaning.specs.Stores.{Cells, World, Reads}
 use Rattle.meaning.proofs.Stores.{reads_nothing, reads_so, reads_then}
@@ -16,7 +16,7 @@ use Rattle.expressions.specs.declared.numbering.Function.{Function}
 use Rattle.expressions.specs.declared.intrinsics.Arguments.{Arguments}
 use Rattle.expressions.specs.declared.intrinsics.Arguments.TheVariants as none_yet
 use Rattle.expressions.specs.Functions.{value_from}
-use Rattle.expressions.specs.Framed.{most, kept_values, Keeping, Keeps, call_value, value_behind}
+use Rattle.expressions.specs.Framed.{most, kept_values, Keeps, call_value, value_behind}
 use Rattle.expressions.specs.Names.{definition_by}
 use Rattle.expressions.specs.Glossaries.{Glossary, before, scope_in}
 use Rattle.expressions.proofs.Reading.{Values}

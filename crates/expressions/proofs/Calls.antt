@@ -1,5 +1,5 @@
 -- Statement functions and their calls.
-use Rattle.std.proofs.Common.{◌≡◌, ℕ, zero, suc, ◌+◌, ◌<◌, ◌≤◌, ◌==◌, Bool, true, false, List, [], ◌∷◌, ◌++◌, take, length, Option, Some, None, refl, sym, ap, ◌∙◌, subst, arith, cond}
+use Rattle.std.proofs.Common.{◌≡◌, ℕ, zero, suc, ◌+◌, ◌<◌, ◌≤◌, ◌==◌, Bool, true, false, List, [], ◌∷◌, ◌++◌, take, length, Option, Some, None, refl, sym, ap, ◌∙◌, subst, arith}
 use Rattle.std.specs.Prelude.{slice_get, reverse, if◌then◌else◌}
 use Rattle.std.specs.Str.{bytes_eq}
 use Rattle.std.proofs.lemmas.List.{reverse-append}
@@ -9,7 +9,7 @@ use Rattle.meaning.specs.declared.ending.Value.{Value}
 use Rattle.meaning.specs.Syntax.{ExprTree, name, number, truth, signed, negated, binary, paren, element, call}
 use Rattle.meaning.specs.Maps.{Map}
 use Rattle.meaning.specs.Types.{Types}
-use Rattle.meaning.specs.Values.{Arrays, Known, Valued, value}
+use Rattle.meaning.specs.Values.{Known, Valued, value}
 use Rattle.meaning.specs.Intrinsics.{intrinsic_named}
 use Rattle.meaning.specs.Scopes.{Definition, with_dummies, calls_by, intrinsic_call, constants_alone}
 use Rattle.expressions.specs.declared.numbering.Function.{Function}

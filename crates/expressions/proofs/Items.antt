@@ -1,12 +1,11 @@
 -- The items of an output list, one behind another.
-use Rattle.std.specs.Prelude.{if◌then◌else◌}
-use Rattle.std.proofs.Common.{◌≡◌, ℕ, zero, suc, ◌+◌, ◌-◌, ◌<◌, ◌≤◌, nat_lt, ℤ, Bool, true, false, List, [], ◌∷◌, ◌++◌, append_assoc, append-nil, length, Option, Some, None, Result, Ok, Err, IfOk, refl, sym, ap, subst, ◌∙◌, arith}
-use Rattle.std.proofs.lemmas.Bool.{lt-ltb, le-ltb, true≢false}
+use Rattle.std.proofs.Common.{◌≡◌, ℕ, zero, suc, ◌+◌, ◌-◌, ◌<◌, ◌≤◌, nat_lt, ℤ, true, false, List, [], ◌∷◌, ◌++◌, append_assoc, length, Option, Some, None, Result, Ok, Err, IfOk, refl, sym, ap, subst, ◌∙◌, arith}
+use Rattle.std.proofs.lemmas.Bool.{lt-ltb, le-ltb}
 use Rattle.meaning.specs.declared.ending.FaultKind.{FaultKind}
 use Rattle.meaning.specs.declared.ending.FaultKind.TheVariants.{F8}
 use Rattle.meaning.specs.declared.ending.Value.{Value}
 use Rattle.meaning.specs.Syntax.{ExprTree, name, number, truth, signed, negated, binary, paren, element, call}
-use Rattle.meaning.specs.Arrays.{Dimension, size, place, elements}
+use Rattle.meaning.specs.Arrays.{size, place, elements}
 use Rattle.meaning.specs.Lists.{element_values, one_value, named_value, item_value}
 use Rattle.meaning.specs.Maps.{Map, CellNumbers, value_at, map_by}
 use Rattle.meaning.specs.Values.{Scope, Valued, value, typed, and_then}
@@ -15,7 +14,7 @@ use Rattle.meaning.proofs.Stores.{reads_nothing, reads_so, reads_then}
 use Rattle.expressions.specs.declared.numbering.Cells.{Cells as Variable}
 use Rattle.expressions.specs.Glossaries.{Glossary, scope_by}
 use Rattle.expressions.specs.Names.{AreCells}
-use Rattle.expressions.specs.Places.{left, behind, from_cell}
+use Rattle.expressions.specs.Places.{left, from_cell}
 use Rattle.expressions.specs.Listed.{AreValues, element_at, cell_at, Partly, AddingElements, AddsElements, AddsItem, Adding, IsArrayIn}
 use Rattle.expressions.proofs.Reading.{Values}
 use Rattle.expressions.proofs.Ordered.{AreNumbered, elements-numbered, elements-length, length-both}

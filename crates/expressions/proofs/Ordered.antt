@@ -1,7 +1,7 @@
 -- The elements of an array in their order: each stands at its place.
-use Rattle.std.proofs.Common.{◌≡◌, ℕ, zero, suc, ◌+◌, ◌*◌, ℤ, pos, ◌+ℤ◌, List, [], ◌∷◌, ◌++◌, length, map, flat_map, Option, Some, refl, sym, ap, ◌∙◌, subst, arith}
+use Rattle.std.proofs.Common.{◌≡◌, ℕ, zero, suc, ◌+◌, ◌*◌, ℤ, pos, ◌+ℤ◌, List, [], ◌∷◌, ◌++◌, length, map, flat_map, Option, Some, refl, ap, ◌∙◌, subst, arith}
 use Rattle.std.specs.List.{range_with_len}
-use Rattle.meaning.specs.Arrays.{Dimension, extent, size, above, combined, place, values_between, elements}
+use Rattle.meaning.specs.Arrays.{Dimension, extent, size, combined, place, values_between, elements}
 use Rattle.meaning.proofs.Elements.{above-at}
 
 -- their places are this number and those behind it

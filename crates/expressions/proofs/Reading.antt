@@ -10,12 +10,11 @@ use Rattle.meaning.specs.declared.syntax.Expr.{Expr}
 use Rattle.meaning.specs.declared.syntax.Exprs.{Exprs}
 use Rattle.meaning.specs.Characters.{number_of}
 use Rattle.meaning.specs.Arrays.{Dimension}
-use Rattle.meaning.specs.declared.ending.Value.TheVariants as values
 use Rattle.meaning.specs.Syntax.{ExprTree, number, truth, name, signed, negated, binary, paren, element, call, ExprsTree, no_exprs, exprs, expr_tree, exprs_tree}
 use Rattle.meaning.specs.declared.syntax.DataType.{DataType}
 use Rattle.meaning.specs.Types.{Types}
 use Rattle.meaning.specs.Maps.{Map, start, CellNumbers, value_at, map_by}
-use Rattle.meaning.specs.Values.{Scope, Valued, value, subscripts, arguments, called, typed, or_known, ◌>>=◌, integer, as_integer, as_logical, logical, with_sign, operated, decided, in_first, others, and_then}
+use Rattle.meaning.specs.Values.{Scope, Valued, value, subscripts, arguments, typed, or_known, integer, as_integer, as_logical, logical, with_sign, operated, decided, in_first, others, and_then}
 use Rattle.meaning.specs.Stores.{Cells, World, LeavesRead, known, Reads}
 use Rattle.meaning.proofs.Stores.{reads_nothing, reads_cell, reads_so, reads_then}
 use Rattle.expressions.specs.declared.place.Place.{Place}

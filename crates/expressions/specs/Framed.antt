@@ -3,7 +3,7 @@ use Rattle.std.specs.Prelude.{◌≡◌, ◌<◌, ℕ, List, [], take, map, Opti
 use Rattle.std.specs.Borrow.{Bor}
 use Rattle.meaning.specs.declared.ending.FaultKind.{FaultKind}
 use Rattle.meaning.specs.declared.ending.Value.{Value}
-use Rattle.meaning.specs.Syntax.{ExprTree, ExprsTree, name, number, truth, signed, negated, binary, paren, element, call, expr_tree, exprs_tree}
+use Rattle.meaning.specs.Syntax.{ExprTree, ExprsTree, name, exprs_tree}
 use Rattle.meaning.specs.Maps.{Map}
 use Rattle.meaning.specs.Values.{Scope, Valued, arguments, called, as_integer, ◌>>=◌}
 use Rattle.meaning.specs.Intrinsics.{Intrinsic, intrinsic_named}

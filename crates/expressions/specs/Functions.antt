@@ -1,7 +1,5 @@
 -- What the Rust values of functions stand for.
-use Rattle.std.specs.Prelude.{◌≡◌, ◌≤◌, ℕ, ℤ, List, [], ◌∷◌, Option, Some, None, Bool, true, false, slice_get, length}
-use Rattle.std.specs.Str.{bytes_eq}
-use Rattle.meaning.specs.Syntax.{expr_tree, exprs_tree}
+use Rattle.std.specs.Prelude.{ℤ, List}
 use Rattle.meaning.specs.Intrinsics as intrinsics
 use Rattle.meaning.specs.Values.{Valued}
 use Rattle.expressions.specs.declared.intrinsics.Intrinsic.{Intrinsic}

@@ -1,5 +1,5 @@
 -- What the names of a program unit stand for, and the scope of an expression in it.
-use Rattle.std.specs.Prelude.{ℕ, zero, suc, ◌+◌, ◌*◌, List, [], ◌∷◌, Option, Some, None, slice_get, reverse}
+use Rattle.std.specs.Prelude.{ℕ, zero, suc, ◌+◌, List, [], ◌∷◌, Option, Some, None, slice_get, reverse}
 use Rattle.meaning.specs.declared.ending.Value.{Value}
 use Rattle.meaning.specs.Syntax.{ExprTree, number, truth, name, signed, negated, binary, paren, element, call, ExprsTree, no_exprs, exprs}
 use Rattle.meaning.specs.Types.{Types}

@@ -3,7 +3,7 @@ use Rattle.std.specs.Prelude.{◌≡◌, ◌<◌, ◌+◌, ◌++◌, ℕ, suc, L
 use Rattle.meaning.specs.declared.ending.FaultKind.{FaultKind}
 use Rattle.meaning.specs.declared.ending.FaultKind.TheVariants.{F8}
 use Rattle.meaning.specs.declared.ending.Value.{Value}
-use Rattle.meaning.specs.Syntax.{ExprTree, name, number, truth, signed, negated, binary, paren, element, call}
+use Rattle.meaning.specs.Syntax.{ExprTree, name}
 use Rattle.meaning.specs.Lists as lists
 use Rattle.meaning.specs.Maps.{Map, CellNumbers, value_at}
 use Rattle.meaning.specs.Values.{Valued, typed}

@@ -1,5 +1,5 @@
 -- What a numbering says of a name.
-use Rattle.std.specs.Prelude.{◌≡◌, ◌≤◌, ◌<◌, ◌^◌, ℕ, ℤ, Bool, true, false, List, length, Option, Some, None, slice_get}
+use Rattle.std.specs.Prelude.{◌≡◌, ◌≤◌, ◌<◌, ◌^◌, ℕ, ℤ, true, false, List, length, Option, Some, None, slice_get}
 use Rattle.std.specs.Str.{bytes_eq}
 use Rattle.meaning.specs.Syntax.{expr_tree, exprs_tree}
 use Rattle.meaning.specs.Maps.{CellNumbers}

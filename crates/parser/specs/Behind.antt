@@ -1,6 +1,6 @@
 -- What stands behind a part that is read already: the readers of several parts, from the second part on. Each is what its
 -- definition says behind the first part, so that the code can read the rest before it puts the parts together.
-use Rattle.std.specs.Prelude.{ℕ, suc, Bool, List, [], ◌∷◌, length, Option, Some, None, codes}
+use Rattle.std.specs.Prelude.{suc, Bool, List, [], ◌∷◌, length, Option, Some, None, codes}
 use Rattle.meaning.specs.declared.syntax.ControlOrder.{ControlOrder}
 use Rattle.meaning.specs.declared.syntax.ControlOrder.TheVariants.{UnitFirst}
 use Rattle.meaning.specs.Syntax.{ExprTree, ExprsTree, LimitsTree, ListItemTree, loop_item, ListItemsTree, UnitTree, FormatTree, ControlTree, DataValueTree, DataSetTree, ShapeTree, assignment, writing, arithmetic_if}

@@ -3,7 +3,7 @@ use Rattle.std.specs.Prelude.{if◌then◌else◌}
 use Rattle.std.specs.List.{range_with_len}
 use Rattle.meaning.specs.Initial.{and_also}
 use Rattle.roles.specs.RolesAt.{roles_at}
-use Rattle.data_rules.specs.DataStages.{give, give_places}
+use Rattle.data_rules.specs.DataStages.{give_places}
 use Rattle.data_rules.specs.Filled.{stage_at}
 use Rattle.data_rules.proofs.DataPlacing.{give_step}
 use Rattle.data_rules.proofs.filling.give_elements.Goals as goal

@@ -1,4 +1,4 @@
-use Rattle.std.proofs.Common.{◌+◌, ◌∷◌, [], ◌++◌, refl, sym, ap, ◌∙◌, arith, drop}
+use Rattle.std.proofs.Common.{sym, ap, ◌∙◌, arith}
 use Rattle.std.proofs.lemmas.List.{drop_all}
 use Rattle.meaning.specs.Trees.{none, item_tree, arms_tree, flat, flat_arms, member_before, members_tree}
 use Rattle.executor.specs.Located.{item_at}

@@ -1,5 +1,5 @@
-use Rattle.std.proofs.Common.{to_z, of_z, ◌+◌, ◌≡◌, ◌≤◌, ◌<◌, true, false, [], ap, sym, ◌∙◌, subst, refl, rules, arith, Ok, Err, Some, None}
-use Rattle.std.specs.Prelude.{FitsSigned, IfOk}
+use Rattle.std.proofs.Common.{to_z, of_z, ◌+◌, ◌≡◌, ◌<◌, true, false, [], ap, sym, ◌∙◌, subst, refl, rules, arith, Ok, Err}
+use Rattle.std.specs.Prelude.{FitsSigned}
 use Rattle.std.specs.Int.{w32}
 use Rattle.std.proofs.lemmas.Bool.{false≢true}
 use Rattle.std.proofs.lemmas.Int.{to_z-of_z}
@@ -10,10 +10,10 @@ use Rattle.meaning.specs.declared.syntax.Member.{Loop, Block}
 use Rattle.meaning.specs.declared.syntax.Loop.{out-Loop}
 use Rattle.meaning.specs.declared.syntax.Block.{out-Block}
 use Rattle.meaning.specs.Syntax.{doing, shape_tree, limits_tree}
-use Rattle.meaning.specs.Trees.{flat, flat_arms, item_tree, members_tree, arms_tree}
+use Rattle.meaning.specs.Trees.{flat, flat_arms, members_tree, arms_tree}
 use Rattle.meaning.specs.Trips.{trip_count}
 use Rattle.meaning.specs.Maps.{put}
-use Rattle.meaning.specs.Execution.{onward, exec, looped, tested as tests, arms_from}
+use Rattle.meaning.specs.Execution.{onward, exec, looped, arms_from}
 use Rattle.meaning.specs.Promise.{Told}
 use Rattle.checker.specs.Checked.{items_in}
 use Rattle.checker.specs.Starts.{map_of}
@@ -22,7 +22,7 @@ use Rattle.evaluator.specs.Known.{IsKnown, AreKnown}
 use Rattle.evaluator.specs.Limited.{span_values}
 use Rattle.evaluator.specs.Member.{member_does}
 use Rattle.evaluator.specs.Quiet.{under}
-use Rattle.evaluator.specs.Statements.{Adds, Moves, Tests, Comes}
+use Rattle.evaluator.specs.Statements.{Adds, Moves, Comes}
 use Rattle.evaluator.proofs.Composed.{comes_none, if_ok_so}
 use Rattle.evaluator.proofs.Executed.{fault_at, passes_over}
 use Rattle.evaluator.proofs.Looped.{known_at, head_known, range_known, arms_known, body_known, loop_does, block_does, unless_do, do_unmoved, do_faults, arms_left, no_arm_left, next_arm, test_ends}

@@ -1,9 +1,9 @@
-use Rattle.std.proofs.Common.{◌≡◌, ap, sym, ◌∙◌, subst}
+use Rattle.std.proofs.Common.{ap, sym, ◌∙◌, subst}
 use Rattle.meaning.specs.Trees.{flat, members_tree}
 use Rattle.meaning.specs.Answers.{run_of}
 use Rattle.meaning.specs.Execution.{Ran, exec}
 use Rattle.checker.specs.Checked.{tree_of, items_in}
-use Rattle.checker.specs.Starts.{map_of, start_in}
+use Rattle.checker.specs.Starts.{map_of}
 use Rattle.evaluator.specs.Known.{AreKnown}
 use Rattle.executor.specs.Walk.{Ends}
 use Rattle.executor.proofs.Composed.{ends_as}

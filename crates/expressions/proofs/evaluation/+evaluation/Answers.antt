@@ -1,4 +1,4 @@
-use Rattle.std.proofs.Common.{rules, ◌≡◌, ◌<◌, [], ◌∷◌, option_map, Ok, Err, Some, None, length, refl, sym, ap, subst, ◌∙◌, to_z, of_z, arith}
+use Rattle.std.proofs.Common.{rules, ◌≡◌, [], ◌∷◌, option_map, Ok, Err, refl, sym, ap, subst, ◌∙◌, to_z, of_z, arith}
 use Rattle.std.specs.Prelude.{not}
 use Rattle.std.specs.Int.{w32}
 use Rattle.std.proofs.lemmas.Int.{to_z-of_z}
@@ -8,12 +8,12 @@ use Rattle.meaning.specs.Maps.{map_by}
 use Rattle.meaning.specs.declared.ending.FaultKind.TheVariants.{F3}
 use Rattle.meaning.specs.Values.{as_integer, in_first, typed, or_known}
 use Rattle.meaning.specs.Stores.{Reads}
-use Rattle.expressions.specs.Places.{left, behind, GoesOn}
+use Rattle.expressions.specs.Places.{left, GoesOn}
 use Rattle.expressions.specs.Functions.{intrinsic, value_from}
 use Rattle.expressions.specs.Framed.{scope_at, call_value}
 use Rattle.expressions.specs.Names.{definition_by}
 use Rattle.expressions.proofs.Reading.{Values, Places, number_reads, truth_reads, negated_reads, negated_fails, decided_reads, name_reads, name_reads_known, signed_reads, signed_fails, binary_reads, left_fails, right_fails, paren_reads, element_reads, element_fails, element_calls, call_calls, places_end, places_more, bounds_fail, first_fails, typed_is, by_form, by_list}
-use Rattle.expressions.proofs.Called.{Keepings, Behinds, keep_ends, keep_more, keep_fails, behind_ends, behind_more, behind_fails, intrinsic_reads, nothing_reads, argument_fails, function_reads, by_keeping, by_behind}
+use Rattle.expressions.proofs.Called.{Keepings, Behinds, keep_ends, keep_more, keep_fails, behind_ends, behind_more, behind_fails, nothing_reads, argument_fails, function_reads, by_keeping, by_behind}
 use Rattle.expressions.proofs.Calls.{room_left, its_call}
 use Rattle.expressions.proofs.evaluation.+evaluation.Goals as goal
 

@@ -1,6 +1,6 @@
 use Rattle.std.proofs.Common.{◌+◌, ◌*◌}
 use Rattle.meaning.specs.Syntax.{expr_tree, exprs_tree}
-use Rattle.expressions.specs.Glossaries.{Glossary, weight, weights, room}
+use Rattle.expressions.specs.Glossaries.{weight, weights, room}
 use Rattle.expressions.proofs.evaluation.+evaluation.Given as goal
 
 abbrev pub decreases-value_in : goal.decreases-value_in

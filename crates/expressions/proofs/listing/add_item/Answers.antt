@@ -1,6 +1,6 @@
-use Rattle.std.proofs.Common.{rules, ◌≡◌, ◌<◌, suc, length, IfOk, Ok, Err, arith}
+use Rattle.std.proofs.Common.{arith}
 use Rattle.meaning.specs.Syntax.{expr_tree}
-use Rattle.expressions.proofs.Items.{array_item, value_adds, value_fails, no_room, if_ok_so}
+use Rattle.expressions.proofs.Items.{array_item, value_adds, value_fails, if_ok_so}
 use Rattle.expressions.proofs.listing.add_item.Goals as goal
 
 pub returns-in-Some-clause-reads : goal.returns-in-Some-clause-reads
