@@ -3,21 +3,23 @@
 #![tactic(auto)]
 
 use executor::Out;
-use executor::run::run;
+use executor::run::run_in_order;
 use meaning::ending::Ending;
+use meaning::plan::Plan;
 use std::alloc::Global;
 use std::{fs, io};
 
 /// The turns that a program has.
 const TURNS: u64 = 1_000_000_000;
 
-// What a source writes, if it ends at END.
+// What a source writes, if it ends at END or by a STOP statement.
 fn records_of(alloc: Global, source: &[u8]) -> Option<Vec<u8>> {
+    let plan = Plan::new(1, 1, 1, TURNS)?;
     let mut sink = Out::new(Vec::new(alloc));
-    let ending = run(alloc, source, TURNS, &mut sink);
+    let ending = run_in_order(alloc, source, &plan, &mut sink);
     let records = sink.into_inner();
     match ending {
-        Ending::Ended => Some(records),
+        Ending::Ended | Ending::Stopped(_) => Some(records),
         _ => None,
     }
 }

@@ -1,0 +1,3 @@
+C TURNS 24
+   10 IF (I.EQ.0) GO TO 10
+      END

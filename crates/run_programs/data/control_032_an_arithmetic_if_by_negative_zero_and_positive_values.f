@@ -1,0 +1,12 @@
+      DO 40 I=-2,2
+      IF (I) 10,20,30
+   10 WRITE (6,50) I
+      GO TO 40
+   20 WRITE (6,60) I
+      GO TO 40
+   30 WRITE (6,70) I
+   40 CONTINUE
+   50 FORMAT (I3,' NEGATIVE')
+   60 FORMAT (I3,' ZERO')
+   70 FORMAT (I3,' POSITIVE')
+      END

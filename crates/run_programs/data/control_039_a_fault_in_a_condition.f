@@ -1,0 +1,2 @@
+      IF (I/J.EQ.2) K=1
+      END

@@ -1,0 +1,2 @@
+      STOP 0
+      END

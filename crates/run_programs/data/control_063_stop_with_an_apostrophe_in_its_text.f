@@ -1,0 +1,2 @@
+      STOP 'IT''S ''DONE'''
+      END

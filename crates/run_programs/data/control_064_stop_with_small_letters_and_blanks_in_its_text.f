@@ -1,0 +1,2 @@
+      stop ' all  done '
+      END

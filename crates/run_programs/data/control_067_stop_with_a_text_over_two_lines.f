@@ -1,0 +1,3 @@
+      STOP 'A BA BA BA BA BA BA BA BA BA BA BA BA BA BA BA BA BA BA BA B
+     1IT''S OVER'
+      END

@@ -1,0 +1,3 @@
+      I=1/J
+      STOP
+      END

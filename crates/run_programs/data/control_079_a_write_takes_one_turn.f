@@ -1,0 +1,5 @@
+C TURNS 2
+      WRITE (6,10) (I,I=1,4)
+      PRINT 10,5
+   10 FORMAT (I2)
+      END

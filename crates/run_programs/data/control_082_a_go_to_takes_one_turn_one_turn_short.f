@@ -1,0 +1,5 @@
+C TURNS 2
+      I=1
+      GO TO 10
+   10 I=2
+      END

@@ -1,0 +1,4 @@
+C TURNS 2
+      CONTINUE
+      GO TO 10
+   10 END

@@ -1,0 +1,3 @@
+C TURNS 2
+      IF (I.EQ.0) GO TO 10
+   10 END

@@ -1,0 +1,5 @@
+C TURNS 3
+      WRITE (6,10) I
+      IF (I.EQ.0) WRITE (6,10) 7
+   10 FORMAT (I2)
+      END

@@ -1,0 +1,4 @@
+C TURNS 1
+      I=1
+      STOP
+      END

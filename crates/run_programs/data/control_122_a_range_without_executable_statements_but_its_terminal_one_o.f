@@ -1,0 +1,4 @@
+C TURNS 2
+      DO 10 I=1,2
+   10 CONTINUE
+      END

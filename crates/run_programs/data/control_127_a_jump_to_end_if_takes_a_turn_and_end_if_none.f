@@ -1,0 +1,6 @@
+C TURNS 3
+      IF (I.EQ.0) THEN
+      GO TO 10
+   10 END IF
+      I=1
+      END

@@ -1,0 +1,5 @@
+C TURNS 2
+      CONTINUE
+      DO 10 I=1,2,J
+   10 CONTINUE
+      END

@@ -1,0 +1,5 @@
+C TURNS 1
+      CONTINUE
+      DO 10 I=1,2,J
+   10 CONTINUE
+      END

@@ -1,0 +1,2 @@
+      IF (MOD(5,2)) STOP
+      END

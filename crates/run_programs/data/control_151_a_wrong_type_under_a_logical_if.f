@@ -1,0 +1,2 @@
+      IF (.FALSE.) I=.TRUE.
+      END

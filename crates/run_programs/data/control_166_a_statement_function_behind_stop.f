@@ -1,0 +1,3 @@
+      STOP
+      ISQ(N)=N*N
+      END

@@ -1,0 +1,2 @@
+      STOP NOW
+      END

@@ -1,0 +1,3 @@
+      IF (I.EQ.1) THEN
+      I=2
+      END

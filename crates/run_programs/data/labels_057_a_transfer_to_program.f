@@ -1,0 +1,3 @@
+   10 PROGRAM P
+      GO TO 10
+      END

@@ -1,0 +1,4 @@
+      J=7
+      WRITE (6,10) (J,I=1,65535),I/K
+   10 FORMAT (I1)
+      END

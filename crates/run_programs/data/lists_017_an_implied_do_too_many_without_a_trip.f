@@ -1,0 +1,3 @@
+      WRITE (6,10) ((J,J=1,0),I=1,65536)
+   10 FORMAT ('NO VALUES')
+      END

@@ -1,0 +1,5 @@
+      INTEGER A(3)
+      WRITE (6,10) (A(I),I=1,3)
+   10 FORMAT (I2)
+      WRITE (6,10) (A(I),I=1,4)
+      END

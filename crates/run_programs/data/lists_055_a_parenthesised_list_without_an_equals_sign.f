@@ -1,0 +1,3 @@
+      PRINT 10,(I,J)
+   10 FORMAT (I3)
+      END

@@ -1,3 +1,0 @@
-      DO 10 I=1,3
-   10 IF (I.EQ.2) J=I
-      END

@@ -1,4 +1,0 @@
-      WRITE (6,10)
-   10 FORMAT ('NOTHING')
-      STOP
-      END

@@ -1,0 +1,24 @@
+C     A BUBBLE SORT THAT STOPS WHEN A PASS HAS EXCHANGED NOTHING, WITH
+C     THE LIST BEHIND EACH PASS.
+      PARAMETER (N=10)
+      INTEGER A(N),PASS
+      LOGICAL DONE
+      DATA A/31,4,-15,92,65,35,-8,97,93,23/
+      WRITE (6,40) 0,A
+   10 PASS=PASS+1
+      DONE=.TRUE.
+      DO 20 I=1,N-PASS
+      IF (A(I).LE.A(I+1)) GO TO 20
+      K=A(I)
+      A(I)=A(I+1)
+      A(I+1)=K
+      DONE=.FALSE.
+   20 CONTINUE
+      IF (.NOT.DONE) THEN
+      WRITE (6,40) PASS,A
+      GO TO 10
+      END IF
+      WRITE (6,50) A(1),A(N)
+   40 FORMAT ('PASS',I3,':',10I4)
+   50 FORMAT ('LEAST',I4,', GREATEST',I4)
+      END
