@@ -1,0 +1,4 @@
+pub mod Quiet
+pub mod Places
+pub mod Loud
+pub mod Kept
