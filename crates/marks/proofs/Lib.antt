@@ -1,1 +1,2 @@
 pub mod Silent
+pub mod Keeping
