@@ -1,2 +1,3 @@
 pub mod Silent
 pub mod Keeping
+pub mod Apart
