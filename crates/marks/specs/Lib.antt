@@ -2,3 +2,4 @@ pub mod Quiet
 pub mod Places
 pub mod Loud
 pub mod Kept
+pub mod Puts

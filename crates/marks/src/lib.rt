@@ -2,6 +2,10 @@
 //! (ANSI X3.9-1978, 3.4, chapter 11 and 12.8).
 #![tactic(auto)]
 
+mod loud;
+mod places;
 mod quiet;
 
+pub use loud::loud_lines;
+pub use places::places_of;
 pub use quiet::{is_quiet_list, output_of, statement_of};
