@@ -36,25 +36,7 @@ first_or : {A : Type 0} (b : Bool) (x : A) (o : Option A) → option_or (if b th
 first_or true x o = refl
 first_or false x o = refl
 
-if_or : {A : Type 0} (b : Bool) (x : A) (o p : Option A) → option_or (if b then Some x else o) p ≡ (if b then Some x else option_or o p)
-if_or true x o p = refl
-if_or false x o p = refl
-
 -- ---- places
-
--- a member before others
-pub place_before : (s i : ℕ) (x : Member) (ms : Members) → place_from s i (member_before x ms) ≡ option_or (place_from s i (member_before x none)) (place_from s (i + 1) ms)
-place_before s i (Plain x) ms = sym (if_or (has_label s (item_tree x)) i None (place_from s (i + 1) ms))
-place_before s i (Loop' head shape range) ms =
-    ap (λ o. if has_label s (item_tree head) then Some i else option_or o (place_from s (i + 1) ms)) (sym (or_none (place_from s 0 (row_members range))))
-    ∙ sym (if_or (has_label s (item_tree head)) i (option_or (place_from s 0 (row_members range)) None) (place_from s (i + 1) ms))
-place_before s i (Block (Block' shape arms end)) ms =
-    let rest = place_from s (i + 1) ms in
-    let inside = place_in_arms s (row_arms arms) in
-    let behind = has_label s (item_tree end) in
-    ap (λ o. if heads s (row_arms arms) then Some i else option_or inside o) (sym (if_or behind (i + 1) None rest))
-    ∙ ap (λ o. if heads s (row_arms arms) then Some i else o) (sym (or_or inside (if behind then Some (i + 1) else None) rest))
-    ∙ sym (if_or (heads s (row_arms arms)) i (option_or inside (if behind then Some (i + 1) else None)) rest)
 
 pub loop_places : (old one two : BTreeMap ℕ ℕ) (i : ℕ) (x : Member) (l : LoopOf) (ms : List Member) → x ≡ Loop l → ms ≡ (out-Loop l).range.items → Puts (place_if (out-Loop l).head.label i) old one → Puts (λ s. place_from s 0 (members_tree ms)) one two → Puts (member_places x i) old two
 loop_places old one two i x l ms is same first behind = λ s.
@@ -89,15 +71,6 @@ or_false false = refl
 or_again : (a b c : Bool) → ((a || b) || c) ≡ (a || (b || c))
 or_again true b c = refl
 or_again false b c = refl
-
-pub loud_before : (line : ℕ) (x : Member) (ms : Members) → is_loud line (member_before x ms) ≡ (is_loud line (member_before x none) || is_loud line ms)
-loud_before line (Plain x) ms = refl
-loud_before line (Loop' head shape range) ms =
-    let a = ((item_tree head).line == line) && not (is_quiet (row_members range)) in
-    let b = is_loud line (row_members range) in
-    ap (λ z. a || (z || is_loud line ms)) (sym (or_false b)) ∙ sym (or_again a (b || false) (is_loud line ms))
-loud_before line (Block (Block' shape arms end)) ms =
-    ap (λ z. z || is_loud line ms) (sym (or_false (is_loud_in_arms line (row_arms arms))))
 
 pub loop_loud : (old one two : BTreeSet ℕ) (x : Member) (l : LoopOf) (ms : List Member) → x ≡ Loop l → ms ≡ (out-Loop l).range.items → PutsLines (λ line. ((out-Loop l).head.line == line) && not (is_quiet (members_tree (out-Loop l).range.items))) old one → PutsLines (λ line. is_loud line (members_tree ms)) one two → PutsLines (member_loud x) old two
 loop_loud old one two x l ms is same first behind = λ line.

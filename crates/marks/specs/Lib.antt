@@ -3,3 +3,4 @@ pub mod Places
 pub mod Loud
 pub mod Kept
 pub mod Puts
+pub mod Marked

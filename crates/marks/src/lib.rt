@@ -3,9 +3,9 @@
 #![tactic(auto)]
 
 mod loud;
+mod marks;
 mod places;
 mod quiet;
 
-pub use loud::loud_lines;
-pub use places::places_of;
+pub use marks::Marks;
 pub use quiet::{is_quiet_list, output_of, statement_of};

@@ -66,7 +66,7 @@ fn put_list(lines: &mut BTreeSet<u32>, members: &[Member]) -> Result<(), AllocEr
 
 /// The initial lines of the DO statements in whose ranges a WRITE or PRINT statement stands. The `AllocError` comes where a growth was
 /// refused.
-pub fn loud_lines(alloc: Global, members: &[Member]) -> Result<BTreeSet<u32>, AllocError>
+pub(crate) fn loud_lines(alloc: Global, members: &[Member]) -> Result<BTreeSet<u32>, AllocError>
     ensures { IfOk result (λ lines. (line : ℕ) →
         contains nat_cmp lines line ≡ is_loud line (members_tree members.now)) }
 {
