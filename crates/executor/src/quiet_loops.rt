@@ -7,7 +7,7 @@ ghost use Rattle.meaning.specs.Trees.{flat, item_tree, members_tree};
 ghost use Rattle.checker.specs.Checked.{items_in, count_in};
 ghost use Rattle.evaluator.specs.Known.{IsKnown, AreKnown};
 ghost use Rattle.evaluator.specs.Over.{MovesIn, loop_as};
-ghost use Rattle.evaluator.specs.Quiet.{WritesNothing};
+ghost use Rattle.marks.specs.Quiet.{WritesNothing};
 ghost use Rattle.evaluator.specs.Statements.{Spends};
 
 use array_store::Whole;

@@ -21,7 +21,7 @@ use Rattle.values.specs.Programs.{scope_in}
 use Rattle.evaluator.specs.Known.{IsKnown, AreKnown}
 use Rattle.evaluator.specs.Limited.{span_values}
 use Rattle.evaluator.specs.Member.{member_does}
-use Rattle.evaluator.specs.Quiet.{under}
+use Rattle.marks.specs.Quiet.{under}
 use Rattle.evaluator.specs.Statements.{Adds, Moves, Comes}
 use Rattle.evaluator.proofs.Composed.{comes_none, if_ok_so}
 use Rattle.evaluator.proofs.Executed.{fault_at, passes_over}
