@@ -169,6 +169,12 @@ all_own r before (x ∷ xs) disputed functions =
     let b = told_parts (breaks_function_rules r) K12 before xs x functions in
     own_one r before xs x a.0 b.0 (all_own r (before ++ x ∷ []) xs a.1 b.1)
 
+-- no label stands twice
+pub labels_once : (t : Nested) → checked t ≡ Ok t → told has_repeated_label K1 [] (flatten t) ≡ []
+labels_once t accepted =
+    let r = roles_of (flatten t) in
+    none_front (told has_repeated_label K1 [] (flatten t)) _ (none_front (broken_items r (flatten t)) _ (nothing_broken t accepted))
+
 own_all : (t : Nested) → checked t ≡ Ok t → AreOwn [] (definitions_of (roles_of (flatten t)).names.arrays (flatten t))
 own_all t accepted =
     let r = roles_of (flatten t) in

@@ -3,7 +3,10 @@
 ghost use Rattle.std.specs.Prelude.{◌≡◌, IfOk, IfSome, Ok, Some, length, option_map};
 ghost use Rattle.meaning.specs.Reports.{Gives};
 ghost use Rattle.meaning.specs.Rules.{checked};
-ghost use Rattle.meaning.specs.Trees.{nested};
+ghost use Rattle.meaning.specs.Trees.{members_tree, nested};
+ghost use Rattle.marks.specs.Kept.{IsKept};
+ghost use Rattle.marks.specs.Loud.{is_loud_in};
+ghost use Rattle.marks.specs.Places.{place_in};
 ghost use Rattle.format_edit.specs.Formatted.{descriptors};
 ghost use Rattle.checker.specs.Checked.{count_in, names_in, numbers_in};
 ghost use Rattle.checker.specs.Agreed.{IsReadFrom};
@@ -11,7 +14,10 @@ ghost use Rattle.checker.specs.Told.{AreStarts, format_at};
 
 use crate::formats::Formats;
 use crate::parts::Parts;
-use crate::queries::{array_in, find_in, format_in, function_in, named_in, text_format_in};
+use crate::queries::{
+    array_in, find_in, format_in, function_in, is_loud_in_parts, named_in, place_in_parts,
+    text_format_in,
+};
 use crate::rules::{Kept, Names, kept_of};
 use expressions::{Cells, Function, Named, Numbering, Place};
 use format_edit::Format;
@@ -46,6 +52,7 @@ impl Program {
     pub fn tree(&self) -> &Tree
         ensures tree { result.now ≡ self.now }
         ensures allowed { checked (nested self.now) ≡ Ok (nested self.now) }
+        ensures kept { IsKept self.now (members_tree self.now.body.items) }
     {
         &self.parts.tree
     }
@@ -64,6 +71,21 @@ impl Program {
         ensures { option_map (λ f. descriptors f.now) result ≡ format_at self.now digits.now }
     {
         format_in(&self.parts, digits)
+    }
+
+    /// The place in its list to which a transfer to the label leads: that of its statement, or, of END IF, that behind the block IF
+    /// (ANSI X3.9-1978, 11.1 to 11.9); `None` where no list has the label.
+    pub fn place(&self, label: u32) -> Option<usize>
+        ensures { result ≡ place_in self.now label }
+    {
+        place_in_parts(&self.parts, label)
+    }
+
+    /// Whether a DO statement with this initial line has a WRITE or PRINT statement in its range.
+    pub fn is_loud(&self, line: u32) -> bool
+        ensures { result ≡ is_loud_in self.now line }
+    {
+        is_loud_in_parts(&self.parts, line)
     }
 
     /// The format in a character constant, if one is kept (ANSI X3.9-1978, 12.4); it was read once.
@@ -120,6 +142,7 @@ pub fn check(alloc: Global, tree: Tree) -> Result<Program, Refusal>
                 function_count,
                 no_dummies,
                 formats,
+                marks,
             },
         ) => {
             let Names {
@@ -139,6 +162,7 @@ pub fn check(alloc: Global, tree: Tree) -> Result<Program, Refusal>
                     starts,
                     formats: by_label,
                     texts,
+                    marks,
                 },
             })
         }

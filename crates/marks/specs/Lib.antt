@@ -2,3 +2,5 @@ pub mod Quiet
 pub mod Places
 pub mod Loud
 pub mod Kept
+pub mod Puts
+pub mod Marked

@@ -2,6 +2,10 @@
 //! (ANSI X3.9-1978, 3.4, chapter 11 and 12.8).
 #![tactic(auto)]
 
+mod loud;
+mod marks;
+mod places;
 mod quiet;
 
+pub use marks::Marks;
 pub use quiet::{is_quiet_list, output_of, statement_of};
