@@ -85,8 +85,11 @@ module _ (s : ℕ) (whole : List Member) where
   labelled_left (x ∷ ms) i left =
       labelled-before s x (members_tree ms) ∙ entered_left i x ms (labelled s (members_tree ms)) (own_place s (i + 1) (members_tree ms)) left (labelled_left ms (i + 1) (left_on whole i x ms left)) (entry s x) ∙ ap left_at (sym (placed-before s i x (members_tree ms)))
 
+none_on : (k : ℕ) → 0 + k ≡ k
+none_on k = omega arith
+
 labelled_is : (s : ℕ) (ms : List Member) → labelled s (members_tree ms) ≡ option_map (λ i. members_tree (drop i ms)) (own_place s 0 (members_tree ms))
-labelled_is s ms = labelled_left s ms ms 0 (λ k. refl)
+labelled_is s ms = labelled_left s ms ms 0 (λ k. ap (λ n. drop n ms) (none_on k))
 
 -- ---- a list has a label exactly if a member begins or ends with it
 
@@ -129,7 +132,7 @@ data IsEntered (s : ℕ) (ms : List Member) (n : ℕ) : Type 0 where
 
 next_entered : (s : ℕ) (x : Member) (ms : List Member) (n : ℕ) → IsEntered s ms n → IsEntered s (x ∷ ms) (suc n)
 next_entered s x ms n (at_it is) = at_it is
-next_entered s x ms n (behind_it i same is) = behind_it (suc i) (ap suc same) is
+next_entered s x ms n (behind_it i same is) = behind_it (suc i) (omega arith) is
 
 -- the same for what is left of a list from a place on
 record IsEnteredFrom (s : ℕ) (ms : List Member) (i n : ℕ) : Type 0 where
@@ -139,18 +142,19 @@ record IsEnteredFrom (s : ℕ) (ms : List Member) (i n : ℕ) : Type 0 where
 
 where_entered : (s : ℕ) (ms : List Member) (i n : ℕ) → own_place s i (members_tree ms) ≡ Some n → IsEnteredFrom s ms i n
 where_entered s [] i n is = absurd cc
-where_entered s (x ∷ ms) i n is = by (entry s x) refl (sym (placed-before s i x (members_tree ms)) ∙ is)
+where_entered s (x ∷ ms) i n is =
+    by (λ h. where_entered s ms (i + 1) n h) (entry s x) refl (sym (placed-before s i x (members_tree ms)) ∙ is)
   where
     later : IsEnteredFrom s ms (i + 1) n → IsEnteredFrom s (x ∷ ms) i n
     later h =
         let e = h.is in
         record { further = suc h.further; is = omega arith; there = next_entered s x ms h.further h.there }
-    by : (e : Option ℕ) → entry s x ≡ e → placed i (own_place s (i + 1) (members_tree ms)) e ≡ Some n → IsEnteredFrom s (x ∷ ms) i n
-    by None at h = later (where_entered s ms (i + 1) n h)
-    by (Some zero) at h =
+    by : (own_place s (i + 1) (members_tree ms) ≡ Some n → IsEnteredFrom s ms (i + 1) n) → (e : Option ℕ) → entry s x ≡ e → placed i (own_place s (i + 1) (members_tree ms)) e ≡ Some n → IsEnteredFrom s (x ∷ ms) i n
+    by rest None at h = later (rest h)
+    by rest (Some zero) at h =
         let e : i ≡ n = cc in
         record { further = 0; is = omega arith; there = at_it (ap (λ o. is_number o 0) at) }
-    by (Some (suc k)) at h =
+    by rest (Some (suc k)) at h =
         let e : i + 1 ≡ n = cc in
         record { further = 1; is = omega arith; there = behind_it 0 refl (entry-near s x k at) }
 
@@ -158,9 +162,6 @@ entered_at : (s : ℕ) (ms : List Member) (n : ℕ) → own_place s 0 (members_t
 entered_at s ms n is =
     let h = where_entered s ms 0 n is in
     subst (IsEntered s ms) (sym (h.is ∙ none_on h.further)) h.there
-  where
-    none_on : (k : ℕ) → 0 + k ≡ k
-    none_on k = omega arith
 
 -- ---- in a program, whose labels lead to their places
 
@@ -175,11 +176,11 @@ module _ (t : Tree) (s : ℕ) (ms : List Member) (kept : IsKept t (members_tree 
           ap (λ o. option_map (λ k. members_tree (drop k ms)) o) (same ∙ sym at) ∙ sym (labelled_is s ms)
 
   nowhere : ((p : ℕ) → place_in t s ≡ Some p → IsEntered s ms p → ⊥) → None ≡ labelled s (members_tree ms)
-  nowhere no = by (own_place s 0 (members_tree ms)) refl
+  nowhere never = by (own_place s 0 (members_tree ms)) refl
     where
       by : (o : Option ℕ) → own_place s 0 (members_tree ms) ≡ o → None ≡ labelled s (members_tree ms)
       by None at = ap (λ o. option_map (λ k. members_tree (drop k ms)) o) (sym at) ∙ sym (labelled_is s ms)
-      by (Some q) at = absurd (no q (kept.own s q at) (entered_at s ms q at))
+      by (Some q) at = absurd (never q (kept.own s q at) (entered_at s ms q at))
 
   -- a label that leads nowhere in the program, or to a place where no member of the list has it
   pub found_nowhere : None ≡ place_in t s → None ≡ labelled s (members_tree ms)

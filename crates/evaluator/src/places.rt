@@ -77,9 +77,9 @@ fn is_entered(members: &[Member], place: usize, label: u32, behind: usize) -> bo
     }
 }
 
-/// Where in a list of the program a transfer to the label goes on, if the list has the label: at the first member that begins with
-/// it, or behind the block IF whose END IF statement has it. The program keeps the place of each label in its list; the list has
-/// the label if a member at that place begins with it, or a block IF before that place ends with it.
+/// Where in a list of the program a transfer to the label goes on, if the list has the label: at the first member that begins
+/// with it, or behind the block IF whose END IF statement has it. The program keeps the place of each label in its list; a list
+/// has the label if the member at that place begins with it, or the block IF before that place ends with it.
 pub fn place_of(program: &Program, members: &[Member], label: u32) -> Option<usize>
     requires kept { IsKept program.now (members_tree members.now) }
     ensures at { option_map (λ i. members_tree (drop i members.now)) result ≡
