@@ -149,6 +149,7 @@ where_entered s (x ∷ ms) i n is =
     later h =
         let e = h.is in
         record { further = suc h.further; is = omega arith; there = next_entered s x ms h.further h.there }
+
     by : (own_place s (i + 1) (members_tree ms) ≡ Some n → IsEnteredFrom s ms (i + 1) n) → (e : Option ℕ) → entry s x ≡ e → placed i (own_place s (i + 1) (members_tree ms)) e ≡ Some n → IsEnteredFrom s (x ∷ ms) i n
     by rest None at h = later (rest h)
     by rest (Some zero) at h =
