@@ -16,7 +16,8 @@ use Rattle.meaning.specs.Maps.{Map, put}
 use Rattle.meaning.specs.Values.{Scope, dimensions_in, subscripts, value, as_integer, as_logical, integer, and_then}
 use Rattle.meaning.specs.Execution.{Ran, more, Ways, onward, at_label, turn, with_ok, failed, added, assigned, unless_defined, simple, step, condition_of, truth_of, holds, turn_if, tested}
 use Rattle.meaning.proofs.Running.{more-none}
-use Rattle.evaluator.specs.Quiet.{writes, is_logical_if}
+use Rattle.marks.specs.Quiet.{writes}
+use Rattle.evaluator.specs.Quiet.{is_logical_if}
 use Rattle.evaluator.specs.Statements.{Puts, Sums, target_and_value, Leaves, Passes, Moves, Tests}
 use Rattle.evaluator.proofs.Composed.{moves_behind, moves_same}
 

@@ -1,14 +1,17 @@
 -- Labels of a list of members.
-use Rattle.std.proofs.Common.{◌≡◌, ℕ, zero, suc, ◌+◌, ◌<◌, ◌≤◌, Bool, true, false, if◌then◌else◌, List, ◌∷◌, length, get_or, drop, Option, Some, None, refl, sym, ap, ◌∙◌, arith}
-use Rattle.std.proofs.lemmas.List.{drop_more, drop_all}
+use Rattle.std.proofs.Common.{◌≡◌, ℕ, zero, suc, ◌+◌, ◌<◌, ◌≤◌, Bool, true, false, if◌then◌else◌, List, [], ◌∷◌, length, get_or, drop, Option, Some, None, option_map, refl, sym, ap, subst, ◌∙◌, arith}
+use Rattle.std.proofs.lemmas.Bool.{false≢true}
 use Rattle.meaning.specs.declared.syntax.Arm.{Arm}
 use Rattle.meaning.specs.declared.syntax.Member.{Member, Plain, Loop, Loop', Block}
+use Rattle.meaning.specs.declared.syntax.Tree.{Tree}
 use Rattle.meaning.specs.declared.syntax.Block.{Block', out-Block, items_shown-the_row-Arm-1}
 use Rattle.meaning.proofs.Ranges.{row_arms-items}
 use Rattle.meaning.specs.Trees.{Members, item_tree, member_before, members_tree, arms_tree, row_arms}
 use Rattle.meaning.specs.LabelRules.{has_label}
 use Rattle.meaning.specs.Execution.{heads, labelled}
-use Rattle.evaluator.specs.Places.{entry, at_if}
+use Rattle.marks.specs.Kept.{IsKept}
+use Rattle.marks.specs.Places.{own_place, place_in}
+use Rattle.evaluator.specs.Places.{at_if, entry, is_number, is_entered_at}
 
 -- where a jump into a list goes on, by the entry of its first member: at it, behind it, or in the rest
 abbrev entered : Members → Members → Option Members → Option ℕ → Option Members
@@ -31,28 +34,183 @@ labelled-before s (Plain x) ms = entered-one (has_label s (item_tree x)) (member
 labelled-before s (Loop' head shape range) ms = entered-one (has_label s (item_tree head)) (member_before (Loop' head shape range) ms) ms (labelled s ms)
 labelled-before s (Block (Block' shape arms end)) ms = entered-two (heads s (row_arms arms)) (has_label s (item_tree end)) (member_before (Block (Block' shape arms end)) ms) ms (labelled s ms)
 
-module _ (s : ℕ) (ms : List Member) (i : ℕ) (x : Member) (lt : i < length ms) (is : x ≡ get_or ms i x) where
-  one_step : labelled s (members_tree (drop i ms)) ≡ entered (members_tree (drop i ms)) (members_tree (drop (i + 1) ms)) (labelled s (members_tree (drop (i + 1) ms))) (entry s x)
-  one_step =
-      let e : drop i ms ≡ x ∷ drop (i + 1) ms = drop_more ms i x lt ∙ ap (λ y. y ∷ drop (i + 1) ms) (sym is) in
-      ap (λ xs. labelled s (members_tree xs)) e ∙ labelled-before s x (members_tree (drop (i + 1) ms)) ∙ ap (λ xs. entered (members_tree xs) (members_tree (drop (i + 1) ms)) (labelled s (members_tree (drop (i + 1) ms))) (entry s x)) (sym e)
+-- the place of a label, by the entry of the first member
+abbrev placed : ℕ → Option ℕ → Option ℕ → Option ℕ
+placed i rest None = rest
+placed i rest (Some zero) = Some i
+placed i rest (Some (suc n)) = Some (i + 1)
 
-  pub found_at : (n : ℕ) → n ≤ 1 → Some n ≡ entry s x → Some (members_tree (drop (i + n) ms)) ≡ labelled s (members_tree (drop i ms))
-  found_at zero le e = ap (λ k. Some (members_tree (drop k ms))) (add_none i) ∙ ap (entered (members_tree (drop i ms)) (members_tree (drop (i + 1) ms)) (labelled s (members_tree (drop (i + 1) ms)))) e ∙ sym one_step
+placed-one : (b : Bool) (i : ℕ) (rest : Option ℕ) → (if b then Some i else rest) ≡ placed i rest (at_if b 0 None)
+placed-one true i rest = refl
+placed-one false i rest = refl
+
+placed-two : (a b : Bool) (i : ℕ) (rest : Option ℕ) → (if a then Some i else (if b then Some (i + 1) else rest)) ≡ placed i rest (at_if a 0 (at_if b 1 None))
+placed-two true b i rest = refl
+placed-two false true i rest = refl
+placed-two false false i rest = refl
+
+placed-before : (s i : ℕ) (x : Member) (ms : Members) → own_place s i (member_before x ms) ≡ placed i (own_place s (i + 1) ms) (entry s x)
+placed-before s i (Plain x) ms = placed-one (has_label s (item_tree x)) i (own_place s (i + 1) ms)
+placed-before s i (Loop' head shape range) ms = placed-one (has_label s (item_tree head)) i (own_place s (i + 1) ms)
+placed-before s i (Block (Block' shape arms end)) ms = placed-two (heads s (row_arms arms)) (has_label s (item_tree end)) i (own_place s (i + 1) ms)
+
+-- ---- what a jump leads to is what is left at the place of the label
+
+-- the members are what is left of a list from a place on
+abbrev IsLeft : List Member → ℕ → List Member → Type 0
+IsLeft whole i ms = (k : ℕ) → drop (i + k) whole ≡ drop k ms
+
+left_on : (whole : List Member) (i : ℕ) (x : Member) (ms : List Member) → IsLeft whole i (x ∷ ms) → IsLeft whole (i + 1) ms
+left_on whole i x ms left k = ap (λ n. drop n whole) (one_on i k) ∙ left (suc k)
+  where
+    one_on : (i k : ℕ) → i + 1 + k ≡ i + suc k
+    one_on i k = omega arith
+
+module _ (s : ℕ) (whole : List Member) where
+  abbrev left_at : Option ℕ → Option Members
+  left_at o = option_map (λ i. members_tree (drop i whole)) o
+
+  entered_left : (i : ℕ) (x : Member) (ms : List Member) (rest : Option Members) (o : Option ℕ) → IsLeft whole i (x ∷ ms) → rest ≡ left_at o → (e : Option ℕ) → entered (members_tree (x ∷ ms)) (members_tree ms) rest e ≡ left_at (placed i o e)
+  entered_left i x ms rest o left same None = same
+  entered_left i x ms rest o left same (Some zero) =
+      ap (λ xs. Some (members_tree xs)) (sym (ap (λ n. drop n whole) (at_it i) ∙ left 0))
     where
-      add_none : (i : ℕ) → i + 0 ≡ i
-      add_none i = omega arith
-  found_at (suc n) le e = ap (λ k. Some (members_tree (drop (i + suc k) ms))) (none_of n le) ∙ ap (entered (members_tree (drop i ms)) (members_tree (drop (i + 1) ms)) (labelled s (members_tree (drop (i + 1) ms)))) e ∙ sym one_step
+      at_it : (i : ℕ) → i ≡ i + 0
+      at_it i = omega arith
+  entered_left i x ms rest o left same (Some (suc n)) = ap (λ xs. Some (members_tree xs)) (sym (left 1))
+
+  labelled_left : (ms : List Member) (i : ℕ) → IsLeft whole i ms → labelled s (members_tree ms) ≡ left_at (own_place s i (members_tree ms))
+  unfolding labelled
+  labelled_left [] i left = refl
+  labelled_left (x ∷ ms) i left =
+      labelled-before s x (members_tree ms) ∙ entered_left i x ms (labelled s (members_tree ms)) (own_place s (i + 1) (members_tree ms)) left (labelled_left ms (i + 1) (left_on whole i x ms left)) (entry s x) ∙ ap left_at (sym (placed-before s i x (members_tree ms)))
+
+none_on : (k : ℕ) → 0 + k ≡ k
+none_on k = omega arith
+
+labelled_is : (s : ℕ) (ms : List Member) → labelled s (members_tree ms) ≡ option_map (λ i. members_tree (drop i ms)) (own_place s 0 (members_tree ms))
+labelled_is s ms = labelled_left s ms ms 0 (λ k. ap (λ n. drop n ms) (none_on k))
+
+-- ---- a list has a label exactly if a member begins or ends with it
+
+placed_one : (i n : ℕ) (rest : Option ℕ) (e : Option ℕ) → true ≡ is_number e n → placed i rest e ≡ None → ⊥
+placed_one i n rest None is none = absurd cc
+placed_one i n rest (Some zero) is none = absurd cc
+placed_one i n rest (Some (suc k)) is none = absurd cc
+
+placed_rest : (i : ℕ) (rest : Option ℕ) (e : Option ℕ) → placed i rest e ≡ None → rest ≡ None
+placed_rest i rest None none = none
+placed_rest i rest (Some zero) none = absurd cc
+placed_rest i rest (Some (suc k)) none = absurd cc
+
+entered_somewhere : (s : ℕ) (ms : List Member) (i k n : ℕ) → true ≡ is_entered_at s ms i n → own_place s k (members_tree ms) ≡ None → ⊥
+entered_somewhere s [] i k n is none = absurd cc
+entered_somewhere s (x ∷ ms) zero k n is none =
+    placed_one k n (own_place s (k + 1) (members_tree ms)) (entry s x) is (sym (placed-before s k x (members_tree ms)) ∙ none)
+entered_somewhere s (x ∷ ms) (suc i) k n is none =
+    entered_somewhere s ms i (k + 1) n is (placed_rest k (own_place s (k + 1) (members_tree ms)) (entry s x) (sym (placed-before s k x (members_tree ms)) ∙ none))
+
+-- a transfer goes on one behind a member at most
+one-near : (b : Bool) (k : ℕ) → at_if b 0 None ≡ Some (suc k) → ⊥
+one-near true k is = absurd cc
+one-near false k is = absurd cc
+
+two-near : (a b : Bool) (k : ℕ) → at_if a 0 (at_if b 1 None) ≡ Some (suc k) → is_number (at_if a 0 (at_if b 1 None)) 1 ≡ true
+two-near true b k is = absurd cc
+two-near false true k is = refl
+two-near false false k is = absurd cc
+
+entry-near : (s : ℕ) (x : Member) (k : ℕ) → entry s x ≡ Some (suc k) → is_number (entry s x) 1 ≡ true
+entry-near s (Plain x) k is = absurd (one-near (has_label s (item_tree x)) k is)
+entry-near s (Loop' head shape range) k is = absurd (one-near (has_label s (item_tree head)) k is)
+entry-near s (Block (Block' shape arms end)) k is = two-near (heads s (row_arms arms)) (has_label s (item_tree end)) k is
+
+-- a transfer goes on at the member at a place, or behind the one before it
+data IsEntered (s : ℕ) (ms : List Member) (n : ℕ) : Type 0 where
+  at_it : is_entered_at s ms n 0 ≡ true → IsEntered s ms n
+  behind_it : (i : ℕ) → n ≡ i + 1 → is_entered_at s ms i 1 ≡ true → IsEntered s ms n
+
+next_entered : (s : ℕ) (x : Member) (ms : List Member) (n : ℕ) → IsEntered s ms n → IsEntered s (x ∷ ms) (suc n)
+next_entered s x ms n (at_it is) = at_it is
+next_entered s x ms n (behind_it i same is) = behind_it (suc i) (omega arith) is
+
+-- the same for what is left of a list from a place on
+record IsEnteredFrom (s : ℕ) (ms : List Member) (i n : ℕ) : Type 0 where
+  further : ℕ
+  is : n ≡ i + further
+  there : IsEntered s ms further
+
+where_entered : (s : ℕ) (ms : List Member) (i n : ℕ) → own_place s i (members_tree ms) ≡ Some n → IsEnteredFrom s ms i n
+where_entered s [] i n is = absurd cc
+where_entered s (x ∷ ms) i n is =
+    by (λ h. where_entered s ms (i + 1) n h) (entry s x) refl (sym (placed-before s i x (members_tree ms)) ∙ is)
+  where
+    later : IsEnteredFrom s ms (i + 1) n → IsEnteredFrom s (x ∷ ms) i n
+    later h =
+        let e = h.is in
+        record { further = suc h.further; is = omega arith; there = next_entered s x ms h.further h.there }
+
+    by : (own_place s (i + 1) (members_tree ms) ≡ Some n → IsEnteredFrom s ms (i + 1) n) → (e : Option ℕ) → entry s x ≡ e → placed i (own_place s (i + 1) (members_tree ms)) e ≡ Some n → IsEnteredFrom s (x ∷ ms) i n
+    by rest None at h = later (rest h)
+    by rest (Some zero) at h =
+        let e : i ≡ n = cc in
+        record { further = 0; is = omega arith; there = at_it (ap (λ o. is_number o 0) at) }
+    by rest (Some (suc k)) at h =
+        let e : i + 1 ≡ n = cc in
+        record { further = 1; is = omega arith; there = behind_it 0 refl (entry-near s x k at) }
+
+entered_at : (s : ℕ) (ms : List Member) (n : ℕ) → own_place s 0 (members_tree ms) ≡ Some n → IsEntered s ms n
+entered_at s ms n is =
+    let h = where_entered s ms 0 n is in
+    subst (IsEntered s ms) (sym (h.is ∙ none_on h.further)) h.there
+
+-- ---- in a program, whose labels lead to their places
+
+module _ (t : Tree) (s : ℕ) (ms : List Member) (kept : IsKept t (members_tree ms)) where
+  pub found_at : (p i n : ℕ) → Some p ≡ place_in t s → true ≡ is_entered_at s ms i n → Some (members_tree (drop p ms)) ≡ labelled s (members_tree ms)
+  found_at p i n place is = by (own_place s 0 (members_tree ms)) refl
     where
-      none_of : (n : ℕ) → suc n ≤ 1 → n ≡ 0
-      none_of n le = omega arith
+      by : (o : Option ℕ) → own_place s 0 (members_tree ms) ≡ o → Some (members_tree (drop p ms)) ≡ labelled s (members_tree ms)
+      by None at = absurd (entered_somewhere s ms i 0 n is at)
+      by (Some q) at =
+          let same : Some p ≡ Some q = place ∙ kept.own s q at in
+          ap (λ o. option_map (λ k. members_tree (drop k ms)) o) (same ∙ sym at) ∙ sym (labelled_is s ms)
 
-  pub not_at : None ≡ entry s x → labelled s (members_tree (drop i ms)) ≡ labelled s (members_tree (drop (i + 1) ms))
-  not_at e = one_step ∙ ap (entered (members_tree (drop i ms)) (members_tree (drop (i + 1) ms)) (labelled s (members_tree (drop (i + 1) ms)))) (sym e)
+  nowhere : ((p : ℕ) → place_in t s ≡ Some p → IsEntered s ms p → ⊥) → None ≡ labelled s (members_tree ms)
+  nowhere never = by (own_place s 0 (members_tree ms)) refl
+    where
+      by : (o : Option ℕ) → own_place s 0 (members_tree ms) ≡ o → None ≡ labelled s (members_tree ms)
+      by None at = ap (λ o. option_map (λ k. members_tree (drop k ms)) o) (sym at) ∙ sym (labelled_is s ms)
+      by (Some q) at = absurd (never q (kept.own s q at) (entered_at s ms q at))
 
-pub found_nowhere : (s : ℕ) (ms : List Member) (i : ℕ) → length ms ≤ i → labelled s (members_tree (drop i ms)) ≡ None
-unfolding labelled
-found_nowhere s ms i le = ap (λ xs. labelled s (members_tree xs)) (drop_all i ms le)
+  -- a label that leads nowhere in the program, or to a place where no member of the list has it
+  pub found_nowhere : None ≡ place_in t s → None ≡ labelled s (members_tree ms)
+  found_nowhere none = nowhere (λ p is there. absurd cc)
+
+  pub not_found : (p : ℕ) → Some p ≡ place_in t s → false ≡ is_entered_at s ms p 0 → ((i : ℕ) → p ≡ i + 1 → false ≡ is_entered_at s ms i 1) → None ≡ labelled s (members_tree ms)
+  not_found p place not_at not_behind =
+      nowhere (λ q is there. by q (let e : Some p ≡ Some q = place ∙ is in cc) there)
+    where
+      by : (q : ℕ) → p ≡ q → IsEntered s ms q → ⊥
+      by q same (at_it is) = absurd (false≢true (not_at ∙ ap (λ k. is_entered_at s ms k 0) same ∙ is))
+      by q same (behind_it i next is) = absurd (false≢true (not_behind i (same ∙ next) ∙ is))
+
+pub entered_within : (s : ℕ) (ms : List Member) (i n : ℕ) → true ≡ is_entered_at s ms i n → i < length ms
+entered_within s [] i n is = absurd cc
+entered_within s (x ∷ ms) zero n is = omega arith
+entered_within s (x ∷ ms) (suc i) n is = let lt = entered_within s ms i n is in omega arith
+
+-- ---- a member at a place
+
+pub entered_is : (s : ℕ) (ms : List Member) (i : ℕ) (x : Member) (n : ℕ) → i < length ms → x ≡ get_or ms i x → is_number (entry s x) n ≡ is_entered_at s ms i n
+entered_is s [] i x n lt is = absurd (omega arith)
+entered_is s (y ∷ ms) zero x n lt is = ap (λ z. is_number (entry s z) n) is
+entered_is s (y ∷ ms) (suc i) x n lt is = entered_is s ms i x n (omega arith) is
+
+pub none_entered : (s : ℕ) (ms : List Member) (i n : ℕ) → length ms ≤ i → false ≡ is_entered_at s ms i n
+none_entered s [] i n le = refl
+none_entered s (y ∷ ms) zero n le = absurd (omega arith)
+none_entered s (y ∷ ms) (suc i) n le = none_entered s ms i n (omega arith)
 
 -- ---- a block IF
 

@@ -9,5 +9,4 @@ pub mod Executed
 pub mod Picked
 pub mod Labelled
 pub mod Looped
-pub mod Silent
 pub mod Listed

@@ -12,7 +12,7 @@ use Rattle.checker.specs.Checked.{items_in}
 use Rattle.checker.specs.Numbered.{variables_of}
 use Rattle.checker.specs.Whereabouts.{IsPlace, where_in}
 use Rattle.values.specs.Programs.{scope_in}
-use Rattle.evaluator.specs.Quiet.{output_in, under}
+use Rattle.marks.specs.Quiet.{output_in, under}
 
 -- one of these names, with as many subscripts as it has dimensions
 pub record HasCells (arrays : Arrays) (names : List (List ℕ)) (n : List ℕ) (subscripts : ℕ) : Type 0 where

@@ -13,7 +13,7 @@ ghost use Rattle.checker.specs.Checked.{items_in, count_in};
 ghost use Rattle.evaluator.specs.Known.{IsKnown, IsKnownShape, IsTarget};
 ghost use Rattle.evaluator.specs.Over.{MovesOver, StaysAt, TestsAt};
 ghost use Rattle.evaluator.specs.Places.{next_of};
-ghost use Rattle.evaluator.specs.Quiet.{is_writing, writes};
+ghost use Rattle.marks.specs.Quiet.{is_writing, writes};
 ghost use Rattle.evaluator.specs.Statements.{Moves, Spends, TakesTurn};
 
 use crate::assignment::{assign, target_of};

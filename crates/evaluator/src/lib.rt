@@ -16,7 +16,7 @@ pub use limits::{Span, count_of, values_of_limits};
 pub use listing::list_values;
 pub use places::place_of;
 pub use quiet::{run_list, run_loop, run_trips};
-pub use shapes::{condition_of, do_of, is_quiet_list, logical_if_of, output_of, statement_of};
+pub use shapes::{condition_of, do_of, logical_if_of};
 pub use whole::{
     add_whole, item_whole, limits_whole, list_whole, loop_whole, set_whole, test_whole,
 };

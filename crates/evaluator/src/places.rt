@@ -4,8 +4,10 @@ ghost use Rattle.std.specs.Prelude.{◌≡◌, ◌≤◌, IfSome, drop, length, 
 ghost use Rattle.meaning.specs.Execution.{heads, labelled};
 ghost use Rattle.meaning.specs.LabelRules.{has_label as has};
 ghost use Rattle.meaning.specs.Trees.{arms_tree, item_tree, members_tree};
-ghost use Rattle.evaluator.specs.Places.{entry};
+ghost use Rattle.marks.specs.Kept.{IsKept};
+ghost use Rattle.evaluator.specs.Places.{entry, is_entered_at};
 
+use checker::Program;
 use meaning::syntax::{Arm, Item, Member};
 
 // Whether a statement has the label.
@@ -62,20 +64,41 @@ fn entry_of(member: &Member, label: u32) -> Option<usize>
     }
 }
 
-/// Where in a list a transfer to the label goes on, if the list has the label: at the first member that begins with it, or
-/// behind the block IF whose END IF statement has it.
-///
-/// This looks through the list. Where a program keeps the places of its labels, a look-up does, and the promise stays.
-pub fn place_of(members: &[Member], label: u32) -> Option<usize>
+// Whether a member stands at a place of a list, so far behind whose beginning a transfer to the label goes on.
+fn is_entered(members: &[Member], place: usize, label: u32, behind: usize) -> bool
+    ensures { result ≡ is_entered_at label members.now place behind }
+{
+    if place >= members.len() {
+        return false;
+    }
+    match entry_of(&members[place], label) {
+        Some(entry) => entry == behind,
+        None => false,
+    }
+}
+
+/// Where in a list of the program a transfer to the label goes on, if the list has the label: at the first member that begins
+/// with it, or behind the block IF whose END IF statement has it. The program keeps the place of each label in its list; a list
+/// has the label if the member at that place begins with it, or the block IF before that place ends with it.
+pub fn place_of(program: &Program, members: &[Member], label: u32) -> Option<usize>
+    requires kept { IsKept program.now (members_tree members.now) }
     ensures at { option_map (λ i. members_tree (drop i members.now)) result ≡
         labelled label (members_tree members.now) }
     ensures within { IfSome result (λ i. i ≤ length members.now) }
 {
-    for place in 0..members.len() {
-        match entry_of(&members[place], label) {
-            Some(behind) => return Some(place + behind),
-            None => {}
+    match program.place(label) {
+        Some(place) => {
+            if is_entered(members, place, label, 0) {
+                return Some(place);
+            }
+            if place == 0 {
+                return None;
+            }
+            if is_entered(members, place - 1, label, 1) {
+                return Some(place);
+            }
+            None
         }
+        None => None,
     }
-    None
 }

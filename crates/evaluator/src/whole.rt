@@ -15,7 +15,8 @@ ghost use Rattle.evaluator.specs.Known.{HasCellsIn, IsCounted, IsKnown, AreKnown
 ghost use Rattle.evaluator.specs.Limited.{SpanIs};
 ghost use Rattle.evaluator.specs.Listing.{ListIs};
 ghost use Rattle.evaluator.specs.Over.{MovesIn, TestsIn, loop_as};
-ghost use Rattle.evaluator.specs.Quiet.{WritesNothing, is_writing};
+ghost use Rattle.marks.specs.Kept.{IsKept};
+ghost use Rattle.marks.specs.Quiet.{WritesNothing, is_writing};
 ghost use Rattle.evaluator.specs.Statements.{Adds, Spends};
 
 use crate::assignment::{add_to, set_variable};
@@ -65,6 +66,7 @@ pub fn item_whole(program: &Program, item: &Item, cells: &mut Whole, turns: &mut
 pub fn loop_whole(program: &Program, repeated: &Loop, cells: &mut Whole, turns: &mut u64) -> Outcome
     requires named { AreKnown program.now
         (flat (members_tree (out-Loop repeated.now).range.items)) }
+    requires kept { IsKept program.now (members_tree (out-Loop repeated.now).range.items) }
     requires quiet { WritesNothing (members_tree (out-Loop repeated.now).range.items) }
     requires head { IsKnown program.now (item_tree (out-Loop repeated.now).head) }
     requires sized { length cells.old ≡ count_in program.now }

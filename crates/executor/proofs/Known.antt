@@ -34,7 +34,7 @@ use Rattle.checker.specs.Checked.{items_in}
 use Rattle.checker.specs.Starts.{map_of, start_in}
 use Rattle.checker.specs.Numbered.{is_variable, names_at, names_from, variables_of}
 use Rattle.evaluator.specs.Known.{AreCounted, AreKnown, HasCells, IsKnownBy, IsTarget}
-use Rattle.evaluator.specs.Quiet.{output_in, under}
+use Rattle.marks.specs.Quiet.{output_in, under}
 use Rattle.executor.specs.Labelled.{AreLabelled, IsLabel, IsLabelled}
 
 -- ---- tests

@@ -3,3 +3,4 @@ pub mod Walk
 pub mod Recorded
 pub mod Labelled
 pub mod Located
+pub mod Quiet

@@ -7,7 +7,8 @@ ghost use Rattle.meaning.specs.Trees.{flat, item_tree, members_tree};
 ghost use Rattle.checker.specs.Checked.{items_in, count_in};
 ghost use Rattle.evaluator.specs.Known.{IsKnown, AreKnown};
 ghost use Rattle.evaluator.specs.Over.{MovesIn, loop_as};
-ghost use Rattle.evaluator.specs.Quiet.{WritesNothing};
+ghost use Rattle.marks.specs.Kept.{IsKept};
+ghost use Rattle.marks.specs.Quiet.{WritesNothing};
 ghost use Rattle.evaluator.specs.Statements.{Spends};
 
 use array_store::Whole;
@@ -35,6 +36,7 @@ pub trait QuietLoops {
         requires ready { ready self.now }
         requires named { AreKnown program.now
             (flat (members_tree (out-Loop repeated.now).range.items)) }
+        requires kept { IsKept program.now (members_tree (out-Loop repeated.now).range.items) }
         requires quiet { WritesNothing (members_tree (out-Loop repeated.now).range.items) }
         requires head { IsKnown program.now (item_tree (out-Loop repeated.now).head) }
         requires sized { length cells.old ≡ count_in program.now }

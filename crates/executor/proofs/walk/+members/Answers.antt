@@ -15,13 +15,15 @@ use Rattle.meaning.specs.Trips.{trip_count}
 use Rattle.meaning.specs.Maps.{put}
 use Rattle.meaning.specs.Execution.{onward, exec, looped, arms_from}
 use Rattle.meaning.specs.Promise.{Told}
+use Rattle.marks.specs.Kept.{IsKept, AreArmsKept}
+use Rattle.marks.proofs.Keeping.{kept_at, kept_range, kept_quiet, kept_arms, kept_body}
 use Rattle.checker.specs.Checked.{items_in}
 use Rattle.checker.specs.Starts.{map_of}
 use Rattle.values.specs.Programs.{scope_in}
 use Rattle.evaluator.specs.Known.{IsKnown, AreKnown}
 use Rattle.evaluator.specs.Limited.{span_values}
 use Rattle.evaluator.specs.Member.{member_does}
-use Rattle.evaluator.specs.Quiet.{under}
+use Rattle.marks.specs.Quiet.{under}
 use Rattle.evaluator.specs.Statements.{Adds, Moves, Comes}
 use Rattle.evaluator.proofs.Composed.{comes_none, if_ok_so}
 use Rattle.evaluator.proofs.Executed.{fault_at, passes_over}
@@ -57,13 +59,14 @@ walk_arms-walk_list-requires g t c =
     let is = c.arm-item.is in
     let m = map_of p c.loop-arm.cells in
     let named = subst (λ xs. AreKnown p (flat (members_tree xs))) (sym c.deref.ensures.value) (body_known (IsKnown p) arms i a lt is c.requires.named) in
+    let kept = subst (λ xs. IsKept p (members_tree xs)) (sym c.deref.ensures.value) (kept_body p arms i a lt is c.requires.kept) in
     let size = at_most arm_size arms i a lt in
     let same = ap arm_size is in
     let inner = weight-Arm-body a.body in
     let outer = size_is-Arm a in
     let body = ap (λ xs. most the_size xs) c.deref.ensures.value in
     let given = c.decreases in
-    λ κs h. (omega arith, (search rules, (search rules, (c.requires.ready, ((named, ((c.in-Ok-true.ensures.len ∙ inv.sized, ap (λ (x : Told). x.refused) inv.same ∙ c.requires.unrefused))))))))
+    λ κs h. (omega arith, (search rules, (search rules, (c.requires.ready, ((named, (kept, (c.in-Ok-true.ensures.len ∙ inv.sized, ap (λ (x : Told). x.refused) inv.same ∙ c.requires.unrefused))))))))
 
 pub walk_arms-returns-in-Ok-true-clause-steps : goal.walk_arms-returns-in-Ok-true-clause-steps
 walk_arms-returns-in-Ok-true-clause-steps g t c =
@@ -258,10 +261,11 @@ walk_list-walk_member-requires g t c =
     let lt = c.loop-place-test.true in
     let is = c.index-members-place.is in
     let named = known_at (IsKnown p) ms i x lt is c.requires.named in
+    let kept = kept_at p ms i x lt is c.requires.kept in
     let size = at_most the_size ms i x lt in
     let same = ap the_size is in
     let given = c.decreases in
-    λ κs h. (omega arith, (search rules, (search rules, (c.requires.ready, ((named, ((inv.sized, inv.unrefused))))))))
+    λ κs h. (omega arith, (search rules, (search rules, (c.requires.ready, ((named, (kept, (inv.sized, inv.unrefused))))))))
 
 pub walk_list-returns-in_err-walk_member-clause-runs : goal.walk_list-returns-in_err-walk_member-clause-runs
 walk_list-returns-in_err-walk_member-clause-runs g t c =
@@ -551,8 +555,8 @@ pub walk_list-returns-clause-len : goal.walk_list-returns-clause-len
 walk_list-returns-clause-len g t c =
     c.loop-place.invariant.len
 
-pub walk_loop-returns-then-is_quiet_list-clause-steps : goal.walk_loop-returns-then-is_quiet_list-clause-steps
-walk_loop-returns-then-is_quiet_list-clause-steps g t c =
+pub walk_loop-returns-then-not-is_loud-clause-steps : goal.walk_loop-returns-then-not-is_loud-clause-steps
+walk_loop-returns-then-not-is_loud-clause-steps g t c =
     let p = c.args.program.now in
     let program = items_in p in
     let told = g.S.Sink.told in
@@ -569,7 +573,7 @@ walk_loop-walk_do-requires g t c =
     let d = c.in-Some.ensures in
     let held = c.requires.head.counted d.label d.comma _ _ (ap under d.is) in
     let given = c.decreases in
-    λ κs h. (omega arith, (search rules, (search rules, (c.requires.ready, (c.requires.named, (held, (c.requires.sized, c.requires.unrefused)))))))
+    λ κs h. (omega arith, (search rules, (search rules, (c.requires.ready, (c.requires.named, (c.requires.kept, (held, (c.requires.sized, c.requires.unrefused))))))))
 
 pub walk_loop-returns-in-Some-clause-steps : goal.walk_loop-returns-in-Some-clause-steps
 walk_loop-returns-in-Some-clause-steps g t c =
@@ -598,22 +602,25 @@ walk_member-walk_loop-requires g t c =
     let p = c.args.program.now in
     let head = head_known (IsKnown p) c.args.member.now c.in-Loop.repeated c.in-Loop.is c.requires.named in
     let range = range_known (IsKnown p) c.args.member.now c.in-Loop.repeated c.in-Loop.is c.requires.named in
+    let kept = kept_range p c.args.member.now c.in-Loop.repeated c.in-Loop.is c.requires.kept in
+    let quiet = kept_quiet p c.args.member.now c.in-Loop.repeated c.in-Loop.is c.requires.kept in
     let given = c.decreases in
     let same = ap the_size c.in-Loop.is in
     let size = sized-Loop c.in-Loop.repeated in
-    λ κs h. (omega arith, (search rules, (search rules, (c.requires.ready, ((range, ((head, (c.requires.sized, c.requires.unrefused)))))))))
+    λ κs h. (omega arith, (search rules, (search rules, (c.requires.ready, ((range, (kept, (quiet, (head, (c.requires.sized, c.requires.unrefused))))))))))
 
 pub walk_member-walk_arms-requires : goal.walk_member-walk_arms-requires
 walk_member-walk_arms-requires g t c =
     let p = c.args.program.now in
     let named = subst (λ xs. AreKnown p (flat_arms (arms_tree xs))) (sym c.deref.ensures.value) (arms_known (IsKnown p) c.args.member.now c.in-Block.block c.in-Block.is c.requires.named) in
+    let kept = subst (λ xs. AreArmsKept p (arms_tree xs)) (sym c.deref.ensures.value) (kept_arms p c.args.member.now c.in-Block.block c.in-Block.is c.requires.kept) in
     let given = c.decreases in
     let same = ap the_size c.in-Block.is in
     let size = sized-Block c.in-Block.block in
     let inner = weight-Block-arms (out-Block c.in-Block.block).arms in
     let outer = size_is-Block c.in-Block.block in
     let arms = ap (λ xs. most arm_size xs) c.deref.ensures.value in
-    λ κs h. (omega arith, (search rules, (search rules, (c.requires.ready, ((named, ((c.requires.sized, c.requires.unrefused))))))))
+    λ κs h. (omega arith, (search rules, (search rules, (c.requires.ready, ((named, (kept, (c.requires.sized, c.requires.unrefused))))))))
 
 pub walk_member-returns-in-Plain-clause-steps : goal.walk_member-returns-in-Plain-clause-steps
 walk_member-returns-in-Plain-clause-steps g t c =

@@ -4,6 +4,7 @@ use Rattle.meaning.specs.Answers.{run_of}
 use Rattle.meaning.specs.Execution.{Ran, exec}
 use Rattle.checker.specs.Checked.{tree_of, items_in}
 use Rattle.checker.specs.Starts.{map_of}
+use Rattle.marks.specs.Kept.{IsKept}
 use Rattle.evaluator.specs.Known.{AreKnown}
 use Rattle.executor.specs.Walk.{Ends}
 use Rattle.executor.proofs.Composed.{ends_as}
@@ -15,6 +16,12 @@ walk_list-requires-clause-named g c =
     let t = c.args.program.now in
     let is = c.deref.ensures.value ∙ ap (λ u. u.body.items) c.tree-tree.ensures.tree in
     subst (λ ms. AreKnown t (flat (members_tree ms))) (sym is) (all_known t c.tree-tree.ensures.allowed c.requires.labelled)
+
+pub walk_list-requires-clause-kept : goal.walk_list-requires-clause-kept
+walk_list-requires-clause-kept g c =
+    let t = c.args.program.now in
+    let is = c.deref.ensures.value ∙ ap (λ u. u.body.items) c.tree-tree.ensures.tree in
+    subst (λ ms. IsKept t (members_tree ms)) (sym is) c.tree-tree.ensures.kept
 
 pub returns : goal.returns
 unfolding run_of
