@@ -22,7 +22,7 @@ Options, with their ranges and what stands for those that are not given:
 Until the parallel runner stands all loops run in order, whatever --workers, --block and --window say.
 
 Exit statuses, with the line on standard error:
-  0  END was reached, or STOP
+  0  END was reached, or a text was asked for: none; a STOP statement was executed: STOP, STOP 7 or STOP TEXT
   1  a fault: FAULT F2 LINE 7
   2  a refused source, of which nothing is run: REFUSED K3 LINE 1
   3  a faulty command line: what is wrong with it

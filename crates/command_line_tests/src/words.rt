@@ -11,39 +11,98 @@ const TAKEN: &[(&[&str], (u64, u64, u64, u64), Option<&str>)] = &[
     (&[], (4, 64, 8, 1_000_000_000), None),
     (&["f77run", "a.f"], (4, 64, 8, 1_000_000_000), Some("a.f")),
     // each option alone, at its least and its greatest number
-    (&["f77run", "--workers", "1"], (1, 64, 8, 1_000_000_000), None),
-    (&["f77run", "--workers", "64"], (64, 64, 8, 1_000_000_000), None),
+    (
+        &["f77run", "--workers", "1"],
+        (1, 64, 8, 1_000_000_000),
+        None,
+    ),
+    (
+        &["f77run", "--workers", "64"],
+        (64, 64, 8, 1_000_000_000),
+        None,
+    ),
     (&["f77run", "--block", "1"], (4, 1, 8, 1_000_000_000), None),
-    (&["f77run", "--block", "1000000"], (4, 1_000_000, 8, 1_000_000_000), None),
-    (&["f77run", "--window", "1"], (4, 64, 1, 1_000_000_000), None),
-    (&["f77run", "--window", "256"], (4, 64, 256, 1_000_000_000), None),
+    (
+        &["f77run", "--block", "1000000"],
+        (4, 1_000_000, 8, 1_000_000_000),
+        None,
+    ),
+    (
+        &["f77run", "--window", "1"],
+        (4, 64, 1, 1_000_000_000),
+        None,
+    ),
+    (
+        &["f77run", "--window", "256"],
+        (4, 64, 256, 1_000_000_000),
+        None,
+    ),
     (&["f77run", "--turns", "1"], (4, 64, 8, 1), None),
-    (&["f77run", "--turns", "1000000000000"], (4, 64, 8, 1_000_000_000_000), None),
+    (
+        &["f77run", "--turns", "1000000000000"],
+        (4, 64, 8, 1_000_000_000_000),
+        None,
+    ),
     // spellings of a number
     (&["f77run", "--turns=5"], (4, 64, 8, 5), None),
     (&["f77run", "--turns", "+5"], (4, 64, 8, 5), None),
     (&["f77run", "--turns=0005"], (4, 64, 8, 5), None),
     // in any order
     (
-        &["f77run", "--turns=5", "a.f", "--window", "3", "--block=2", "--workers", "7"],
+        &[
+            "f77run",
+            "--turns=5",
+            "a.f",
+            "--window",
+            "3",
+            "--block=2",
+            "--workers",
+            "7",
+        ],
         (7, 2, 3, 5),
         Some("a.f"),
     ),
     // names of files
     (&["f77run", "-"], (4, 64, 8, 1_000_000_000), Some("-")),
     (&["f77run", ""], (4, 64, 8, 1_000_000_000), Some("")),
-    (&["f77run", "--", "-x.f"], (4, 64, 8, 1_000_000_000), Some("-x.f")),
-    (&["f77run", "--", "--turns"], (4, 64, 8, 1_000_000_000), Some("--turns")),
-    (&["f77run", "--", "--"], (4, 64, 8, 1_000_000_000), Some("--")),
-    (&["f77run", "--turns", "5", "--", "a.f"], (4, 64, 8, 5), Some("a.f")),
-    (&["f77run", "a.f", "--"], (4, 64, 8, 1_000_000_000), Some("a.f")),
+    (
+        &["f77run", "--", "-x.f"],
+        (4, 64, 8, 1_000_000_000),
+        Some("-x.f"),
+    ),
+    (
+        &["f77run", "--", "--turns"],
+        (4, 64, 8, 1_000_000_000),
+        Some("--turns"),
+    ),
+    (
+        &["f77run", "--", "--"],
+        (4, 64, 8, 1_000_000_000),
+        Some("--"),
+    ),
+    (
+        &["f77run", "--turns", "5", "--", "a.f"],
+        (4, 64, 8, 5),
+        Some("a.f"),
+    ),
+    (
+        &["f77run", "a.f", "--"],
+        (4, 64, 8, 1_000_000_000),
+        Some("a.f"),
+    ),
 ];
 
 // Words that name no run, and why.
 const REFUSED: &[(&[&str], OptionsFault)] = &[
     (&["f77run", "--turns", "0"], OptionsFault::BadNumber),
-    (&["f77run", "--turns", "1000000000001"], OptionsFault::BadNumber),
-    (&["f77run", "--turns", "18446744073709551616"], OptionsFault::BadNumber),
+    (
+        &["f77run", "--turns", "1000000000001"],
+        OptionsFault::BadNumber,
+    ),
+    (
+        &["f77run", "--turns", "18446744073709551616"],
+        OptionsFault::BadNumber,
+    ),
     (&["f77run", "--turns", ""], OptionsFault::BadNumber),
     (&["f77run", "--turns="], OptionsFault::BadNumber),
     (&["f77run", "--turns", "+"], OptionsFault::BadNumber),
@@ -61,11 +120,23 @@ const REFUSED: &[(&[&str], OptionsFault)] = &[
     // a word with a minus sign in front is no number of the option before it
     (&["f77run", "--turns", "-5"], OptionsFault::NoSuchOption),
     (&["f77run", "--turns"], OptionsFault::NoNumber),
-    (&["f77run", "--turns", "--block", "5"], OptionsFault::NoNumber),
+    (
+        &["f77run", "--turns", "--block", "5"],
+        OptionsFault::NoNumber,
+    ),
     (&["f77run", "--turns", "--", "5"], OptionsFault::NoNumber),
-    (&["f77run", "--turns", "5", "--turns", "5"], OptionsFault::GivenTwice),
-    (&["f77run", "--turns=5", "--turns=6"], OptionsFault::GivenTwice),
-    (&["f77run", "--turns", "5", "--turns"], OptionsFault::NoNumber),
+    (
+        &["f77run", "--turns", "5", "--turns", "5"],
+        OptionsFault::GivenTwice,
+    ),
+    (
+        &["f77run", "--turns=5", "--turns=6"],
+        OptionsFault::GivenTwice,
+    ),
+    (
+        &["f77run", "--turns", "5", "--turns"],
+        OptionsFault::NoNumber,
+    ),
     (&["f77run", "a.f", "b.f"], OptionsFault::TooManyFiles),
     (&["f77run", "a.f", "--", "b.f"], OptionsFault::TooManyFiles),
     (&["f77run", "-x"], OptionsFault::NoSuchOption),
@@ -80,11 +151,20 @@ const REFUSED: &[(&[&str], OptionsFault)] = &[
     (&["f77run", "--help=yes"], OptionsFault::NeedlessValue),
     (&["f77run", "--version=1"], OptionsFault::NeedlessValue),
     // which of two is told: a number that is a word of its own is looked at behind the word that follows it
-    (&["f77run", "--turns", "0", "--help"], OptionsFault::BadNumber),
+    (
+        &["f77run", "--turns", "0", "--help"],
+        OptionsFault::BadNumber,
+    ),
     (&["f77run", "--help", "--turns", "0"], OptionsFault::Help),
-    (&["f77run", "--turns", "0", "--bogus"], OptionsFault::NoSuchOption),
+    (
+        &["f77run", "--turns", "0", "--bogus"],
+        OptionsFault::NoSuchOption,
+    ),
     (&["f77run", "--turns=0", "--bogus"], OptionsFault::BadNumber),
-    (&["f77run", "a.f", "b.f", "--turns=0"], OptionsFault::BadNumber),
+    (
+        &["f77run", "a.f", "b.f", "--turns=0"],
+        OptionsFault::BadNumber,
+    ),
 ];
 
 #[test]
@@ -114,14 +194,72 @@ fn refused(rt: HostRuntime) {
 #[test]
 fn help_has_each_rule_and_fault(rt: HostRuntime) {
     let wanted: &[&str] = &[
-        "\n  C1  ", "\n  C2  ", "\n  C3  ", "\n  C4  ", "\n  C5  ", "\n  C6  ", "\n  C7  ", "\n  G1  ",
-        "\n  G2  ", "\n  G3  ", "\n  N1  ", "\n  N2  ", "\n  N3  ", "\n  N4  ", "\n  N5  ", "\n  K1  ",
-        "\n  K2  ", "\n  K3  ", "\n  K4  ", "\n  K5  ", "\n  K6  ", "\n  K7  ", "\n  K8  ", "\n  K9  ",
-        "\n  K10  ", "\n  K11  ", "\n  K12  ", "\n  K13  ", "\n  F1  ", "\n  F2  ", "\n  F3  ", "\n  F4  ",
-        "\n  F5  ", "\n  F6  ", "\n  F7  ", "\n  F8  ", "  --workers N ", "  --block N ", "  --window N ",
-        "  --turns N ", "in order",
+        "\n  C1  ",
+        "\n  C2  ",
+        "\n  C3  ",
+        "\n  C4  ",
+        "\n  C5  ",
+        "\n  C6  ",
+        "\n  C7  ",
+        "\n  G1  ",
+        "\n  G2  ",
+        "\n  G3  ",
+        "\n  N1  ",
+        "\n  N2  ",
+        "\n  N3  ",
+        "\n  N4  ",
+        "\n  N5  ",
+        "\n  K1  ",
+        "\n  K2  ",
+        "\n  K3  ",
+        "\n  K4  ",
+        "\n  K5  ",
+        "\n  K6  ",
+        "\n  K7  ",
+        "\n  K8  ",
+        "\n  K9  ",
+        "\n  K10  ",
+        "\n  K11  ",
+        "\n  K12  ",
+        "\n  K13  ",
+        "\n  F1  ",
+        "\n  F2  ",
+        "\n  F3  ",
+        "\n  F4  ",
+        "\n  F5  ",
+        "\n  F6  ",
+        "\n  F7  ",
+        "\n  F8  ",
     ];
     for &line in wanted {
         assert!(rt; HELP.contains(line), "{line}");
     }
+}
+
+#[test]
+fn help_has_each_option_and_status(rt: HostRuntime) {
+    // an option's range, and what stands for it where it isn't given
+    let wanted: &[&str] = &[
+        "  --workers N    1 to 64, 4: ",
+        "  --block N      1 to 1000000, 64: ",
+        "  --window N     1 to 256, 8: ",
+        "  --turns N      1 to 1000000000000, 1000000000: ",
+        "  -h, --help     ",
+        "  -V, --version  ",
+        "all loops run in order, whatever --workers, --block and --window say",
+        "\n  0  ",
+        "STOP",
+        "\n  1  a fault: FAULT F2 LINE 7\n",
+        "\n  2  a refused source, of which nothing is run: REFUSED K3 LINE 1\n",
+        "\n  3  ",
+        "\n  4  want of memory: NO MEMORY\n",
+        "\n  5  ",
+        "FILE REFUSED",
+        "WRITE REFUSED",
+    ];
+    for &line in wanted {
+        assert!(rt; HELP.contains(line), "{line}");
+    }
+    // no statement is read and not run
+    assert!(rt; !HELP.contains("K0"));
 }

@@ -2,13 +2,13 @@
 
 ghost use Rattle.std.specs.Prelude.{◌≡◌, ◌⊎◌, IfOk, IfSome};
 ghost use Rattle.driver.specs.Source.{AnswersAs};
-ghost use Rattle.driver.specs.Status.{IsStatusOf, status_of, stop_for};
+ghost use Rattle.driver.specs.Status.{IsStatusOf, status_of, no_run_for};
 
 use command_line::asked::OptionsFault;
 use command_line::help::{HELP, VERSION};
 use command_line::options::options;
 use executor::Out;
-use executor::run::run;
+use executor::run::run_in_order;
 use meaning::ending::Ending;
 use meaning::plan::Plan;
 use std::alloc::{AllocError, AllocFailed, Global};
@@ -31,7 +31,7 @@ struct Job {
 
 /// Why no source is run.
 #[derive(Clone, Copy, Debug, PartialEq, Eq)]
-enum Stop {
+enum NoRun {
     /// The help is asked for instead.
     Help,
     /// The version is asked for instead.
@@ -44,35 +44,36 @@ enum Stop {
     FileRefused,
 }
 
-impl From<AllocError> for Stop {
-    fn from(_error: AllocError) -> Stop {
-        Stop::Memory
+impl From<AllocError> for NoRun {
+    fn from(_error: AllocError) -> NoRun {
+        NoRun::Memory
     }
 }
 
-impl<T: Drop> From<AllocFailed<T>> for Stop {
-    fn from(_error: AllocFailed<T>) -> Stop {
-        Stop::Memory
+impl<T: Drop> From<AllocFailed<T>> for NoRun {
+    fn from(_error: AllocFailed<T>) -> NoRun {
+        NoRun::Memory
     }
 }
 
-impl From<OptionsFault> for Stop {
-    ghost from_gives = { λ fault stop. stop ≡ stop_for fault };
+impl From<OptionsFault> for NoRun {
+    ghost from_gives = { λ fault no_run. no_run ≡ no_run_for fault };
 
-    fn from(fault: OptionsFault) -> Stop {
+    fn from(fault: OptionsFault) -> NoRun {
         match fault {
-            OptionsFault::Help => Stop::Help,
-            OptionsFault::Version => Stop::Version,
-            OptionsFault::Memory => Stop::Memory,
-            _ => Stop::Faulty(fault),
+            OptionsFault::Help => NoRun::Help,
+            OptionsFault::Version => NoRun::Version,
+            OptionsFault::Memory => NoRun::Memory,
+            _ => NoRun::Faulty(fault),
         }
     }
 }
 
 /// Runs the program of a command line over a reader for standard input and writers for standard output and standard
-/// error, and answers its exit status: 0 where END was reached or a text was asked for, 1 for a fault, 2 for a refused
-/// source, 3 for a fault of the command line, 4 for want of memory, 5 where the source can't be read or a write is
-/// refused. What the command line asks for comes first, then the source, its run, and the flush of its output.
+/// error, and answers its exit status: 0 where END was reached, a STOP statement was executed or a text was asked for,
+/// 1 for a fault, 2 for a refused source, 3 for a fault of the command line, 4 for want of memory, 5 where the source
+/// can't be read or a write is refused. What the command line asks for comes first, then the source, its run, and the
+/// flush of its output.
 pub fn engine<R: Files + AllocGlobal, V: Env, I: Read, O: Write + Drop, E: Write>(
     rt: &R,
     words: &V,
@@ -82,7 +83,7 @@ pub fn engine<R: Files + AllocGlobal, V: Env, I: Read, O: Write + Drop, E: Write
 ) -> u8 {
     match job_asked(rt, words, input) {
         Ok(job) => report(run_whole(rt.alloc(), &job, out), err),
-        Err(stop) => report_stop(stop, out, err),
+        Err(no_run) => report_no_run(no_run, out, err),
     }
 }
 
@@ -91,7 +92,7 @@ fn job_asked<R: Files + AllocGlobal, V: Env, I: Read>(
     rt: &R,
     words: &V,
     input: &mut I,
-) -> Result<Job, Stop> {
+) -> Result<Job, NoRun> {
     let words = words_of(words, rt.alloc())?;
     let job = job_named(rt, &words, input);
     drop(words);
@@ -103,7 +104,7 @@ fn job_named<R: Files + AllocGlobal, I: Read>(
     rt: &R,
     words: &[String],
     input: &mut I,
-) -> Result<Job, Stop> {
+) -> Result<Job, NoRun> {
     let texts = texts_of(rt.alloc(), words)?;
     let job = job_of(rt, &texts, input);
     drop(texts);
@@ -115,7 +116,7 @@ fn job_of<'a, R: Files + AllocGlobal, I: Read>(
     rt: &R,
     texts: &'a [&'a str],
     input: &mut I,
-) -> Result<Job, Stop> {
+) -> Result<Job, NoRun> {
     match options(rt.alloc(), texts) {
         Ok(asked) => match source_of(rt, asked.file, input) {
             Ok(source) => Ok(Job {
@@ -124,7 +125,7 @@ fn job_of<'a, R: Files + AllocGlobal, I: Read>(
             }),
             Err(error) => Err(unread(&error)),
         },
-        Err(fault) => Err(Stop::from(fault)),
+        Err(fault) => Err(NoRun::from(fault)),
     }
 }
 
@@ -138,13 +139,13 @@ fn texts_of(alloc: Global, words: &[String]) -> Result<Vec<&str>, AllocError> {
 }
 
 // The words of a command line.
-fn words_of<V: Env>(words: &V, alloc: Global) -> Result<Vec<String>, Stop> {
+fn words_of<V: Env>(words: &V, alloc: Global) -> Result<Vec<String>, NoRun> {
     let found = match env::args(&(words, alloc)) {
         Ok(found) => found,
         Err(error) => {
             return Err(match error.kind() {
-                ErrorKind::InvalidData => Stop::Faulty(OptionsFault::NotUtf8),
-                _ => Stop::Memory,
+                ErrorKind::InvalidData => NoRun::Faulty(OptionsFault::NotUtf8),
+                _ => NoRun::Memory,
             });
         }
     };
@@ -156,10 +157,10 @@ fn words_of<V: Env>(words: &V, alloc: Global) -> Result<Vec<String>, Stop> {
 }
 
 // Why a source couldn't be read.
-fn unread(error: &io::Error) -> Stop {
+fn unread(error: &io::Error) -> NoRun {
     match error.kind() {
-        ErrorKind::OutOfMemory => Stop::Memory,
-        _ => Stop::FileRefused,
+        ErrorKind::OutOfMemory => NoRun::Memory,
+        _ => NoRun::FileRefused,
     }
 }
 
@@ -187,7 +188,7 @@ fn front_of<I: Read + Drop>(alloc: Global, reader: I) -> io::Result<Vec<u8>>
 // Runs a source over a writer and flushes it; a flush that fails takes the place of the ending.
 fn run_whole<O: Write + Drop>(alloc: Global, job: &Job, out: O) -> Ending {
     let mut sink = Out::new(out);
-    let ending = run(alloc, &job.source, job.plan.turns(), &mut sink);
+    let ending = run_in_order(alloc, &job.source, &job.plan, &mut sink);
     match sink.into_inner().flush() {
         Ok(()) => ending,
         Err(_) => Ending::WriteRefused,
@@ -201,6 +202,10 @@ fn report<E: Write>(ending: Ending, err: &mut E) -> u8
 {
     match ending {
         Ending::Ended => 0,
+        Ending::Stopped(message) => {
+            let _ = write_stop(message.text(), err);
+            0
+        }
         Ending::Fault(fault) => {
             let _ = writeln!(err, "FAULT {} LINE {}", fault.kind, fault.line);
             1
@@ -220,19 +225,29 @@ fn report<E: Write>(ending: Ending, err: &mut E) -> u8
     }
 }
 
+// Writes the line of a STOP statement: STOP, and what it tells if that isn't empty.
+fn write_stop<E: Write>(message: &[u8], err: &mut E) -> io::Result<()> {
+    err.write_all(b"STOP")?;
+    if !message.is_empty() {
+        err.write_all(b" ")?;
+        err.write_all(message)?;
+    }
+    err.write_all(b"\n")
+}
+
 // Writes why no source is run, or the text that is asked for, and answers the exit status.
-fn report_stop<O: Write + Drop, E: Write>(stop: Stop, out: O, err: &mut E) -> u8
-    ensures { IsStatusOf stop result }
+fn report_no_run<O: Write + Drop, E: Write>(no_run: NoRun, out: O, err: &mut E) -> u8
+    ensures { IsStatusOf no_run result }
 {
-    match stop {
-        Stop::Help => report(show(HELP, out), err),
-        Stop::Version => report(show(VERSION, out), err),
-        Stop::Faulty(fault) => {
+    match no_run {
+        NoRun::Help => report(show(HELP, out), err),
+        NoRun::Version => report(show(VERSION, out), err),
+        NoRun::Faulty(fault) => {
             let _ = writeln!(err, "{fault}");
             3
         }
-        Stop::Memory => report(Ending::Memory, err),
-        Stop::FileRefused => {
+        NoRun::Memory => report(Ending::Memory, err),
+        NoRun::FileRefused => {
             let _ = writeln!(err, "FILE REFUSED");
             5
         }

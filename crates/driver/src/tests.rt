@@ -132,13 +132,15 @@ const REFUSALS: &[(&str, &str)] = &[
     ("      I=1\n", "REFUSED N2 LINE 1\n"),
     ("      I=1\n      ELSE\n      END\n", "REFUSED N3 LINE 2\n"),
     ("      DO 10 I=1,2\n      END\n", "REFUSED N4 LINE 2\n"),
-    (
-        "      I=1\n      GO TO 10\n   10 CONTINUE\n      END\n",
-        "REFUSED K0 LINE 2\n",
-    ),
     ("   10 I=1\n   10 J=1\n      END\n", "REFUSED K1 LINE 2\n"),
+    // a transfer into a range
+    (
+        "      GO TO 10\n      DO 10 I=1,3\n   10 J=J+1\n      END\n",
+        "REFUSED K2 LINE 1\n",
+    ),
     ("      X=1\n      END\n", "REFUSED K3 LINE 1\n"),
     ("      INTEGER A,A\n      END\n", "REFUSED K4 LINE 1\n"),
+    ("      I=1.EQ.1\n      END\n", "REFUSED K5 LINE 1\n"),
     ("      I=2147483648\n      END\n", "REFUSED K6 LINE 1\n"),
     ("      INTEGER A(3:2)\n      END\n", "REFUSED K7 LINE 1\n"),
     (
@@ -148,6 +150,10 @@ const REFUSALS: &[(&str, &str)] = &[
     (
         "      DO 10 I=1,2\n   10 I=3\n      END\n",
         "REFUSED K9 LINE 2\n",
+    ),
+    (
+        "      DATA I/1/\n      DATA I/2/\n      END\n",
+        "REFUSED K10 LINE 2\n",
     ),
     (
         "      WRITE (5,10)\n   10 FORMAT ()\n      END\n",
@@ -232,6 +238,67 @@ fn runs_to_its_end(rt: HostRuntime) {
     assert!(rt; run.out.as_slice() == b"    42\n".as_slice());
 }
 
+// A source that a STOP statement ends before it writes anything, and the line of the program.
+const STOPS: &[(&str, &str)] = &[
+    ("      STOP\n      END\n", "STOP\n"),
+    // digits as they are written, without blanks
+    ("      STOP 7\n      END\n", "STOP 7\n"),
+    ("      STOP 0 0 0 7 7\n      END\n", "STOP 00077\n"),
+    ("      s t o p 99999\n      END\n", "STOP 99999\n"),
+    // a character constant, in which blanks and case have a meaning and two apostrophes are one
+    ("      STOP 'It''s done'\n      END\n", "STOP It's done\n"),
+    ("      STOP ''''\n      END\n", "STOP '\n"),
+    ("      STOP ' a  B '\n      END\n", "STOP  a  B \n"),
+    ("      STOP ' '\n      END\n", "STOP  \n"),
+    // one that is empty
+    ("      STOP ''\n      END\n", "STOP\n"),
+    // under a logical IF, and in an arm
+    (
+        "      IF (I.EQ.0) STOP 5\n      STOP 6\n      END\n",
+        "STOP 5\n",
+    ),
+    (
+        "      IF (I.EQ.1) THEN\n      STOP 1\n      ELSE\n      STOP 'TWO'\n      END IF\n      STOP 3\n      END\n",
+        "STOP TWO\n",
+    ),
+    // in a range, at its second trip
+    (
+        "      DO 10 I=1,3\n      IF (I.EQ.2) STOP 'SECOND'\n   10 CONTINUE\n      END\n",
+        "STOP SECOND\n",
+    ),
+];
+
+#[test]
+fn stops(rt: HostRuntime) {
+    for &(source, line) in STOPS {
+        let mut input = source.as_bytes();
+        expect_line(&rt, &mut input, 0, line);
+    }
+}
+
+// A value past the labels of a computed GO TO, a record, an arithmetic IF that goes past a STOP statement, and another.
+const NEXT_AND_STOP: &str =
+    "      GO TO (30,40),3\n      WRITE (6,10)\n   10 FORMAT ('NEXT')\n   30 IF (0) 40,50,40\n   40 STOP 'WRONG'\n   50 STOP 7\n      END\n";
+
+#[test]
+fn a_record_and_then_a_stop(rt: HostRuntime) {
+    let run = run_of(&rt, &[b"f77run"], &mut NEXT_AND_STOP.as_bytes());
+    assert!(rt; run.status == 0);
+    assert!(rt; run.err.as_slice() == b"STOP 7\n".as_slice());
+    assert!(rt; run.out.as_slice() == b"NEXT\n".as_slice());
+    // a line that can't be written, in part or at all, changes no status and no record
+    for &room in [0usize, 4, 6].as_slice() {
+        let words = Words {
+            words: &[b"f77run"],
+        };
+        let mut input = NEXT_AND_STOP.as_bytes();
+        let mut out = Vec::new(rt.alloc());
+        let status = engine(&rt, &words, &mut input, &mut out, &mut Narrow { room });
+        assert!(rt; status == 0);
+        assert!(rt; out.as_slice() == b"NEXT\n".as_slice());
+    }
+}
+
 #[test]
 fn longest_sources(rt: HostRuntime) {
     // a comment line up to 1,048,576 bytes, and one byte more
@@ -275,14 +342,8 @@ const FAULTY: &[(&[&[u8]], &str)] = &[
         "a number is wanted, from 1 to 64 for --workers, 1000000 for --block, 256 for --window, 1000000000000 for --turns\n",
     ),
     // a byte that stands in no UTF-8
-    (
-        &[b"f77run", b"a\xff.f"],
-        "an argument is not UTF-8\n",
-    ),
-    (
-        &[b"f77run", b"a.f", b"\xff"],
-        "an argument is not UTF-8\n",
-    ),
+    (&[b"f77run", b"a\xff.f"], "an argument is not UTF-8\n"),
+    (&[b"f77run", b"a.f", b"\xff"], "an argument is not UTF-8\n"),
 ];
 
 #[test]
@@ -314,28 +375,86 @@ fn requests(rt: HostRuntime) {
         let words = Words {
             words: &[b"f77run", word],
         };
-        let status = engine(
-            &rt,
-            &words,
-            &mut io::empty(),
-            Narrow { room: 3 },
-            &mut err,
-        );
+        let status = engine(&rt, &words, &mut io::empty(), Narrow { room: 3 }, &mut err);
         assert!(rt; status == 5);
         assert!(rt; err.as_slice() == b"WRITE REFUSED\n".as_slice());
     }
 }
 
+// The words behind the program's name, a source, its exit status, its line and its records.
+const PLANNED: &[(&[&[u8]], &str, u8, &str, &str)] = &[
+    // the DO statement and three assignments take four turns
+    (&[b"f77run", b"--turns=4"], THREE_TRIPS, 0, "", ""),
+    (
+        &[b"f77run", b"--turns=3"],
+        THREE_TRIPS,
+        1,
+        "FAULT F4 LINE 2\n",
+        "",
+    ),
+    (
+        &[b"f77run", b"--turns", b"1"],
+        THREE_TRIPS,
+        1,
+        "FAULT F4 LINE 2\n",
+        "",
+    ),
+    // each of its statements takes a turn, and each condition of a block IF that is tested
+    (&[b"f77run", b"--turns", b"24"], ARMS, 0, "", "    4  112\n"),
+    (
+        &[b"f77run", b"--turns", b"23"],
+        ARMS,
+        1,
+        "FAULT F4 LINE 11\n",
+        "",
+    ),
+    // the DO statement and 49 of 100 assignments, whatever the blocks are
+    (
+        &[
+            b"f77run",
+            b"--turns",
+            b"50",
+            b"--workers",
+            b"8",
+            b"--block",
+            b"7",
+        ],
+        HUNDRED_TRIPS,
+        1,
+        "FAULT F4 LINE 3\n",
+        "",
+    ),
+    (
+        &[b"f77run", b"--turns", b"50", b"--workers", b"1"],
+        HUNDRED_TRIPS,
+        1,
+        "FAULT F4 LINE 3\n",
+        "",
+    ),
+    (
+        &[b"f77run", b"--turns=101", b"--window=1"],
+        HUNDRED_TRIPS,
+        0,
+        "",
+        "",
+    ),
+];
+
+const THREE_TRIPS: &str = "      DO 10 I=1,3\n   10 J=I\n      END\n";
+
+const HUNDRED_TRIPS: &str = "      INTEGER K(100)\n      DO 10 I=1,100\n   10 K(I)=I\n      END\n";
+
+const ARMS: &str =
+    "      I=0\n   10 I=I+1\n      IF (I.EQ.2) THEN\n      K=K+10\n      ELSE IF (I.EQ.3) THEN\n      K=K+100\n      ELSE\n      K=K+1\n      END IF\n      IF (I.LT.4) GO TO 10\n      WRITE (6,20) I,K\n   20 FORMAT (2I5)\n      END\n";
+
 #[test]
 fn turns_of_a_plan(rt: HostRuntime) {
-    // the DO statement and three assignments take four turns
-    let source = "      DO 10 I=1,3\n   10 J=I\n      END\n";
-    let enough = run_of(&rt, &[b"f77run", b"--turns=4"], &mut source.as_bytes());
-    assert!(rt; enough.status == 0);
-    assert!(rt; enough.err.is_empty());
-    let short = run_of(&rt, &[b"f77run", b"--turns=3"], &mut source.as_bytes());
-    assert!(rt; short.status == 1);
-    assert!(rt; short.err.as_slice() == b"FAULT F4 LINE 2\n".as_slice());
+    for &(words, source, status, line, records) in PLANNED {
+        let run = run_of(&rt, words, &mut source.as_bytes());
+        assert!(rt; run.status == status, "{line}");
+        assert!(rt; run.err.as_slice() == line.as_bytes(), "{line}");
+        assert!(rt; run.out.as_slice() == records.as_bytes(), "{line}");
+    }
 }
 
 #[test]
@@ -387,4 +506,16 @@ fn writes_that_are_refused(rt: HostRuntime) {
         assert!(rt; status == 5);
         assert!(rt; err.as_slice() == b"WRITE REFUSED\n".as_slice());
     }
+}
+
+#[test]
+fn a_flush_that_is_refused_behind_a_stop(rt: HostRuntime) {
+    let mut err = Vec::new(rt.alloc());
+    let words = Words {
+        words: &[b"f77run"],
+    };
+    let mut input = NEXT_AND_STOP.as_bytes();
+    let status = engine(&rt, &words, &mut input, Narrow { room: 5 }, &mut err);
+    assert!(rt; status == 5);
+    assert!(rt; err.as_slice() == b"WRITE REFUSED\n".as_slice());
 }

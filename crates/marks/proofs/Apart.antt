@@ -85,9 +85,11 @@ none_told before (x ∷ xs) h = (
     not_told : (b : Bool) → broken_if b x.line K1 ≡ [] → b ≡ false
     not_told false e = refl
     not_told true e = absurd cc
+
     front : (bs cs : List Broken) → bs ++ cs ≡ [] → bs ≡ []
     front [] cs e = refl
     front (b ∷ bs) cs e = absurd cc
+
     behind : (bs cs : List Broken) → bs ++ cs ≡ [] → cs ≡ []
     behind [] cs e = e
     behind (b ∷ bs) cs e = absurd cc
@@ -222,49 +224,46 @@ module _ (places : ℕ → Option ℕ) (loud : ℕ → Bool) where
         let first = before ++ x ∷ [] in
         let own = apart_front first (flat range) (flat ms) h.1 in
         let there : (s : ℕ) → has s (flat range) ≡ true → has_label s x ≡ false = λ s k. not_first s before (flat range ++ flat ms) x h (list_any-append (has_label s) (flat range) (flat ms) ∙ or_front (has s (flat range)) (has s (flat ms)) k) in
-        let inside : Leads places 0 range = λ s n e. lead s n (here_not (has_label s x) i _ n (there s (must_have s n _ _ (nowhere s 0 range) e)) (or_first _ _ n e)) in
-        (
+        let inside : Leads places 0 range = λ s n e. lead s n (here_not (has_label s x) i _ n (there s (must_have s n _ _ (nowhere s 0 range) e)) (or_first _ _ n e)) in (
           (λ q. not_heard x.line (is_quiet range) (or_left _ _ (hear x.line q))),
           (
             ((λ s n e. inside s n (own_leads s 0 n first range own e)), kept first 0 range own inside (λ line q. or_left _ _ (or_right _ _ (hear line q)))),
             kept (first ++ flat range) (i + 1) ms (apart_behind first (flat range) (flat ms) h.1)
-            (λ s n e.
-            let had = must_have s n _ _ (nowhere s (i + 1) ms) e in
-            lead s n (here_not (has_label s x) i _ n (not_first s before (flat range ++ flat ms) x h (list_any-append (has_label s) (flat range) (flat ms) ∙ or_behind (has s (flat range)) (has s (flat ms)) had))
-            (or_second _ _ n (nowhere s 0 range (none_before s first (flat range) (flat ms) h.1 had)) e)))
-            (λ line q. or_right _ _ (or_right _ _ (hear line q))),
+                (λ s n e.
+                let had = must_have s n _ _ (nowhere s (i + 1) ms) e in
+                lead s n (here_not (has_label s x) i _ n (not_first s before (flat range ++ flat ms) x h (list_any-append (has_label s) (flat range) (flat ms) ∙ or_behind (has s (flat range)) (has s (flat ms)) had))
+                (or_second _ _ n (nowhere s 0 range (none_before s first (flat range) (flat ms) h.1 had)) e)))
+                (λ line q. or_right _ _ (or_right _ _ (hear line q))),
           ),
         )
     kept before i (block arms x ms) h lead hear =
         let behind = apart_behind before (flat_arms arms) (x ∷ flat ms) h in
-        let own = apart_front before (flat_arms arms) (x ∷ flat ms) h in
-        (
+        let own = apart_front before (flat_arms arms) (x ∷ flat ms) h in (
           kept_arms before arms own
-          (λ s n e. lead s n (here_not (heads s arms) i _ n (head_not s n before arms own e) (or_first _ _ n e)))
-          (λ line q. or_left _ _ (hear line q)),
+              (λ s n e. lead s n (here_not (heads s arms) i _ n (head_not s n before arms own e) (or_first _ _ n e)))
+              (λ line q. or_left _ _ (hear line q)),
           kept ((before ++ flat_arms arms) ++ x ∷ []) (i + 1) ms behind.1
-          (λ s n e.
-          let had = must_have s n _ _ (nowhere s (i + 1) ms) e in
-          let none_there = none_before s before (flat_arms arms) (x ∷ flat ms) h (or_behind (has_label s x) _ had) in
-          lead s n (here_not (heads s arms) i _ n (no_head s arms none_there)
-          (or_second _ _ n (nowhere_arms s arms none_there)
-          (here_not (has_label s x) (i + 1) _ n (not_first s (before ++ flat_arms arms) (flat ms) x behind had) e))))
-          (λ line q. or_right _ _ (hear line q)),
+              (λ s n e.
+              let had = must_have s n _ _ (nowhere s (i + 1) ms) e in
+              let none_there = none_before s before (flat_arms arms) (x ∷ flat ms) h (or_behind (has_label s x) _ had) in
+              lead s n (here_not (heads s arms) i _ n (no_head s arms none_there)
+              (or_second _ _ n (nowhere_arms s arms none_there)
+              (here_not (has_label s x) (i + 1) _ n (not_first s (before ++ flat_arms arms) (flat ms) x behind had) e))))
+              (λ line q. or_right _ _ (hear line q)),
         )
 
     kept_arms : (before : List ItemTree) (arms : Arms) → Apart before (flat_arms arms) → LeadsInArms places arms → HearsInArms loud arms → AreKeptInArms places loud arms
     kept_arms before no_arms h lead hear = tt
     kept_arms before (arm x body arms) h lead hear =
         let first = before ++ x ∷ [] in
-        let own = apart_front first (flat body) (flat_arms arms) h.1 in
-        (
+        let own = apart_front first (flat body) (flat_arms arms) h.1 in (
           (
             (λ s n e. lead s n (or_first _ _ n (own_leads s 0 n first body own e))),
             kept first 0 body own (λ s n e. lead s n (or_first _ _ n e)) (λ line q. or_left _ _ (hear line q)),
           ),
           kept_arms (first ++ flat body) arms (apart_behind first (flat body) (flat_arms arms) h.1)
-          (λ s n e. lead s n (or_second _ _ n (nowhere s 0 body (none_before s first (flat body) (flat_arms arms) h.1 (must_have s n _ _ (nowhere_arms s arms) e))) e))
-          (λ line q. or_right _ _ (hear line q)),
+              (λ s n e. lead s n (or_second _ _ n (nowhere s 0 body (none_before s first (flat body) (flat_arms arms) h.1 (must_have s n _ _ (nowhere_arms s arms) e))) e))
+              (λ line q. or_right _ _ (hear line q)),
         )
 
 -- where no label stands twice, all lists of a program unit are kept

@@ -89,7 +89,10 @@ fn put_list(places: &mut BTreeMap<u32, usize>, members: &[Member]) -> Result<(),
 
 /// The place in its list that each label leads to: that of its statement, or, of END IF, that behind the block IF. Of the statements
 /// with one label the first counts. The `AllocError` comes where a growth was refused.
-pub(crate) fn places_of(alloc: Global, members: &[Member]) -> Result<BTreeMap<u32, usize>, AllocError>
+pub(crate) fn places_of(
+    alloc: Global,
+    members: &[Member],
+) -> Result<BTreeMap<u32, usize>, AllocError>
     ensures { IfOk result (λ places. (s : ℕ) →
         place_at places s ≡ place_from s 0 (members_tree members.now)) }
 {

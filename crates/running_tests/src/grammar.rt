@@ -1,6 +1,6 @@
-//! The whole grammar, from source bytes: what is run, what is read and not run yet, and what isn't read.
+//! The whole grammar, from source bytes: what is run, what is refused, and where a statement may be cut.
 
-use crate::outcomes::{MANY, outcome};
+use crate::outcomes::{MANY, end_or_stop, outcome};
 use meaning::ending::{Ending, Fault, FaultKind};
 use meaning::refusal::Rule;
 use std::alloc::{AllocError, Global};
@@ -21,13 +21,20 @@ fn source_of(alloc: Global, lines: &[&str]) -> Result<Vec<u8>, AllocError> {
 /// Runs statements and END, and compares the ending.
 fn ends(rt: &impl Abort, alloc: Global, lines: &[&str], want: Ending) {
     let source = source_of(alloc, lines).expect(rt, "memory");
-    let (ending, _) = outcome(alloc, &source, MANY);
+    let (ending, _) = outcome(rt, alloc, &source, MANY);
     assert!(rt; ending == want, "{lines:?}");
 }
 
 /// Statements that are run, and their records.
 const RUN: &[(&[&str], &str)] = &[
-    // quotients towards zero, and powers from the right
+    // quotients and remainders towards zero, and powers from the right
+    (
+        &[
+            "      WRITE (6,10) 2**(-3),-7/2,MOD(-7,2),2**3**2",
+            "   10 FORMAT (4I5)",
+        ],
+        "    0   -3   -1  512\n",
+    ),
     (
         &[
             "      WRITE (6,10) 2**(-3),-7/2,(-7)/2,2**3**2,(-2)**31",
@@ -55,6 +62,32 @@ const RUN: &[(&[&str], &str)] = &[
             "   20 FORMAT (I2)",
         ],
         " 1\n",
+    ),
+    (
+        &[
+            "      IMPLICIT INTEGER (A-Z)",
+            "      D O 10 I = 1                                                      ABC",
+            "      WRITE (6,20) DO10I",
+            "   20 FORMAT (I2)",
+        ],
+        " 1\n",
+    ),
+    // a statement function and intrinsic functions
+    (
+        &[
+            "      ISQ(N)=N*N",
+            "      WRITE (6,10) ISQ(3),SIGN(5,-2),DIM(2,7),MAX(3,9,4)",
+            "   10 FORMAT (4I4)",
+        ],
+        "   9  -5   0   9\n",
+    ),
+    // a logical value, and a second record whose first value doesn't come
+    (
+        &[
+            "      WRITE (6,10) .TRUE.",
+            "   10 FORMAT (L3,2X,'A'/I2.2,:,'END')",
+        ],
+        "  T  A\n\n",
     ),
     // arrays named as keywords are
     (
@@ -128,6 +161,18 @@ const RUN: &[(&[&str], &str)] = &[
         ],
         " 1\n 2\n.\n",
     ),
+    // arms without statements
+    (
+        &[
+            "      IF (I.EQ.1) THEN",
+            "      J=1",
+            "      ELSE IF (I.EQ.0) THEN",
+            "      ELSE",
+            "      END IF",
+            "      PRINT '(I2)',J",
+        ],
+        " 0\n",
+    ),
     // no list
     (&["      WRITE (6,10)", "   10 FORMAT (/)"], "\n\n"),
     (&["      WRITE (6,10)", "   10 FORMAT (L3,'A')"], "\n"),
@@ -137,7 +182,7 @@ const RUN: &[(&[&str], &str)] = &[
 fn statements_that_are_run(rt: HostRuntime) {
     for &(lines, records) in RUN {
         let source = source_of(rt.alloc(), lines).expect(&rt, "memory");
-        let (ending, bytes) = outcome(rt.alloc(), &source, MANY);
+        let (ending, bytes) = outcome(&rt, rt.alloc(), &source, MANY);
         assert!(rt; ending == Ending::Ended, "{lines:?}");
         assert!(rt; bytes.as_slice() == records.as_bytes(), "{lines:?}");
     }
@@ -177,27 +222,47 @@ fn operators_and_formats_that_fault(rt: HostRuntime) {
     }
 }
 
-/// Statements that are read and not run yet.
-const UNRUN: &[&str] = &[
-    "      GO TO 10",
-    "      GO TO (10,20) I",
-    "      GO TO (10),I+1",
-    "      IF (I) 10,20,30",
-    "      IF (I.EQ.1) J=2",
-    "      IF(I.EQ.1)IF(2)=3",
-    "      STOP",
-    "      STOP 77",
-    "      STOP 'It''s done'",
-    "      PRINT 10,I,(K,K=1,2)",
-    "      WRITE (6,10) (K,K=1,2)",
-    "      WRITE (6,10) I,((A(K,J),K=1,2),J=1,3,2)",
+/// Statements of each kind of transfer, between two others: whether they end, at END or at a STOP statement.
+const TRANSFERS: &[(&str, Option<&str>)] = &[
+    ("      GO TO 10", None),
+    ("      GO TO (10),I+1", None),
+    ("      GO TO (10,10) I", None),
+    ("      IF (I) 10,10,10", None),
+    ("      IF (I.EQ.1) J=2", None),
+    ("      IF (I.EQ.1) CONTINUE", None),
+    ("      IF (I.EQ.1) GO TO (10) I", None),
+    ("      IF (I.EQ.1) IF (I) 10,10,10", None),
+    ("      STOP", Some("")),
+    ("      STOP 77", Some("77")),
+    ("      STOP 'It''s done'", Some("It's done")),
+    ("      IF (I.EQ.1) STOP 00001", Some("00001")),
 ];
 
 #[test]
-fn statements_that_are_not_run_yet(rt: HostRuntime) {
-    for &statement in UNRUN {
+fn statements_that_transfer_control(rt: HostRuntime) {
+    for &(statement, message) in TRANSFERS {
         let lines = ["      I=1", statement, "   10 CONTINUE"];
-        ends(&rt, rt.alloc(), &lines, Ending::Refused(Rule::K0, 2));
+        let want = end_or_stop(&rt, rt.alloc(), message);
+        ends(&rt, rt.alloc(), &lines, want);
+    }
+}
+
+/// Statements that name a label which no statement has or which is no FORMAT statement's, or that set an element of what is
+/// no array, and the rule that is told.
+const MISSED: &[(&str, Rule)] = &[
+    ("      GO TO (10,20) I", Rule::K2),
+    ("      IF (I) 10,20,30", Rule::K2),
+    ("      IF(I.EQ.1)IF(2)=3", Rule::K12),
+    ("      PRINT 10,I,(K,K=1,2)", Rule::K11),
+    ("      WRITE (6,10) (K,K=1,2)", Rule::K11),
+    ("      WRITE (6,10) I,((A(K,J),K=1,2),J=1,3,2)", Rule::K11),
+];
+
+#[test]
+fn statements_that_miss_what_they_name(rt: HostRuntime) {
+    for &(statement, rule) in MISSED {
+        let lines = ["      I=1", statement, "   10 CONTINUE"];
+        ends(&rt, rt.alloc(), &lines, Ending::Refused(rule, 2));
     }
 }
 
@@ -224,25 +289,18 @@ const REFUSED: &[(&[&str], Rule, u32)] = &[
     (&["      PRINT '(I5) X',1"], Rule::K11, 1),
     (&["      WRITE (5,'(I5)') 1"], Rule::K11, 1),
     (&["      PRINT 20,1", "   10 FORMAT (I5)"], Rule::K11, 1),
+    // a value that is given twice
+    (&["      DATA I/1/", "      DATA I/2/"], Rule::K10, 2),
     // out of place
     (&["      ELSE"], Rule::N3, 1),
     (&["      I=1", "      PROGRAM P"], Rule::N1, 2),
     (&["      IF (I.EQ.1) THEN"], Rule::N3, 2),
-    // a block IF isn't run yet
-    (
-        &[
-            "      IF (I.EQ.1) THEN",
-            "      J=1",
-            "      ELSE",
-            "      END IF",
-        ],
-        Rule::K0,
-        1,
-    ),
-    // what isn't read comes before what isn't run, and that before names
+    // what isn't read comes before labels, and of these and names the lesser line is told, then the lesser rule
     (&["      GO TO 10", "      I=J+"], Rule::G1, 2),
-    (&["      X=1", "      STOP"], Rule::K0, 2),
-    (&["   10 STOP", "   10 STOP"], Rule::K0, 1),
+    (&["      X=1", "      GO TO 10"], Rule::K3, 1),
+    (&["      GO TO 10", "      X=1"], Rule::K2, 1),
+    (&["      IF (X) GO TO 10"], Rule::K2, 1),
+    (&["   10 STOP", "   10 STOP"], Rule::K1, 2),
     (&["      END", "      STOP"], Rule::N2, 2),
     // a format that isn't one is refused with the rules on names
     (&["   10 FORMAT (I5,A5)", "      X=1"], Rule::K11, 1),
@@ -256,7 +314,12 @@ fn statements_that_are_refused(rt: HostRuntime) {
 }
 
 /// The ending of a statement that is cut in two, or whole where nothing is left behind the cut.
-fn cut_at(alloc: Global, statement: &str, place: usize) -> Result<Ending, AllocError> {
+fn cut_at(
+    rt: &impl Abort,
+    alloc: Global,
+    statement: &str,
+    place: usize,
+) -> Result<Ending, AllocError> {
     let text = statement.as_bytes();
     let mut source = Vec::from_slice(alloc, text.get(..place).unwrap_or(text))?;
     if let Some(rest) = text.get(place..) {
@@ -264,20 +327,20 @@ fn cut_at(alloc: Global, statement: &str, place: usize) -> Result<Ending, AllocE
         source.extend_from_slice(rest)?;
     }
     source.extend_from_slice(b"\n   10 CONTINUE\n      END\n")?;
-    let (ending, _) = outcome(alloc, &source, MANY);
+    let (ending, _) = outcome(rt, alloc, &source, MANY);
     Ok(ending)
 }
 
 /// Where a statement without apostrophes is cut into lines has no meaning.
 fn cut_everywhere(rt: &impl Abort, alloc: Global, statement: &str) {
-    let whole = cut_at(alloc, statement, usize::MAX).expect(rt, "memory");
+    let whole = cut_at(rt, alloc, statement, usize::MAX).expect(rt, "memory");
     for place in 7..statement.len() {
-        let cut = cut_at(alloc, statement, place).expect(rt, "memory");
+        let cut = cut_at(rt, alloc, statement, place).expect(rt, "memory");
         assert!(rt; cut == whole, "{statement} at {place}");
     }
 }
 
-/// Statements of the forms that are run.
+/// Statements without transfers of control.
 const SIMPLE: &[&str] = &[
     "      NUMBER=12345+TOTAL(67)**89",
     "      WRITE (UNIT=6,FMT=12345) NUMBER,(67+89)/12",
@@ -304,12 +367,14 @@ const EXECUTABLE: &[&str] = &[
     "      GO TO 10",
     "      GO TO (10,20) I",
     "      GO TO (10),I+1",
+    "      GO TO (10,10),1",
     "      IF (I) 10,20,30",
-    "      IF (I.EQ.1) J=2",
+    "      IF (I) 10,10,10",
+    "      IF (I.EQ.0) J=2",
     "      IF(I.EQ.1)IF(2)=3",
     "      STOP",
     "      STOP 77",
-    "      STOP 'It''s done'",
+    "      IF (I.EQ.0) STOP 12345",
     "      PRINT 10,I,(K,K=1,2)",
     "      DATA I/1/",
     "      WRITE (6,10) (K,K=1,2)",
@@ -353,7 +418,7 @@ fn changed_everywhere(rt: &impl Abort, alloc: Global, text: &str, byte: u8) {
         if let Some(here) = source.get_mut(place) {
             *here = byte;
         }
-        let (ending, _) = outcome(alloc, &source, 1000);
+        let (ending, _) = outcome(rt, alloc, &source, 1000);
         assert!(rt;
             ending != Ending::Memory && ending != Ending::WriteRefused,
             "{place}"

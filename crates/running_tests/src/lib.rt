@@ -4,14 +4,22 @@
 #[cfg(test)]
 mod arrays;
 #[cfg(test)]
+mod control;
+#[cfg(test)]
 mod grammar;
+#[cfg(test)]
+mod lists;
 #[cfg(test)]
 mod loops;
 #[cfg(test)]
 mod outcomes;
+#[cfg(test)]
+mod plans;
 #[cfg(test)]
 mod sinks;
 #[cfg(test)]
 mod sizes;
 #[cfg(test)]
 mod sources;
+#[cfg(test)]
+mod turns;

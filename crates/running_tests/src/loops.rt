@@ -1,7 +1,7 @@
 //! DO statements, from source bytes to written bytes.
 
-use crate::outcomes::{MANY, all_end, all_fault, all_refused, outcome};
-use meaning::ending::{Ending, Fault, FaultKind};
+use crate::outcomes::{all_end, all_fault, all_refused};
+use meaning::ending::FaultKind;
 use meaning::refusal::Rule;
 
 /// Sources that end, and their records.
@@ -118,21 +118,4 @@ fn loops(rt: HostRuntime) {
     all_end(&rt, rt.alloc(), RUN);
     all_fault(&rt, rt.alloc(), FAULTY);
     all_refused(&rt, rt.alloc(), REFUSED);
-}
-
-/// A DO statement takes one turn when it is reached, and each statement of its range one a trip.
-const COUNTED: &str = "      DO 10 I=1,3\n      J=J+I\n   10 CONTINUE\n      END\n";
-
-/// Limits on turns, and the line at which each is reached.
-const LIMITS: &[(u64, u32)] = &[(6, 3), (5, 2), (1, 2), (0, 1)];
-
-#[test]
-fn turns_of_a_loop(rt: HostRuntime) {
-    let (ending, _) = outcome(rt.alloc(), COUNTED.as_bytes(), 7);
-    assert!(rt; ending == Ending::Ended);
-    for &(turns, line) in LIMITS {
-        let (ending, _) = outcome(rt.alloc(), COUNTED.as_bytes(), turns);
-        let kind = FaultKind::F4;
-        assert!(rt; ending == Ending::Fault(Fault { kind, line }), "{turns}");
-    }
 }

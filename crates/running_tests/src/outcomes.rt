@@ -1,8 +1,9 @@
 //! Sources over writers in memory, and what comes of them. Expected bytes come from the rules of docs/LANGUAGE.md.
 
 use executor::Out;
-use executor::run::run;
-use meaning::ending::{Ending, Fault, FaultKind};
+use executor::run::run_in_order;
+use meaning::ending::{Ending, Fault, FaultKind, StopMessage};
+use meaning::plan::Plan;
 use meaning::refusal::Rule;
 use std::alloc::Global;
 use std::io;
@@ -59,44 +60,83 @@ pub const TWO_NUMBERS: &str =
 /// More turns than a test takes.
 pub const MANY: u64 = 1_000_000_000;
 
-/// The ending of a source, and the bytes that it writes into a writer with room.
-pub fn outcome(alloc: Global, source: &[u8], turns: u64) -> (Ending, Vec<u8>) {
+/// The plan of a run with so many turns.
+pub fn plan_with(rt: &impl Abort, turns: u64) -> Plan {
+    Plan::new(4, 64, 8, turns).expect(rt, "a plan")
+}
+
+/// The ending of a source under a plan, and the bytes that it writes into a writer with room.
+pub fn outcome_by(alloc: Global, source: &[u8], plan: &Plan) -> (Ending, Vec<u8>) {
     let mut sink = Out::new(make_meter(alloc, usize::MAX, usize::MAX, false));
-    let ending = run(alloc, source, turns, &mut sink);
+    let ending = run_in_order(alloc, source, plan, &mut sink);
     let Meter { bytes, .. } = sink.into_inner();
     (ending, bytes)
 }
 
+/// The ending of a source with so many turns, and the bytes that it writes into a writer with room.
+pub fn outcome(rt: &impl Abort, alloc: Global, source: &[u8], turns: u64) -> (Ending, Vec<u8>) {
+    outcome_by(alloc, source, &plan_with(rt, turns))
+}
+
+/// Compares the ending of a source with so many turns, and the records that it writes.
+pub fn comes_to_in(
+    rt: &impl Abort,
+    alloc: Global,
+    source: &str,
+    turns: u64,
+    want: &Ending,
+    records: &str,
+) {
+    let (ending, bytes) = outcome(rt, alloc, source.as_bytes(), turns);
+    assert!(rt; ending == *want, "{turns} turns: {source}");
+    assert!(rt;
+        bytes.as_slice() == records.as_bytes(),
+        "{turns} turns: {source}"
+    );
+}
+
 /// Compares the ending of a source and the records that it writes.
-pub fn comes_to(rt: &impl Abort, alloc: Global, source: &str, want: Ending, records: &str) {
-    let (ending, bytes) = outcome(alloc, source.as_bytes(), MANY);
-    assert!(rt; ending == want, "{source}");
-    assert!(rt; bytes.as_slice() == records.as_bytes(), "{source}");
+pub fn comes_to(rt: &impl Abort, alloc: Global, source: &str, want: &Ending, records: &str) {
+    comes_to_in(rt, alloc, source, MANY, want, records);
+}
+
+/// The ending at END, or at a STOP statement that tells this.
+pub fn end_or_stop(rt: &impl Abort, alloc: Global, message: Option<&str>) -> Ending {
+    match message {
+        None => Ending::Ended,
+        Some(text) => {
+            let text = Vec::from_slice(alloc, text.as_bytes()).expect(rt, "memory");
+            Ending::Stopped(StopMessage::new(text))
+        }
+    }
 }
 
 /// Sources that end, and their records.
 pub fn all_end(rt: &impl Abort, alloc: Global, table: &[(&str, &str)]) {
     for &(source, records) in table {
-        comes_to(rt, alloc, source, Ending::Ended, records);
+        comes_to(rt, alloc, source, &Ending::Ended, records);
+    }
+}
+
+/// Sources that a STOP statement ends, what it tells, and the records before it.
+pub fn all_stop(rt: &impl Abort, alloc: Global, table: &[(&str, &str, &str)]) {
+    for &(source, message, records) in table {
+        let want = end_or_stop(rt, alloc, Some(message));
+        comes_to(rt, alloc, source, &want, records);
     }
 }
 
 /// Sources that fault, the fault, its line, and the records before it.
 pub fn all_fault(rt: &impl Abort, alloc: Global, table: &[(&str, FaultKind, u32, &str)]) {
     for &(source, kind, line, records) in table {
-        comes_to(
-            rt,
-            alloc,
-            source,
-            Ending::Fault(Fault { kind, line }),
-            records,
-        );
+        let want = Ending::Fault(Fault { kind, line });
+        comes_to(rt, alloc, source, &want, records);
     }
 }
 
 /// Sources that are refused, the rule that is told, and its line.
 pub fn all_refused(rt: &impl Abort, alloc: Global, table: &[(&str, Rule, u32)]) {
     for &(source, rule, line) in table {
-        comes_to(rt, alloc, source, Ending::Refused(rule, line), "");
+        comes_to(rt, alloc, source, &Ending::Refused(rule, line), "");
     }
 }

@@ -1,7 +1,7 @@
 //! Sinks over writers that take all, some or nothing of what they are given.
 
-use crate::outcomes::{MANY, Meter, make_meter};
-use executor::run::run;
+use crate::outcomes::{MANY, Meter, end_or_stop, make_meter, plan_with};
+use executor::run::run_in_order;
 use executor::{Out, Refused, Sink, put_all};
 use meaning::ending::Ending;
 use std::alloc::{AllocError, Global};
@@ -20,7 +20,8 @@ const STEPS: &[usize] = &[1, 3, usize::MAX];
 /// Runs the two WRITEs over a writer with so much room.
 fn runs(rt: &impl Abort, alloc: Global, step: usize, room: usize, errs: bool) {
     let mut sink = Out::new(make_meter(alloc, step, room, errs));
-    let ending = run(alloc, TWO_WRITES.as_bytes(), MANY, &mut sink);
+    let plan = plan_with(rt, MANY);
+    let ending = run_in_order(alloc, TWO_WRITES.as_bytes(), &plan, &mut sink);
     let fits = room >= 15;
     let want = if fits {
         Ending::Ended
@@ -48,10 +49,35 @@ fn refused_writes(rt: HostRuntime) {
 fn a_record_broken_off(rt: HostRuntime) {
     let source = b"      WRITE (6,10)\n   10 FORMAT ('ABCDEFGHIJ')\n      END\n";
     let mut sink = Out::new(make_meter(rt.alloc(), usize::MAX, 3, true));
-    let ending = run(rt.alloc(), source.as_slice(), MANY, &mut sink);
+    let plan = plan_with(&rt, MANY);
+    let ending = run_in_order(rt.alloc(), source.as_slice(), &plan, &mut sink);
     assert!(rt; ending == Ending::WriteRefused);
     let Meter { bytes, .. } = sink.into_inner();
     assert!(rt; bytes.as_slice() == b"ABC".as_slice());
+}
+
+/// Three records, of 7 bytes each, and a statement behind them.
+const THREE_RECORDS: &str =
+    "      DO 10 I=1,3\n   10 WRITE (6,20) I\n   20 FORMAT (I6)\n      STOP 'LATER'\n      END\n";
+
+#[test]
+fn records_before_a_refused_write(rt: HostRuntime) {
+    // room for all records but one byte, and for all: what stands behind a refused write isn't executed
+    for &(room, refused) in [(20usize, true), (21, false)].as_slice() {
+        let mut sink = Out::new(make_meter(rt.alloc(), usize::MAX, room, true));
+        let plan = plan_with(&rt, MANY);
+        let ending = run_in_order(rt.alloc(), THREE_RECORDS.as_bytes(), &plan, &mut sink);
+        assert!(rt; sink.refused() == refused, "room {room}");
+        let stopped = end_or_stop(&rt, rt.alloc(), Some("LATER"));
+        assert!(rt; (ending == Ending::WriteRefused) == refused, "room {room}");
+        assert!(rt; (ending == stopped) == !refused, "room {room}");
+        let Meter { bytes, .. } = sink.into_inner();
+        assert!(rt;
+            b"     1\n     2\n     3\n".starts_with(&bytes),
+            "room {room}"
+        );
+        assert!(rt; bytes.len() == room, "room {room}");
+    }
 }
 
 /// How many bytes a piece has.

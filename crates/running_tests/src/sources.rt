@@ -56,7 +56,7 @@ const REFUSED: &[(&str, Rule, u32)] = &[
     ("      I='A\n      END\n", Rule::C6, 1),
     ("      I='A'\n      END\n", Rule::G1, 1),
     ("      READ (5,*) N\n      END\n", Rule::G2, 1),
-    ("      I=1\n      GO TO 10\n      END\n", Rule::K0, 2),
+    ("      I=1\n      GO TO 10\n      END\n", Rule::K2, 2),
     (
         "      I=((((((((((((((((((((((((((((((((((((((((((((((((((((((((((((\n",
         Rule::G1,
@@ -121,6 +121,13 @@ const FAULTY: &[(&str, FaultKind, u32, &str)] = &[
         1,
         "",
     ),
+    // not even a first record, where a later value meets a descriptor of the other type
+    (
+        "      WRITE (6,10) 7,.TRUE.\n   10 FORMAT (I3)\n      END\n",
+        FaultKind::F7,
+        1,
+        "",
+    ),
 ];
 
 #[test]
@@ -137,10 +144,10 @@ fn long_sources(rt: HostRuntime) -> Result<(), Fail> {
     for place in source.len()..1_048_576 {
         source.push(if place % 64 == 63 { b'\n' } else { b'*' })?;
     }
-    let (ending, _) = outcome(rt.alloc(), &source, MANY);
+    let (ending, _) = outcome(&rt, rt.alloc(), &source, MANY);
     assert!(rt; ending == Ending::Ended);
     source.push(b'*')?;
-    let (ending, _) = outcome(rt.alloc(), &source, MANY);
+    let (ending, _) = outcome(&rt, rt.alloc(), &source, MANY);
     assert!(rt; ending == Ending::Refused(Rule::C7, 1));
     Ok(())
 }
@@ -151,10 +158,10 @@ fn turn_limit(rt: HostRuntime) {
         kind: FaultKind::F4,
         line: 3,
     });
-    let (ending, bytes) = outcome(rt.alloc(), TWO_NUMBERS.as_bytes(), 2);
+    let (ending, bytes) = outcome(&rt, rt.alloc(), TWO_NUMBERS.as_bytes(), 2);
     assert!(rt; ending == fourth);
     assert!(rt; bytes.is_empty());
-    let (ending, bytes) = outcome(rt.alloc(), TWO_NUMBERS.as_bytes(), 3);
+    let (ending, bytes) = outcome(&rt, rt.alloc(), TWO_NUMBERS.as_bytes(), 3);
     assert!(rt; ending == Ending::Ended);
     assert!(rt; bytes.as_slice() == b"   3 -10\n".as_slice());
 }
@@ -172,7 +179,7 @@ fn fronts_of_a_source(rt: HostRuntime) {
             50 | 51 => Ending::Refused(Rule::G1, 3),
             _ => Ending::Ended,
         };
-        let (ending, bytes) = outcome(rt.alloc(), &source[..kept], MANY);
+        let (ending, bytes) = outcome(&rt, rt.alloc(), &source[..kept], MANY);
         assert!(rt; ending == expected, "{kept} bytes");
         let records: &[u8] = if kept < 52 { b"" } else { FORTY_TWO.as_bytes() };
         assert!(rt; bytes.as_slice() == records, "{kept} bytes");
