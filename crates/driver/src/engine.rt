@@ -1,6 +1,7 @@
 //! The program without its streams: what it reads, writes and answers.
 
 ghost use Rattle.std.specs.Prelude.{◌≡◌, ◌⊎◌, IfOk, IfSome};
+ghost use Rattle.driver.specs.declared.engine.NoRun.TheVariants.{Memory};
 ghost use Rattle.driver.specs.Source.{AnswersAs};
 ghost use Rattle.driver.specs.Status.{IsStatusOf, status_of, no_run_for};
 
@@ -45,12 +46,16 @@ enum NoRun {
 }
 
 impl From<AllocError> for NoRun {
+    ghost from_gives = { λ _ no_run. no_run ≡ Memory };
+
     fn from(_error: AllocError) -> NoRun {
         NoRun::Memory
     }
 }
 
 impl<T: Drop> From<AllocFailed<T>> for NoRun {
+    ghost from_gives = { λ _ no_run. no_run ≡ Memory };
+
     fn from(_error: AllocFailed<T>) -> NoRun {
         NoRun::Memory
     }

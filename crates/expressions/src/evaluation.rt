@@ -146,8 +146,12 @@ fn called<N: Numbering, S: Store>(
     }
 }
 
-// The statement function with a name, if it may be called.
-fn callable<'a, N: Numbering>(name: &[u8], most: usize, numbering: &'a N) -> Option<Function<'a>>
+/// The statement function with a name, if it is one of those that may be called, the first so many.
+pub fn callable<'a, N: Numbering>(
+    name: &[u8],
+    most: usize,
+    numbering: &'a N,
+) -> Option<Function<'a>>
     requires { N.is_sound numbering.now }
     ensures { IsCallable (N.names numbering.now) most name.now result }
 {

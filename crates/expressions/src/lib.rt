@@ -25,9 +25,10 @@ ghost use Rattle.expressions.specs.Places.{left, behind, limit, Found};
 use array_store::Store;
 pub use constants::{Constants, constant_value};
 pub use dimension::Dimension;
+pub use evaluation::callable;
 use evaluation::{subscripts_in, value_in as evaluated};
 use frame::Frame;
-pub use intrinsics::{Intrinsic, is_intrinsic};
+pub use intrinsics::{Arguments, Intrinsic, is_intrinsic};
 pub use listing::add_item;
 use meaning::ending::{FaultKind, Value};
 use meaning::number::number;
@@ -139,8 +140,8 @@ fn constant(digits: &[u8]) -> Result<Value, FaultKind>
     integer_of(i32::try_from(number(digits)).ok())
 }
 
-// A sign and its operand.
-fn signed(sign: Sign, x: i32) -> Result<Value, FaultKind>
+/// A sign and its operand. A result outside INTEGER is the fault F2.
+pub fn signed(sign: Sign, x: i32) -> Result<Value, FaultKind>
     ensures { result ≡ integer (with_sign sign x) }
 {
     match sign {
@@ -171,8 +172,10 @@ fn decided(operator: Operator, x: Value) -> Option<bool>
     }
 }
 
-// An operator and the values of its operands.
-fn operated(operator: Operator, x: Value, y: Value) -> Result<Value, FaultKind>
+/// An operator and the values of its operands: F1 where a divisor is zero, F2 where a result leaves the range of INTEGER, F6 where
+/// zero has an exponent of zero or less.
+#[inline(always)]
+pub fn operated(operator: Operator, x: Value, y: Value) -> Result<Value, FaultKind>
     ensures { result ≡ operated_on operator x y }
 {
     match operator {

@@ -43,6 +43,27 @@ impl<'a> Place<'a> {
         }
     }
 
+    /// The cell of its first element; `None` where it has no cells.
+    pub fn first(self) -> Option<usize>
+        ensures { result ≡ self.entry.cell }
+    {
+        self.cell
+    }
+
+    /// How many cells the next value of the first subscript that is left is further.
+    pub fn stride(self) -> usize
+        ensures { result ≡ self.entry.stride }
+    {
+        self.stride
+    }
+
+    /// The dimensions of the subscripts that are left.
+    pub fn dimensions(self) -> &'a [Dimension]
+        ensures { map dimension result.now ≡ left self.entry }
+    {
+        self.left
+    }
+
     /// One subscript more; `None` where it is outside its bounds. Where there are no further dimensions, no cell is left.
     pub fn next(self, subscript: i32) -> Option<Place<'a>>
         requires { limit self < 2 ^ 64 }

@@ -2,6 +2,7 @@
 //! with the ending, and the records. The records are those that another compiler's program writes (gfortran 12.2, by
 //! `gfortran -std=legacy -w -finit-local-zero`) where it takes the program and means the same by it; which rule is told and which
 //! fault comes from docs/LANGUAGE.md. A first line `C TURNS n` gives the program n turns; any other has 1,000,000,000.
+//! The examples, in the folder `examples` there, end without a fault; the files beside them hold their records alone.
 #![tactic(auto)]
 
 use executor::Out;
@@ -68,18 +69,64 @@ fn agrees(rt: &HostRuntime, name: &str) -> io::Result<bool> {
     }
 }
 
-fn main(rt: HostRuntime) -> io::Result<()> {
+// What a source writes, if it ends at END or by a STOP statement.
+fn records_of(alloc: Global, source: &[u8]) -> Option<Vec<u8>> {
+    let plan = Plan::new(1, 1, 1, TURNS)?;
+    let mut sink = Out::new(Vec::new(alloc));
+    let ending = run_in_order(alloc, source, &plan, &mut sink);
+    let records = sink.into_inner();
+    match ending {
+        Ending::Ended | Ending::Stopped(_) => Some(records),
+        _ => None,
+    }
+}
+
+// Whether the example with a name writes what the file beside it holds.
+fn is_shown(rt: &HostRuntime, name: &str) -> io::Result<bool> {
+    let source = fs::read(rt, format!(in rt.alloc(); "examples/{name}.f")?)?;
+    let wanted = fs::read(rt, format!(in rt.alloc(); "examples/{name}.out")?)?;
+    match records_of(rt.alloc(), &source) {
+        Some(records) => Ok(records.as_slice() == wanted.as_slice()),
+        None => Ok(false),
+    }
+}
+
+// How many programs of this folder come to what is wanted; the others are told.
+fn count_programs(rt: &HostRuntime) -> io::Result<u64> {
     let mut count = 0u64;
-    for entry in fs::read_dir(&rt, ".")? {
+    for entry in fs::read_dir(rt, ".")? {
         let entry = entry?;
         if let Some(name) = entry.file_name().strip_suffix(".f") {
-            if agrees(&rt, name)? {
+            if agrees(rt, name)? {
                 count = count.saturating_add(1);
             } else {
                 println!(rt; "{name}.f doesn't come to what stands in {name}.out")?;
             }
         }
     }
+    Ok(count)
+}
+
+// How many examples write what is wanted; the others are told.
+fn count_examples(rt: &HostRuntime) -> io::Result<u64> {
+    let mut count = 0u64;
+    for entry in fs::read_dir(rt, "examples")? {
+        let entry = entry?;
+        if let Some(name) = entry.file_name().strip_suffix(".f") {
+            if is_shown(rt, name)? {
+                count = count.saturating_add(1);
+            } else {
+                println!(rt; "examples/{name}.f doesn't write what stands in {name}.out")?;
+            }
+        }
+    }
+    Ok(count)
+}
+
+fn main(rt: HostRuntime) -> io::Result<()> {
+    let count = count_programs(&rt)?;
     println!(rt; "{count} programs come to what is wanted")?;
+    let count = count_examples(&rt)?;
+    println!(rt; "{count} examples write what another compiler's programs write")?;
     Ok(())
 }

@@ -1,0 +1,11 @@
+pub mod Words
+pub mod Operands
+pub mod Single
+pub mod Calls
+pub mod Room
+pub mod Forms
+pub mod Functions
+pub mod Subscripts
+pub mod Places
+pub mod Fused
+pub mod Results

@@ -1,0 +1,26 @@
+//! Why an expression has no code.
+
+use std::alloc::{AllocError, AllocFailed};
+
+/// Why an expression has no code.
+#[derive(Clone, Copy, Debug, PartialEq, Eq)]
+pub enum NoCode {
+    /// A growth was refused.
+    Memory,
+    /// It breaks a rule: an element has another number of subscripts than its array has dimensions, or a function another number of
+    /// arguments than it takes, or a constant leaves the range of INTEGER. Or it is too large: it needs room for more than 1,024 numbers,
+    /// or the cells' numbers leave the range of INTEGER.
+    Unruly,
+}
+
+impl From<AllocError> for NoCode {
+    fn from(_error: AllocError) -> NoCode {
+        NoCode::Memory
+    }
+}
+
+impl<T: Drop> From<AllocFailed<T>> for NoCode {
+    fn from(_error: AllocFailed<T>) -> NoCode {
+        NoCode::Memory
+    }
+}
