@@ -1,5 +1,5 @@
 -- One statement that takes a turn.
-use Rattle.std.proofs.Common.{◌≡◌, ℕ, ℤ, suc, ◌+◌, ◌+ℤ◌, ◌||◌, Bool, true, false, if◌then◌else◌, List, [], Option, Some, None, Result, Ok, Err, refl, sym, ap, ◌∙◌, subst, arith}
+use Rattle.std.proofs.Common.{◌≡◌, ◌⊎◌, inl, inr, ℕ, ℤ, suc, ◌+◌, ◌+ℤ◌, ◌||◌, Bool, true, false, if◌then◌else◌, List, [], Option, Some, None, Result, Ok, Err, refl, sym, ap, ◌∙◌, subst, arith}
 use Rattle.std.specs.Prelude.{not, IsSome, IsTrue, is_some}
 use Rattle.std.proofs.lemmas.Bool.{false≢true}
 use Rattle.meaning.specs.declared.ending.FaultKind.{FaultKind}
@@ -7,17 +7,21 @@ use Rattle.meaning.specs.declared.ending.FaultKind.TheVariants.{F4}
 use Rattle.meaning.specs.declared.ending.Value.{Value}
 use Rattle.meaning.specs.declared.ending.Outcome.{Outcome}
 use Rattle.meaning.specs.declared.ending.Outcome.TheVariants as outcomes
-use Rattle.meaning.specs.declared.syntax.Shape.{Shape}
-use Rattle.meaning.specs.declared.syntax.Shape.TheVariants as shapes
+use Rattle.meaning.specs.declared.syntax.Tree.{Tree}
 use Rattle.meaning.specs.Characters.{number_of}
 use Rattle.meaning.specs.Scopes.{Definition, defined_by, scope_of}
-use Rattle.meaning.specs.Syntax.{ExprTree, ExprsTree, ShapeTree, StopTree, ItemTree, assignment, continuing, going, stopping, logical_if, shape_tree}
+use Rattle.meaning.specs.Syntax.{ExprTree, ExprsTree, ShapeTree, StopTree, ItemTree, assignment, writing, printing, doing, continuing, going, computed_going, arithmetic_if, logical_if, block_if, else_if, stopping}
 use Rattle.meaning.specs.Maps.{Map, put}
 use Rattle.meaning.specs.Values.{Scope, dimensions_in, subscripts, value, as_integer, as_logical, integer, and_then}
 use Rattle.meaning.specs.Execution.{Ran, more, Ways, onward, at_label, turn, with_ok, failed, added, assigned, unless_defined, simple, step, condition_of, truth_of, holds, turn_if, tested}
 use Rattle.meaning.proofs.Running.{more-none}
 use Rattle.marks.specs.Quiet.{writes}
-use Rattle.evaluator.specs.Quiet.{is_logical_if}
+use Rattle.checker.specs.Checked.{items_in}
+use Rattle.postfix.specs.declared.code.Code.{Code}
+use Rattle.programs.specs.declared.action.Repeat.{Repeat}
+use Rattle.programs.specs.Acts.{is_idle, Conditional, Defines, Repeats}
+use Rattle.programs.specs.Acts as acts
+use Rattle.programs.specs.Asked.{is_logical_if}
 use Rattle.evaluator.specs.Statements.{Puts, Sums, target_and_value, Leaves, Passes, Moves, Tests}
 use Rattle.evaluator.proofs.Composed.{moves_behind, moves_same}
 
@@ -118,7 +122,7 @@ passed_by : (d : Option Definition) (r passed : Ran) → IsSome d → unless_def
 passed_by None r passed h = absurd (false≢true h)
 passed_by (Some d) r passed h = refl
 
-pub defines : (all : List ItemTree) (n : List ℕ) (es : ExprsTree) (e : ExprTree) (line : ℕ) → IsSome (defined_by (scope_of all).arrays (assignment n es e)) → (m : Map) (t : ℕ) → Passes (λ go. simple all (assignment n es e) line m t go) t onward m t
+defines : (all : List ItemTree) (n : List ℕ) (es : ExprsTree) (e : ExprTree) (line : ℕ) → IsSome (defined_by (scope_of all).arrays (assignment n es e)) → (m : Map) (t : ℕ) → Passes (λ go. simple all (assignment n es e) line m t go) t onward m t
 defines all n es e line some m t =
     record {
       used = 0;
@@ -143,17 +147,47 @@ module _ (all : List ItemTree) (line : ℕ) (m : Map) (t u : ℕ) (taken : t ≡
 pub simple_as : (all : List ItemTree) (line : ℕ) (old new : Map) (t u : ℕ) (o : Outcome) (s shape : ShapeTree) → shape ≡ s → Moves (λ go. simple all s line old t go) t new u o → Moves (λ go. simple all shape line old t go) t new u o
 simple_as all line old new t u o s shape e h = subst (λ x. Moves (λ go. simple all x line old t go) t new u o) (sym e) h
 
--- a statement that isn't executed
-pub idles : (all : List ItemTree) (line : ℕ) (s : Shape) → ((n : _) (es : _) (e : _) → s ≡ shapes.Assignment n es e → ⊥) → (s ≡ shapes.Continue → ⊥) → ((n : _) → s ≡ shapes.GoTo n → ⊥) → ((ls : _) (c : _) (e : _) → s ≡ shapes.ComputedGoTo ls c e → ⊥) → ((e : _) (x : _) (y : _) (z : _) → s ≡ shapes.ArithmeticIf e x y z → ⊥) → ((n : _) → s ≡ shapes.Stop n → ⊥) → IsTrue (not (writes (shape_tree s))) → (m : Map) (t : ℕ) → Passes (λ go. simple all (shape_tree s) line m t go) t onward m t
-idles all line (shapes.Assignment n es e) a b c d f h quiet m t = absurd (a n es e refl)
-idles all line shapes.Continue a b c d f h quiet m t = absurd (b refl)
-idles all line (shapes.GoTo n) a b c d f h quiet m t = absurd (c n refl)
-idles all line (shapes.ComputedGoTo labels comma e) a b c d f h quiet m t = absurd (d labels comma e refl)
-idles all line (shapes.ArithmeticIf e x y z) a b c d f h quiet m t = absurd (f e x y z refl)
-idles all line (shapes.Stop n) a b c d f h quiet m t = absurd (h n refl)
-idles all line (shapes.Write control list) a b c d f h quiet m t = absurd (false≢true quiet)
-idles all line (shapes.Print source list) a b c d f h quiet m t = absurd (false≢true quiet)
-idles all line s a b c d f h quiet m t = passes_over m t
+-- a statement that is passed over: it isn't executable, or it is ELSE, END IF or END
+idles : (all : List ItemTree) (line : ℕ) (s : ShapeTree) → IsTrue (is_idle s) → (m : Map) (t : ℕ) → Passes (λ go. simple all s line m t go) t onward m t
+idles all line (assignment n es e) h m t = absurd (false≢true h)
+idles all line (writing control list) h m t = absurd (false≢true h)
+idles all line (printing source list) h m t = absurd (false≢true h)
+idles all line continuing h m t = absurd (false≢true h)
+idles all line (going label) h m t = absurd (false≢true h)
+idles all line (computed_going labels comma e) h m t = absurd (false≢true h)
+idles all line (arithmetic_if e x y z) h m t = absurd (false≢true h)
+idles all line (stopping text) h m t = absurd (false≢true h)
+idles all line s h m t = passes_over m t
+
+module _ (p : Tree) (line : ℕ) (s : ShapeTree) (m : Map) (t : ℕ) where
+  abbrev IsPassed : Type 0
+  IsPassed = Passes (λ go. simple (items_in p) s line m t go) t onward m t
+
+  passes_as : (shape : ShapeTree) → s ≡ shape → Passes (λ go. simple (items_in p) shape line m t go) t onward m t → IsPassed
+  passes_as shape is h = simple_as (items_in p) line m m t t outcomes.Normal shape s is h
+
+  pub pass_passes : IsTrue (is_idle s) ⊎ Defines p s → IsPassed
+  pass_passes (inl idle) = idles (items_in p) line s idle m t
+  pass_passes (inr d) =
+      passes_as (assignment d.name d.dummies d.body) d.is (defines (items_in p) d.name d.dummies d.body line d.defined m t)
+
+  -- what writes nothing is no WRITE or PRINT statement
+  pub output_passes : IsTrue (writes s) → IsTrue (not (writes s)) → IsPassed
+  output_passes h quiet = absurd (false≢true (sym (ap not h) ∙ quiet))
+
+  -- logical IFs, the statements that head arms, and DO statements do nothing by themselves
+  pub if_passes : (c : Code) (under : ShapeTree → Type 0) → Conditional p c under s → IsPassed
+  if_passes c under x = passes_as (logical_if x.condition x.statement) x.is (passes_over m t)
+
+  pub test_passes : (c : Code) → acts.Tests p c s → IsPassed
+  test_passes c x = by x.is
+    where
+      by : (s ≡ block_if x.condition) ⊎ (s ≡ else_if x.condition) → IsPassed
+      by (inl is) = passes_as (block_if x.condition) is (passes_over m t)
+      by (inr is) = passes_as (else_if x.condition) is (passes_over m t)
+
+  pub repeat_passes : (r : Repeat) → Repeats p r s → IsPassed
+  repeat_passes r x = passes_as (doing x.label x.comma x.variable x.limits) x.is (passes_over m t)
 
 -- ---- a logical IF
 
@@ -193,6 +227,14 @@ pub step_as : (all : List ItemTree) (line : ℕ) (old new : Map) (t u : ℕ) (o 
 step_as all line old new t u o s shape e h = subst (λ x. Moves (λ go. step all x line old t go) t new u o) (sym e) h
 
 -- ---- the test of an arm
+
+-- the condition that is tested
+pub tested_condition : (p : Tree) (c : Code) (s : ShapeTree) (x : acts.Tests p c s) → condition_of s ≡ Some x.condition
+tested_condition p c s x = by x.is
+  where
+    by : (s ≡ block_if x.condition) ⊎ (s ≡ else_if x.condition) → condition_of s ≡ Some x.condition
+    by (inl is) = ap condition_of is
+    by (inr is) = ap condition_of is
 
 module _ (scope : Scope) (first : Bool) (x : ItemTree) (m : Map) (t : ℕ) where
   abbrev does : (Bool → ℕ → Ran) → Ran

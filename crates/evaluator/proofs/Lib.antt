@@ -1,7 +1,6 @@
 pub mod Placed
 pub mod Wholes
 pub mod Assigned
-pub mod Targets
 pub mod Limiting
 pub mod Composed
 pub mod Turning

@@ -25,7 +25,12 @@ use Rattle.meaning.specs.Execution.{Ran, Meaning, Follow, Ways, onward, at_label
 use Rattle.meaning.proofs.Running.{exec_is}
 use Rattle.meaning.proofs.Stores.{does_then}
 use Rattle.meaning.proofs.Ranges.{range_is, row_arms-items, member_before-block, left_arms}
-use Rattle.evaluator.specs.Quiet.{is_doing, variable_of}
+use Rattle.meaning.specs.declared.syntax.Tree.{Tree}
+use Rattle.programs.specs.declared.action.Repeat.{Repeat}
+use Rattle.programs.specs.Acts.{Repeats}
+use Rattle.programs.specs.Asked.{is_doing}
+use Rattle.programs.specs.Codes.{IsCell}
+use Rattle.evaluator.specs.Quiet.{variable_of}
 use Rattle.evaluator.specs.Member.{member_does}
 use Rattle.evaluator.specs.Over.{values_by, trips_as, repeated_as}
 use Rattle.evaluator.specs.Statements.{ran_by, Leaves, Passes, Moves, Reaches, Comes, Picks, Adds}
@@ -60,10 +65,16 @@ module _ (P : ItemTree → Type 0) where
   range_known x l is h =
       subst (λ ms. AllByRecursion P (flat ms)) (range_is l) (split-all P _ [] (subst (λ y. AllByRecursion P (flat (member_before y none))) is h).1).0
 
-  -- of the arms of a block IF, and of one of them
+  -- of the arms of a block IF, of the first statement of each, and of its list
   pub arms_known : (x : Member) (b : _) → x ≡ Block b → AllByRecursion P (flat (member_before x none)) → AllByRecursion P (flat_arms (arms_tree (out-Block b).arms.items))
   arms_known x b is h =
       (split-all P (flat_arms (arms_tree (out-Block b).arms.items)) (item_tree (out-Block b).end ∷ []) (subst (λ ms. AllByRecursion P (flat ms)) (ap (λ y. member_before y none) is ∙ member_before-block b none) h)).0
+
+  pub arm_known : (arms : List Arm) (i : ℕ) (a : Arm) → i < length arms → a ≡ get_or arms i a → AllByRecursion P (flat_arms (arms_tree arms)) → P (item_tree a.head)
+  arm_known [] i a lt is h = absurd (omega arith)
+  arm_known (b ∷ bs) zero a lt is h = subst (λ z. P (item_tree z.head)) (sym is) h.0
+  arm_known (b ∷ bs) (suc i) a lt is h =
+      arm_known bs i a (omega arith) is (split-all P (flat (members_tree b.body.items)) (flat_arms (arms_tree bs)) h.1).1
 
   pub body_known : (arms : List Arm) (i : ℕ) (a : Arm) → i < length arms → a ≡ get_or arms i a → AllByRecursion P (flat_arms (arms_tree arms)) → AllByRecursion P (flat (members_tree a.body.items))
   body_known [] i a lt is h = absurd (omega arith)
@@ -207,6 +218,14 @@ module _ (scope : Scope) (rec : Meaning) (label : List ℕ) (comma : Bool) (vari
     do_moves s first new left o h e x =
         moves_behind does (λ go. leads_on (trips_from rec line variable range m u s) u go) t u new left o (record { used = 1; is = do_is s h; turns = one_less t u taken }) (leaves_on (trips_from rec line variable range m u s) u new left o (subst (λ n. Leaves (fold_trips rec line variable s.step range (trips s.first s.last s.step) n u) u new left o) e x))
 
+-- what is kept of a DO statement: its variable's cell, and what it says
+module _ (t : Tree) (r : Repeat) (s : ShapeTree) (d : Repeats t r s) where
+  pub counted_cell : IsCell t (variable_of s) r.variable
+  counted_cell = subst (λ x. IsCell t (variable_of x) r.variable) (sym d.is) d.counted
+
+  pub says : s ≡ doing d.label d.comma (variable_of s) d.limits
+  says = d.is ∙ ap (λ v. doing d.label d.comma v d.limits) (sym (ap variable_of d.is))
+
 -- what is no DO statement is passed over
 pub unless_do : (s : ShapeTree) (scope : Scope) (rec : Meaning) (line : ℕ) (range : Members) (m : Map) (t : ℕ) → IsTrue (not (is_doing s)) → (go : Ways) → looped scope rec s line range m t go ≡ go onward m t
 unfolding looped
@@ -214,9 +233,10 @@ unless_do (doing label comma variable limits) scope rec line range m t h go = ab
 unless_do s scope rec line range m t h go = refl
 
 -- a range by itself, when the variable has its first value
-pub repeated_runs : (all : List ItemTree) (l : LoopOf) (first by : ℤ) (count : ℕ) (label : List ℕ) (comma : Bool) (variable : List ℕ) (limits : LimitsTree) → shape_tree (out-Loop l).head.form.shape.value ≡ doing label comma variable limits → (m n k : Map) (t left : ℕ) (o : Outcome) (used : ℕ) → used ≡ t - left → n ≡ put m variable [] first → Leaves (trips_as all l variable first by count n t) t k left o → repeated_as all l first by count m t ≡ ran_by (record { outcome = o; turns_used = used }) k
-repeated_runs all l first by count label comma variable limits is m n k t left o used same set x =
-    (λ i. trips_as all l (variable_of (is i)) first by count (put m (variable_of (is i)) [] first) t) ∙ ap (λ y. trips_as all l variable first by count y t) (sym set) ∙ leaves_runs (trips_as all l variable first by count n t) t k left o used same x
+pub repeated_runs : (all : List ItemTree) (l : LoopOf) (first by : ℤ) (count : ℕ) (m n k : Map) (t left : ℕ) (o : Outcome) (used : ℕ) → used ≡ t - left → n ≡ put m (variable_of (shape_tree (out-Loop l).head.form.shape.value)) [] first → Leaves (trips_as all l (variable_of (shape_tree (out-Loop l).head.form.shape.value)) first by count n t) t k left o → repeated_as all l first by count m t ≡ ran_by (record { outcome = o; turns_used = used }) k
+repeated_runs all l first by count m n k t left o used same set x =
+    let variable = variable_of (shape_tree (out-Loop l).head.form.shape.value) in
+    ap (λ y. trips_as all l variable first by count y t) (sym set) ∙ leaves_runs (trips_as all l variable first by count n t) t k left o used same x
 
 -- ---- over any store
 

@@ -2,8 +2,6 @@
 use Rattle.std.proofs.Common.{◌≡◌, ℕ, ℤ, pos, negsuc, zero, suc, ◌-◌, ◌<◌, ◌≤◌, List, [], ◌∷◌, length, get_or, map, Ok, Err, refl, sym, ap, ◌∙◌, subst, arith}
 use Rattle.std.proofs.Math.IntN.{nat_abs}
 use Rattle.std.specs.Int.{FitsUnsignedBits}
-use Rattle.std.specs.Global.{Vec}
-use Rattle.std.specs.List.{AllByRecursion}
 use Rattle.meaning.specs.declared.ending.FaultKind.{FaultKind}
 use Rattle.meaning.specs.declared.ending.FaultKind.TheVariants.{F4}
 use Rattle.meaning.specs.declared.ending.Value.{Value}
@@ -12,7 +10,6 @@ use Rattle.meaning.specs.Maps.{Map}
 use Rattle.meaning.specs.Syntax.{ExprTree}
 use Rattle.meaning.specs.Values.{Scope, value}
 use Rattle.meaning.specs.Execution.{Ran, Ways, Next, onward, at_label, more, picked_by, nth_label, by_count}
-use Rattle.evaluator.specs.Known.{IsTarget}
 use Rattle.evaluator.specs.Statements.{Passes, Moves}
 use Rattle.evaluator.proofs.Executed.{fault_at, one_less, turn_none, turn_goes, turn_fails}
 
@@ -37,37 +34,32 @@ module _ (scope : Scope) (e : ExprTree) (pick : Value → Next) (line : ℕ) (m 
 
 -- ---- the labels of a computed GO TO
 
-abbrev texts : List (Vec ℕ) → List (List ℕ)
-texts labels = map (λ (l : Vec ℕ). l.items) labels
+nth_there : (digits : List (List ℕ)) (k s : ℕ) → k < length (map number_of digits) → s ≡ get_or (map number_of digits) k s → nth_label digits k ≡ at_label s
+nth_there [] k s lt is = absurd (omega arith)
+nth_there (x ∷ xs) zero s lt is = ap at_label (sym is)
+nth_there (x ∷ xs) (suc k) s lt is = nth_there xs k s (omega arith) is
 
-nth_there : (labels : List (Vec ℕ)) (k : ℕ) (l : Vec ℕ) → k < length labels → l ≡ get_or labels k l → nth_label (texts labels) k ≡ at_label (number_of l.items)
-nth_there [] k l lt is = absurd (omega arith)
-nth_there (x ∷ xs) zero l lt is = ap (λ (y : Vec ℕ). at_label (number_of y.items)) (sym is)
-nth_there (x ∷ xs) (suc k) l lt is = nth_there xs k l (omega arith) is
-
-nth_past : (labels : List (Vec ℕ)) (k : ℕ) → length labels ≤ k → nth_label (texts labels) k ≡ onward
+nth_past : (digits : List (List ℕ)) (k : ℕ) → length (map number_of digits) ≤ k → nth_label digits k ≡ onward
 nth_past [] k le = refl
 nth_past (x ∷ xs) zero le = absurd (omega arith)
 nth_past (x ∷ xs) (suc k) le = nth_past xs k (omega arith)
-
-pub targets_at : (labels : List (Vec ℕ)) (k : ℕ) (l : Vec ℕ) → k < length labels → l ≡ get_or labels k l → AllByRecursion IsTarget (map number_of (texts labels)) → IsTarget (number_of l.items)
-targets_at [] k l lt is h = absurd (omega arith)
-targets_at (x ∷ xs) zero l lt is h = subst (λ (y : Vec ℕ). IsTarget (number_of y.items)) (sym is) h.0
-targets_at (x ∷ xs) (suc k) l lt is h = targets_at xs k l (omega arith) is h.1
 
 value_is : (z : ℤ) (count : ℕ) → FitsUnsignedBits 64 z → count ≡ nat_abs z → z ≡ pos count
 value_is (pos n) count fits e = ap pos (sym e)
 value_is (negsuc n) count fits e = absurd fits
 
-module _ (labels : List (Vec ℕ)) (z value : ℤ) (same : z ≡ value) (fits : FitsUnsignedBits 64 z) where
-  pub counted_some : (count : ℕ) (l : Vec ℕ) (s : ℕ) → count ≡ nat_abs z → (count ≡ 0 → ⊥) → count - 1 < length labels → l ≡ get_or labels (count - 1) l → s ≡ number_of l.items → at_label s ≡ by_count (texts labels) value
-  counted_some zero l s size some lt is at = absurd (some refl)
-  counted_some (suc k) l s size some lt is at =
+module _ (labels : List ℕ) (digits : List (List ℕ)) (are : map number_of digits ≡ labels) (z value : ℤ) (same : z ≡ value) (fits : FitsUnsignedBits 64 z) where
+  pub counted_some : (count s : ℕ) → count ≡ nat_abs z → (count ≡ 0 → ⊥) → count - 1 < length labels → s ≡ get_or labels (count - 1) s → at_label s ≡ by_count digits value
+  counted_some zero s size some lt is = absurd (some refl)
+  counted_some (suc k) s size some lt is =
       let here : suc k - 1 ≡ k = omega arith in
-      ap at_label at ∙ sym (nth_there labels k l (subst (λ n. n < length labels) here lt) (is ∙ ap (λ n. get_or labels n l) here)) ∙ ap (by_count (texts labels)) (sym (value_is z (suc k) fits size) ∙ same)
+      let inside = subst (λ (ls : List ℕ). k < length ls) (sym are) (subst (λ n. n < length labels) here lt) in
+      let there = subst (λ (ls : List ℕ). s ≡ get_or ls k s) (sym are) (is ∙ ap (λ n. get_or labels n s) here) in
+      sym (nth_there digits k s inside there) ∙ ap (by_count digits) (sym (value_is z (suc k) fits size) ∙ same)
 
-  pub counted_none : (count : ℕ) → count ≡ nat_abs z → (count ≡ 0 → ⊥) → length labels ≤ count - 1 → onward ≡ by_count (texts labels) value
+  pub counted_none : (count : ℕ) → count ≡ nat_abs z → (count ≡ 0 → ⊥) → length labels ≤ count - 1 → onward ≡ by_count digits value
   counted_none zero size some le = absurd (some refl)
   counted_none (suc k) size some le =
       let here : suc k - 1 ≡ k = omega arith in
-      sym (nth_past labels k (subst (λ n. length labels ≤ n) here le)) ∙ ap (by_count (texts labels)) (sym (value_is z (suc k) fits size) ∙ same)
+      let past = subst (λ (ls : List ℕ). length ls ≤ k) (sym are) (subst (λ n. length labels ≤ n) here le) in
+      sym (nth_past digits k past) ∙ ap (by_count digits) (sym (value_is z (suc k) fits size) ∙ same)

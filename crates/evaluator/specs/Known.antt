@@ -1,5 +1,5 @@
--- Statements whose variables have cells and whose labels statements can have, and where the target of an assignment is.
-use Rattle.std.specs.Prelude.{◌≡◌, ◌<◌, ◌^◌, ℕ, Bool, List, length, Option, Some, None, IsSome, IsTrue}
+-- Statements whose variables have cells and whose labels statements can have.
+use Rattle.std.specs.Prelude.{◌≡◌, ◌<◌, ◌^◌, ℕ, Bool, List, length, Some, None, IsTrue}
 use Rattle.std.specs.List.{AllByRecursion}
 use Rattle.meaning.specs.declared.syntax.Tree.{Tree}
 use Rattle.meaning.specs.LabelRules.{transfers_of}
@@ -7,10 +7,9 @@ use Rattle.meaning.specs.Scopes.{defined_by}
 use Rattle.meaning.specs.Syntax.{ExprTree, ExprsTree, FormatTree, LimitsTree, ListItemTree, ListItemsTree, no_items, more_items, value_item, loop_item, ItemTree, ShapeTree, assignment, doing}
 use Rattle.meaning.specs.Uses.{count, is_one_of}
 use Rattle.meaning.specs.Values.{Arrays, dimensions_in}
-use Rattle.expressions.specs.declared.place.Place.{Place}
 use Rattle.checker.specs.Checked.{items_in}
 use Rattle.checker.specs.Numbered.{variables_of}
-use Rattle.checker.specs.Whereabouts.{IsPlace, where_in}
+use Rattle.programs.specs.Programs.{IsStatement}
 use Rattle.values.specs.Programs.{scope_in}
 use Rattle.marks.specs.Quiet.{output_in, under}
 
@@ -61,14 +60,10 @@ IsCountedItem t x = IsCountedItemIn (scope_in t).arrays (variables_of (items_in 
 abbrev pub IsKnownShape : Tree → ShapeTree → Type 0
 IsKnownShape t s = IsKnownBy (scope_in t).arrays (variables_of (items_in t)) s
 
--- of a logical IF, the statement under it
-abbrev pub IsKnown : Tree → ItemTree → Type 0
-IsKnown t x = IsKnownShape t (under x.shape)
+-- a statement of the program; of a logical IF, the statement under it is known
+pub record IsKnown (t : Tree) (x : ItemTree) : Type 0 where
+  pub is : IsStatement t x
+  pub known : IsKnownShape t (under x.shape)
 
 abbrev pub AreKnown : Tree → List ItemTree → Type 0
 AreKnown t items = AllByRecursion (IsKnown t) items
-
--- where the target of an assignment is; nowhere where it defines a statement function
-abbrev pub IsTargetOf : Tree → List ℕ → ShapeTree → Option Place → Type 0
-IsTargetOf t n s (Some p) = (defined_by (scope_in t).arrays s ≡ None) × IsPlace (where_in t n) p
-IsTargetOf t n s None = IsSome (defined_by (scope_in t).arrays s)

@@ -14,11 +14,11 @@ use Rattle.meaning.specs.Lists.{listed, list_limit}
 use Rattle.meaning.specs.Maps.{Map, put}
 use Rattle.meaning.specs.Scopes.{scope_of}
 use Rattle.meaning.specs.Stores.{Cells, World, Does}
-use Rattle.meaning.specs.Syntax.{ExprTree, ExprsTree, ItemTree, LimitsTree, ListItemsTree, ShapeTree, shape_tree}
+use Rattle.meaning.specs.Syntax.{ExprTree, ExprsTree, ItemTree, LimitsTree, ListItemsTree, ShapeTree, assignment, shape_tree}
 use Rattle.meaning.specs.Trees.{Members, Arms, members_tree}
 use Rattle.meaning.specs.Trips.{span_of}
 use Rattle.checker.specs.Starts.{map_of}
-use Rattle.values.specs.Programs.{map_at, scope_in}
+use Rattle.values.specs.Programs.{IsCellAt, map_at, scope_in}
 use Rattle.evaluator.specs.declared.limits.Span.{Span}
 use Rattle.evaluator.specs.Limited.{SpanIs}
 use Rattle.evaluator.specs.Listing.{ListIs}
@@ -33,6 +33,16 @@ SetsOver t u v n x = Does u v (λ m k. map_at t k ≡ put (map_at t m) n [] x)
 
 abbrev pub AssignsOver : Tree → World → World → List ℕ → ExprsTree → ExprTree → Result (Unit {0}) FaultKind → Type 0
 AssignsOver t u v n es e r = Does u v (λ m k. Assigns (scope_in t) n es e (map_at t m) (map_at t k) r)
+
+-- the same of an assignment statement
+abbrev pub AssignsAs : Tree → World → World → ShapeTree → Result (Unit {0}) FaultKind → Type 0
+AssignsAs t u v (assignment n es e) r = AssignsOver t u v n es e r
+AssignsAs t u v s r = ⊥
+
+-- the subscripts of its target lead to a cell, or have a leftmost fault
+abbrev pub LeadsAs : Tree → ShapeTree → Result ℕ FaultKind → Cells → Type 0
+LeadsAs t (assignment n es e) r m = IsCellAt t n es r m
+LeadsAs t s r m = ⊥
 
 abbrev pub AddsOver : Tree → World → World → List ℕ → ℤ → Result (Unit {0}) FaultKind → Type 0
 AddsOver t u v n by r = Does u v (λ m k. Adds n by (map_at t m) (map_at t k) r)

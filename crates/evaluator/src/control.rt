@@ -1,29 +1,32 @@
 //! Statements that stand by themselves and write nothing (ANSI X3.9-1978, 10.1, 11.1 to 11.5, 11.11 and 11.12), and the
 //! conditions of block IFs (11.6 and 11.7).
 
-ghost use Rattle.std.specs.Prelude.{◌≡◌, ◌<◌, ◌≤◌, Bool, List, IsOk, IsTrue, IfOk, map, not};
-ghost use Rattle.std.specs.List.{AllByRecursion};
+ghost use Rattle.std.specs.Prelude.{◌≡◌, ◌<◌, ◌≤◌, ℕ, List, IsOk, IsTrue, IfOk, map, not};
 ghost use Rattle.meaning.specs.Characters.{number_of};
 ghost use Rattle.meaning.specs.Execution.{at_label, by_count, by_sign, simple, step};
 ghost use Rattle.meaning.specs.Maps.{Map};
 ghost use Rattle.meaning.specs.Stores.{IsLater, Reads};
-ghost use Rattle.meaning.specs.Syntax.{ItemTree, StopTree, arithmetic_if, assignment, computed_going, continuing, going, stopping, expr_tree, exprs_tree, shape_tree};
+ghost use Rattle.meaning.specs.Syntax.{ItemTree, ShapeTree, StopTree, continuing, expr_tree, logical_if, shape_tree, stopping};
 ghost use Rattle.meaning.specs.Trees.{item_tree};
 ghost use Rattle.checker.specs.Checked.{items_in, count_in};
-ghost use Rattle.evaluator.specs.Known.{IsKnown, IsKnownShape, IsTarget};
+ghost use Rattle.programs.specs.Acts.{Acts, Assigns, Goes, GoesByCount, GoesBySign};
+ghost use Rattle.programs.specs.Asked.{ConditionIs};
+ghost use Rattle.programs.specs.Codes.{IsCode};
+ghost use Rattle.programs.specs.Programs.{IsStatement};
+ghost use Rattle.evaluator.specs.Known.{IsKnown};
 ghost use Rattle.evaluator.specs.Over.{MovesOver, StaysAt, TestsAt};
 ghost use Rattle.evaluator.specs.Places.{next_of};
 ghost use Rattle.marks.specs.Quiet.{is_writing, writes};
 ghost use Rattle.evaluator.specs.Statements.{Moves, Spends, TakesTurn};
 
-use crate::assignment::{assign, target_of};
-use crate::shapes::{condition_of, logical_if_of};
+use crate::assignment::assign;
+use crate::shapes::logical_if_of;
 use array_store::Store;
-use checker::Program;
 use expressions::{as_integer, as_logical};
 use meaning::ending::{Fault, FaultKind, Outcome};
-use meaning::number::number;
-use meaning::syntax::{Expr, Exprs, Item, Shape};
+use meaning::syntax::{Expr, Item, Shape};
+use postfix::Code;
+use programs::{Action, Program, Target};
 use std::alloc::AllocError;
 use values::value;
 
@@ -38,46 +41,31 @@ pub fn take_turn(turns: &mut u64) -> bool
     true
 }
 
-// The label that digits spell.
-fn target(digits: &[u8]) -> u32
-    requires { IsTarget (number_of digits.now) }
-    ensures { result ≡ number_of digits.now }
-{
-    number(digits) as u32
-}
-
-// Executes an assignment, or passes over it where it defines a statement function.
+// Executes an assignment.
 fn run_assignment<S: Store>(
     program: &Program,
     line: u32,
-    name: &[u8],
-    subscripts: &Exprs,
-    expression: &Expr,
+    shape: &Shape,
+    place: &Target,
+    code: &Code,
     store: &mut S,
     turns: &mut u64,
 ) -> Result<Outcome, AllocError>
-    requires known { IsKnownShape program.now
-        (assignment name.now (exprs_tree subscripts.now) (expr_tree expression.now)) }
+    requires assigns { Assigns program.now place.now code.now (shape_tree shape.now) }
     requires sized { (S.world store.old).cells ≡ count_in program.now }
     ensures does { IfOk result (MovesOver program.now (S.world store.old) (S.world store.new)
-        (simple (items_in program.now)
-        (assignment name.now (exprs_tree subscripts.now) (expr_tree expression.now)) line)
-        turns.old turns.new) }
+        (simple (items_in program.now) (shape_tree shape.now) line) turns.old turns.new) }
     ensures spends { IfOk result (λ o. Spends o turns.old turns.new) }
     ensures sure { IsTrue (S.world store.old).sure → IsOk result }
     ensures later { IsLater (S.world store.old) (S.world store.new) }
 {
-    let place = match target_of(program, name, subscripts) {
-        Some(place) => place,
-        None => return Ok(Outcome::Normal),
-    };
     if !take_turn(turns) {
         return Ok(Outcome::Fault(Fault {
             kind: FaultKind::F4,
             line,
         }));
     }
-    match assign(program, name, place, subscripts, expression, store)? {
+    match assign(program, shape, place, code, store)? {
         Ok(()) => Ok(Outcome::Normal),
         Err(kind) => Ok(Outcome::Fault(Fault { kind, line })),
     }
@@ -99,10 +87,9 @@ fn run_continue(line: u32, turns: &mut u64) -> Outcome
 }
 
 // Executes a GO TO statement.
-fn run_go_to(line: u32, label: &[u8], turns: &mut u64) -> Outcome
-    requires { IsTarget (number_of label.now) }
-    ensures moves { (all : List ItemTree) (m : Map) →
-        Moves (λ go. simple all (going label.now) line m turns.old go) turns.old m turns.new result }
+fn run_go_to(line: u32, label: u32, turns: &mut u64) -> Outcome
+    ensures moves { (all : List ItemTree) (s : ShapeTree) (m : Map) → Goes label s →
+        Moves (λ go. simple all s line m turns.old go) turns.old m turns.new result }
     ensures spends { Spends result turns.old turns.new }
 {
     if !take_turn(turns) {
@@ -111,7 +98,7 @@ fn run_go_to(line: u32, label: &[u8], turns: &mut u64) -> Outcome
             line,
         });
     }
-    Outcome::Left(target(label))
+    Outcome::Left(label)
 }
 
 // Executes a STOP statement.
@@ -130,14 +117,14 @@ fn run_stop(line: u32, turns: &mut u64) -> Outcome
 }
 
 // The label that a computed GO TO picks: the first at 1, and so on; none where there is none.
-fn counted_target(labels: &[Vec<u8>], value: i32) -> Option<u32>
-    requires { AllByRecursion IsTarget (map number_of (map (λ l. l.items) labels.now)) }
-    ensures { next_of result ≡ by_count (map (λ l. l.items) labels.now) value }
+fn counted_target(labels: &[u32], value: i32) -> Option<u32>
+    ensures { (digits : List (List ℕ)) → map number_of digits ≡ labels.now →
+        next_of result ≡ by_count digits value }
 {
     match usize::try_from(value) {
         Ok(0) => None,
         Ok(count) => match labels.get(count - 1) {
-            Some(label) => Some(target(label)),
+            Some(label) => Some(*label),
             None => None,
         },
         Err(_) => None,
@@ -148,16 +135,16 @@ fn counted_target(labels: &[Vec<u8>], value: i32) -> Option<u32>
 fn run_computed_go_to<S: Store>(
     program: &Program,
     line: u32,
-    labels: &[Vec<u8>],
-    expression: &Expr,
+    shape: &Shape,
+    labels: &[u32],
+    code: &Code,
     store: &mut S,
     turns: &mut u64,
 ) -> Outcome
-    requires targets { AllByRecursion IsTarget (map number_of (map (λ l. l.items) labels.now)) }
+    requires goes { GoesByCount program.now labels.now code.now (shape_tree shape.now) }
     requires sized { (S.world store.old).cells ≡ count_in program.now }
-    ensures reads { (comma : Bool) → Reads (S.world store.old) (S.world store.new)
-        (StaysAt program.now (simple (items_in program.now)
-        (computed_going (map (λ l. l.items) labels.now) comma (expr_tree expression.now)) line)
+    ensures reads { Reads (S.world store.old) (S.world store.new)
+        (StaysAt program.now (simple (items_in program.now) (shape_tree shape.now) line)
         turns.old turns.new result) }
     ensures spends { Spends result turns.old turns.new }
     ensures cells { (S.world store.new).cells ≡ (S.world store.old).cells }
@@ -168,7 +155,7 @@ fn run_computed_go_to<S: Store>(
             line,
         });
     }
-    match value(program, expression, store) {
+    match value(program, code, store) {
         Ok(x) => match counted_target(labels, as_integer(x)) {
             Some(label) => Outcome::Left(label),
             None => Outcome::Normal,
@@ -178,39 +165,35 @@ fn run_computed_go_to<S: Store>(
 }
 
 // The label that an arithmetic IF picks, by a value that is negative, zero or positive.
-fn signed_target(value: i32, negative: &[u8], zero: &[u8], positive: &[u8]) -> u32
-    requires negative { IsTarget (number_of negative.now) }
-    requires zero { IsTarget (number_of zero.now) }
-    requires positive { IsTarget (number_of positive.now) }
-    ensures { at_label result ≡ by_sign negative.now zero.now positive.now value }
+fn signed_target(value: i32, negative: u32, zero: u32, positive: u32) -> u32
+    ensures { (below at_zero above : List ℕ) → number_of below ≡ negative → number_of at_zero ≡ zero →
+        number_of above ≡ positive → at_label result ≡ by_sign below at_zero above value }
 {
     if value < 0 {
-        return target(negative);
+        return negative;
     }
     if value == 0 {
-        return target(zero);
+        return zero;
     }
-    target(positive)
+    positive
 }
 
 // Executes an arithmetic IF statement.
 fn run_arithmetic_if<S: Store>(
     program: &Program,
     line: u32,
-    expression: &Expr,
-    negative: &[u8],
-    zero: &[u8],
-    positive: &[u8],
+    shape: &Shape,
+    code: &Code,
+    negative: u32,
+    zero: u32,
+    positive: u32,
     store: &mut S,
     turns: &mut u64,
 ) -> Outcome
-    requires negative { IsTarget (number_of negative.now) }
-    requires zero { IsTarget (number_of zero.now) }
-    requires positive { IsTarget (number_of positive.now) }
+    requires goes { GoesBySign program.now code.now negative zero positive (shape_tree shape.now) }
     requires sized { (S.world store.old).cells ≡ count_in program.now }
     ensures reads { Reads (S.world store.old) (S.world store.new)
-        (StaysAt program.now (simple (items_in program.now)
-        (arithmetic_if (expr_tree expression.now) negative.now zero.now positive.now) line)
+        (StaysAt program.now (simple (items_in program.now) (shape_tree shape.now) line)
         turns.old turns.new result) }
     ensures spends { Spends result turns.old turns.new }
     ensures cells { (S.world store.new).cells ≡ (S.world store.old).cells }
@@ -221,7 +204,7 @@ fn run_arithmetic_if<S: Store>(
             line,
         });
     }
-    match value(program, expression, store) {
+    match value(program, code, store) {
         Ok(x) => Outcome::Left(signed_target(as_integer(x), negative, zero, positive)),
         Err(kind) => Outcome::Fault(Fault { kind, line }),
     }
@@ -232,10 +215,11 @@ fn run_simple<S: Store>(
     program: &Program,
     line: u32,
     shape: &Shape,
+    action: &Action,
     store: &mut S,
     turns: &mut u64,
 ) -> Result<Outcome, AllocError>
-    requires known { IsKnownShape program.now (shape_tree shape.now) }
+    requires acts { Acts program.now action.now (shape_tree shape.now) }
     requires quiet { IsTrue (not (writes (shape_tree shape.now))) }
     requires sized { (S.world store.old).cells ≡ count_in program.now }
     ensures does { IfOk result (MovesOver program.now (S.world store.old) (S.world store.new)
@@ -244,27 +228,94 @@ fn run_simple<S: Store>(
     ensures sure { IsTrue (S.world store.old).sure → IsOk result }
     ensures later { IsLater (S.world store.old) (S.world store.new) }
 {
-    match shape {
-        Shape::Assignment {
-            name,
-            subscripts,
-            value,
-        } => run_assignment(program, line, name, subscripts, value, store, turns),
-        Shape::Continue => Ok(run_continue(line, turns)),
-        Shape::GoTo(label) => Ok(run_go_to(line, label, turns)),
-        Shape::ComputedGoTo {
-            labels,
-            comma: _,
-            value,
-        } => Ok(run_computed_go_to(program, line, labels, value, store, turns)),
-        Shape::ArithmeticIf {
-            value,
-            negative,
-            zero,
-            positive,
-        } => Ok(run_arithmetic_if(program, line, value, negative, zero, positive, store, turns)),
-        Shape::Stop(_) => Ok(run_stop(line, turns)),
-        _ => Ok(Outcome::Normal),
+    match action {
+        Action::Assign(place, code) => {
+            run_assignment(program, line, shape, place, code, store, turns)
+        }
+        Action::Continue => Ok(run_continue(line, turns)),
+        Action::GoTo(label) => Ok(run_go_to(line, *label, turns)),
+        Action::ComputedGoTo(labels, code) => Ok(run_computed_go_to(
+            program, line, shape, labels, code, store, turns,
+        )),
+        Action::ArithmeticIf(code, negative, zero, positive) => Ok(run_arithmetic_if(
+            program, line, shape, code, *negative, *zero, *positive, store, turns,
+        )),
+        Action::Stop => Ok(run_stop(line, turns)),
+        Action::Pass => Ok(Outcome::Normal),
+        Action::Output => Ok(Outcome::Normal),
+        Action::If(_, _) => Ok(Outcome::Normal),
+        Action::Test(_) => Ok(Outcome::Normal),
+        Action::Repeat(_) => Ok(Outcome::Normal),
+    }
+}
+
+// Executes a logical IF over a statement that writes nothing.
+fn run_if<S: Store>(
+    program: &Program,
+    line: u32,
+    condition: &Expr,
+    statement: &Shape,
+    code: &Code,
+    action: &Action,
+    store: &mut S,
+    turns: &mut u64,
+) -> Result<Outcome, AllocError>
+    requires code { IsCode program.now (expr_tree condition.now) code.now }
+    requires acts { Acts program.now action.now (shape_tree statement.now) }
+    requires quiet { IsTrue (not (writes (shape_tree statement.now))) }
+    requires sized { (S.world store.old).cells ≡ count_in program.now }
+    ensures does { IfOk result (MovesOver program.now (S.world store.old) (S.world store.new)
+        (step (items_in program.now)
+        (logical_if (expr_tree condition.now) (shape_tree statement.now)) line)
+        turns.old turns.new) }
+    ensures spends { IfOk result (λ o. Spends o turns.old turns.new) }
+    ensures sure { IsTrue (S.world store.old).sure → IsOk result }
+    ensures later { IsLater (S.world store.old) (S.world store.new) }
+{
+    if !take_turn(turns) {
+        return Ok(Outcome::Fault(Fault {
+            kind: FaultKind::F4,
+            line,
+        }));
+    }
+    match value(program, code, store) {
+        Ok(x) => {
+            if as_logical(x) {
+                return run_simple(program, line, statement, action, store, turns);
+            }
+            Ok(Outcome::Normal)
+        }
+        Err(kind) => Ok(Outcome::Fault(Fault { kind, line })),
+    }
+}
+
+// Executes a statement that writes nothing, by what it needs.
+fn run_action<S: Store>(
+    program: &Program,
+    item: &Item,
+    action: &Action,
+    store: &mut S,
+    turns: &mut u64,
+) -> Result<Outcome, AllocError>
+    requires acts { Acts program.now action.now (shape_tree item.now.form.shape.value) }
+    requires quiet { IsTrue (not (is_writing (shape_tree item.now.form.shape.value))) }
+    requires sized { (S.world store.old).cells ≡ count_in program.now }
+    ensures does { IfOk result (MovesOver program.now (S.world store.old) (S.world store.new)
+        (step (items_in program.now) (shape_tree item.now.form.shape.value) item.now.line)
+        turns.old turns.new) }
+    ensures spends { IfOk result (λ o. Spends o turns.old turns.new) }
+    ensures sure { IsTrue (S.world store.old).sure → IsOk result }
+    ensures later { IsLater (S.world store.old) (S.world store.new) }
+{
+    let line = item.line;
+    match logical_if_of(item) {
+        Some((condition, statement)) => match action.conditional() {
+            Some((code, under)) => run_if(
+                program, line, condition, statement, code, under, store, turns,
+            ),
+            None => Ok(Outcome::Normal),
+        },
+        None => run_simple(program, line, &*item.form.shape, action, store, turns),
     }
 }
 
@@ -286,26 +337,20 @@ pub fn run_item<S: Store>(
     ensures sure { IsTrue (S.world store.old).sure → IsOk result }
     ensures later { IsLater (S.world store.old) (S.world store.new) }
 {
-    let line = item.line;
-    match logical_if_of(item) {
-        Some((condition, statement)) => {
-            if !take_turn(turns) {
-                return Ok(Outcome::Fault(Fault {
-                    kind: FaultKind::F4,
-                    line,
-                }));
-            }
-            match value(program, condition, store) {
-                Ok(x) => {
-                    if as_logical(x) {
-                        return run_simple(program, line, statement, store, turns);
-                    }
-                    Ok(Outcome::Normal)
-                }
-                Err(kind) => Ok(Outcome::Fault(Fault { kind, line })),
-            }
-        }
-        None => run_simple(program, line, &*item.form.shape, store, turns),
+    match program.action(item.line) {
+        Some(action) => run_action(program, item, action, store, turns),
+        None => Ok(Outcome::Normal),
+    }
+}
+
+// The code of the condition of an arm of a block IF; none of ELSE.
+fn condition_in<'a>(program: &'a Program, head: &Item) -> Option<&'a Code>
+    requires { IsStatement program.now (item_tree head.now) }
+    ensures { ConditionIs program.now (shape_tree head.now.form.shape.value) result }
+{
+    match program.action(head.line) {
+        Some(action) => action.condition(),
+        None => None,
     }
 }
 
@@ -318,6 +363,7 @@ pub fn test_arm<S: Store>(
     store: &mut S,
     turns: &mut u64,
 ) -> Result<bool, Fault>
+    requires known { IsStatement program.now (item_tree head.now) }
     requires sized { (S.world store.old).cells ≡ count_in program.now }
     ensures reads { Reads (S.world store.old) (S.world store.new)
         (TestsAt program.now first (item_tree head.now) turns.old turns.new result) }
@@ -326,13 +372,13 @@ pub fn test_arm<S: Store>(
     ensures cells { (S.world store.new).cells ≡ (S.world store.old).cells }
 {
     let line = head.line;
-    match condition_of(head) {
-        Some(condition) => {
+    match condition_in(program, head) {
+        Some(code) => {
             if !take_turn(turns) {
                 let kind = FaultKind::F4;
                 return Err(Fault { kind, line });
             }
-            match value(program, condition, store) {
+            match value(program, code, store) {
                 Ok(x) => Ok(as_logical(x)),
                 Err(kind) => Err(Fault { kind, line }),
             }

@@ -11,12 +11,12 @@ ghost use Rattle.evaluator.specs.Known.{HasCellsIn, IsCounted, IsCountedItem};
 ghost use Rattle.evaluator.specs.Listing.{FindsOver, item_listed};
 ghost use Rattle.evaluator.specs.Over.{ListsOver};
 
-use crate::assignment::{add_to, set_variable};
+use crate::assignment::{add_to_named, set_named};
 use crate::limits::{Span, count_of, values_of_limits};
 use array_store::Store;
-use checker::Program;
 use meaning::ending::{FaultKind, Value};
 use meaning::syntax::{Limits, ListItem, ListItems};
+use programs::Program;
 use std::alloc::{AllocError, Global};
 use values::add_item;
 
@@ -49,7 +49,7 @@ fn add_trips<S: Store>(
             Ok(()) => {}
             Err(kind) => return Ok(Err(kind)),
         }
-        match add_to(program, variable, span.step, store)? {
+        match add_to_named(program, variable, span.step, store)? {
             Ok(()) => {}
             Err(kind) => return Ok(Err(kind)),
         }
@@ -83,7 +83,7 @@ fn add_loop<S: Store>(
     *room -= 1;
     match values_of_limits(program, limits, store) {
         Ok(span) => {
-            set_variable(program, variable, span.first, store)?;
+            set_named(program, variable, span.first, store)?;
             add_trips(found, room, program, items, variable, span, store)
         }
         Err(kind) => Ok(Err(kind)),

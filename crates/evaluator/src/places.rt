@@ -7,8 +7,8 @@ ghost use Rattle.meaning.specs.Trees.{arms_tree, item_tree, members_tree};
 ghost use Rattle.marks.specs.Kept.{IsKept};
 ghost use Rattle.evaluator.specs.Places.{entry, is_entered_at};
 
-use checker::Program;
 use meaning::syntax::{Arm, Item, Member};
+use programs::Program;
 
 // Whether a statement has the label.
 fn has_label(item: &Item, label: u32) -> bool

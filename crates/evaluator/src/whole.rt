@@ -11,6 +11,7 @@ ghost use Rattle.meaning.specs.Trips.{span_of};
 ghost use Rattle.checker.specs.Checked.{items_in, count_in};
 ghost use Rattle.checker.specs.Starts.{map_of};
 ghost use Rattle.values.specs.Programs.{scope_in};
+ghost use Rattle.programs.specs.Programs.{IsStatement};
 ghost use Rattle.evaluator.specs.Known.{HasCellsIn, IsCounted, IsKnown, AreKnown};
 ghost use Rattle.evaluator.specs.Limited.{SpanIs};
 ghost use Rattle.evaluator.specs.Listing.{ListIs};
@@ -19,15 +20,15 @@ ghost use Rattle.marks.specs.Kept.{IsKept};
 ghost use Rattle.marks.specs.Quiet.{WritesNothing, is_writing};
 ghost use Rattle.evaluator.specs.Statements.{Adds, Spends};
 
-use crate::assignment::{add_to, set_variable};
+use crate::assignment::{add_to_named, set_named};
 use crate::control::{run_item, test_arm};
 use crate::limits::{Span, values_of_limits};
 use crate::listing::list_values;
 use crate::quiet::run_loop;
 use array_store::Whole;
-use checker::Program;
 use meaning::ending::{Fault, FaultKind, Outcome, Value};
 use meaning::syntax::{Item, Limits, ListItems, Loop};
+use programs::Program;
 use std::alloc::{AllocError, Global};
 
 /// Gives a variable a value.
@@ -37,7 +38,7 @@ pub fn set_whole(program: &Program, name: &[u8], x: i32, cells: &mut Whole)
     ensures set { map_of program.now cells.new ≡ put (map_of program.now cells.old) name.now [] x }
     ensures len { length cells.new ≡ length cells.old }
 {
-    match set_variable(program, name, x, cells) {
+    match set_named(program, name, x, cells) {
         Ok(()) => {}
         // A whole store refuses no write.
         Err(_) => {}
@@ -93,6 +94,7 @@ pub fn test_whole(
     cells: &mut Whole,
     turns: &mut u64,
 ) -> Result<bool, Fault>
+    requires known { IsStatement program.now (item_tree head.now) }
     requires sized { length cells.old ≡ count_in program.now }
     ensures tests { TestsIn program.now cells.old first (item_tree head.now)
         turns.old turns.new result }
@@ -117,7 +119,7 @@ pub fn add_whole(
         (map_of program.now cells.old) (map_of program.now cells.new) result }
     ensures len { length cells.new ≡ length cells.old }
 {
-    match add_to(program, name, by, cells) {
+    match add_to_named(program, name, by, cells) {
         Ok(outcome) => outcome,
         // A whole store refuses no write.
         Err(_) => Ok(()),

@@ -2,7 +2,7 @@
 -- that statements can have.
 use Rattle.std.proofs.Common.{◌≡◌, ◌+◌, arith, ℕ, ℤ, suc, Bool, true, false, ◌||◌, ◌&&◌, not, List, [], ◌∷◌, ◌++◌, length, map, Option, Some, None, Ok, refl, sym, ap, subst, ◌∙◌}
 use mathlib.Core.Path.{fun_ext}
-use Rattle.std.specs.Prelude.{◌==◌, count_by, if◌then◌else◌, is_some, is_none}
+use Rattle.std.specs.Prelude.{◌==◌, slice_get, count_by, if◌then◌else◌, is_some, is_none}
 use Rattle.std.specs.List.{AllByRecursion, filter, list_any}
 use Rattle.std.specs.Str.{bytes_eq}
 use Rattle.std.proofs.lemmas.Bool.{true≢false, eqb-true}
@@ -33,7 +33,8 @@ use Rattle.roles.proofs.NameSets.{any_with_names}
 use Rattle.checker.specs.Checked.{items_in}
 use Rattle.checker.specs.Starts.{map_of, start_in}
 use Rattle.checker.specs.Numbered.{is_variable, names_at, names_from, variables_of}
-use Rattle.evaluator.specs.Known.{AreCounted, AreKnown, HasCells, IsKnownBy, IsTarget}
+use Rattle.programs.specs.Programs.{IsStatement}
+use Rattle.evaluator.specs.Known.{AreCounted, AreKnown, HasCells, IsKnownBy, IsKnownShape, IsTarget}
 use Rattle.marks.specs.Quiet.{output_in, under}
 use Rattle.executor.specs.Labelled.{AreLabelled, IsLabel, IsLabelled}
 
@@ -423,8 +424,8 @@ held_there all n among variable =
     ∙ any-filter_same (bytes_eq n) (is_variable r) true (λ k same. subst (λ m. is_variable r m ≡ true) ((bytes_eq-Decides n k).0 same) variable) names
     ∙ among
 
-pub all_known : (t : Tree) → checked (nested t) ≡ Ok (nested t) → IsLabelled t → AreKnown t (items_in t)
-all_known t accepted labelled =
+shapes_known : (t : Tree) → checked (nested t) ≡ Ok (nested t) → IsLabelled t → AllByRecursion (λ (x : ItemTree). IsKnownShape t (under x.shape)) (items_in t)
+shapes_known t accepted labelled =
     let u = nested t in
     let xs = items_in t in
     let r = roles_of xs in
@@ -438,6 +439,31 @@ all_known t accepted labelled =
     let k2 = none_front (told_in (breaks_transfers r xs) K2 (in_body u.body) u.body) _ lists in
     let k9 = none_behind (told_in (breaks_transfers r xs) K2 (in_body u.body) u.body) _ lists in
     each_known r (variables_of xs) xs labelled.labels [] xs (none_front (told (is_disputed r) K4 [] xs) _ k4) (none_front (told (has_misuse r) K8 [] xs) _ k8) (all_allowed (breaks_loops r) K9 (in_body u.body) u.body k9) (all_allowed (breaks_transfers r xs) K2 (in_body u.body) u.body k2) (held_there xs)
+
+-- ---- statements
+
+in_the_middle : (before xs : List ItemTree) (x : ItemTree) → slice_get (before ++ x ∷ xs) (length before) ≡ Some x
+in_the_middle [] xs x = refl
+in_the_middle (b ∷ before) xs x = in_the_middle before xs x
+
+behind_one : (before xs : List ItemTree) (x : ItemTree) → (before ++ x ∷ []) ++ xs ≡ before ++ x ∷ xs
+behind_one [] xs x = refl
+behind_one (b ∷ before) xs x = ap (λ ys. b ∷ ys) (behind_one before xs x)
+
+-- each of them is a statement
+statements_behind : (t : Tree) (before xs : List ItemTree) → items_in t ≡ before ++ xs → AllByRecursion (IsStatement t) xs
+statements_behind t before [] is = tt
+statements_behind t before (x ∷ xs) is = (
+  record { at = length before; is = ap (λ ys. slice_get ys (length before)) is ∙ in_the_middle before xs x },
+  statements_behind t (before ++ x ∷ []) xs (is ∙ sym (behind_one before xs x)),
+)
+
+known_by : (t : Tree) (xs : List ItemTree) → AllByRecursion (IsStatement t) xs → AllByRecursion (λ (x : ItemTree). IsKnownShape t (under x.shape)) xs → AreKnown t xs
+known_by t [] are known = tt
+known_by t (x ∷ xs) are known = (record { is = are.0; known = known.0 }, known_by t xs are.1 known.1)
+
+pub all_known : (t : Tree) → checked (nested t) ≡ Ok (nested t) → IsLabelled t → AreKnown t (items_in t)
+all_known t accepted labelled = known_by t (items_in t) (statements_behind t [] (items_in t) refl) (shapes_known t accepted labelled)
 
 -- ---- the start
 

@@ -20,7 +20,7 @@ use Rattle.meaning.specs.Promise.{Told, Took, IsBroken}
 use Rattle.meaning.proofs.Running.{more-more}
 use Rattle.evaluator.specs.Listing.{Gives}
 use Rattle.marks.specs.Quiet.{output_in, is_writing, under}
-use Rattle.evaluator.specs.Quiet.{is_logical_if}
+use Rattle.programs.specs.Asked.{is_logical_if}
 use Rattle.evaluator.specs.Statements.{Leaves, Moves, Comes}
 use Rattle.evaluator.proofs.Executed.{fault_at, one_less, turn_none, turn_goes, turn_fails}
 use Rattle.executor.specs.Recorded.{AreEdited, AreRecorded, recorded}

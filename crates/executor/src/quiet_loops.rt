@@ -12,10 +12,10 @@ ghost use Rattle.marks.specs.Quiet.{WritesNothing};
 ghost use Rattle.evaluator.specs.Statements.{Spends};
 
 use array_store::Whole;
-use checker::Program;
 use evaluator::loop_whole;
 use meaning::ending::Outcome;
 use meaning::syntax::Loop;
+use programs::Program;
 use std::alloc::AllocError;
 
 /// Executes DO statements without output, each of which stands in no other such one.

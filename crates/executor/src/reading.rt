@@ -9,13 +9,13 @@ ghost use Rattle.checker.specs.Checked.{tree_of};
 ghost use Rattle.evaluator.specs.Known.{IsTarget};
 ghost use Rattle.executor.specs.Labelled.{AreLabelled, IsLabel, IsLabelled};
 
-use checker::{Program, check};
 use lexer::bare;
 use meaning::refusal::{Broken, Refusal, lesser};
 use meaning::statement::Statement;
 use meaning::syntax::Item;
 use nesting::tree;
 use parser::form;
+use programs::{Program, check};
 use source_columns::statements;
 use std::alloc::Global;
 

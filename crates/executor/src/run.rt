@@ -12,10 +12,10 @@ use crate::reading::program_in;
 use crate::sink::Sink;
 use crate::stopping::message_in;
 use crate::walk::execute;
-use checker::Program;
 use meaning::ending::{Ending, Outcome};
 use meaning::plan::Plan;
 use meaning::refusal::Refusal;
+use programs::Program;
 use std::alloc::Global;
 
 // Runs a program that keeps the rules.

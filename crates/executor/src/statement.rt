@@ -13,7 +13,7 @@ ghost use Rattle.checker.specs.Starts.{map_of};
 ghost use Rattle.values.specs.Programs.{scope_in};
 ghost use Rattle.evaluator.specs.Known.{IsCounted, IsKnown};
 ghost use Rattle.marks.specs.Quiet.{output_in, output_tree};
-ghost use Rattle.evaluator.specs.Quiet.{is_logical_if};
+ghost use Rattle.programs.specs.Asked.{is_logical_if};
 ghost use Rattle.evaluator.specs.Statements.{Spends};
 ghost use Rattle.executor.specs.Walk.{StepsIn, output_as};
 ghost use Rattle.executor.specs.Recorded.{AreEdited, AreRecorded, recorded};
@@ -21,15 +21,15 @@ ghost use Rattle.executor.specs.Recorded.{AreEdited, AreRecorded, recorded};
 use crate::halt::Halt;
 use crate::sink::{Sink, put_all};
 use array_store::Whole;
-use checker::Program;
 use evaluator::{item_whole, list_whole, logical_if_of, take_turn};
 use expressions::as_logical;
 use format_edit::{EditFault, Format, FormatFault, edit};
 use marks::output_of;
 use meaning::ending::{Fault, FaultKind, Outcome, Value};
 use meaning::syntax::{Expr, FormatSource, Item, ListItems, Shape};
+use programs::Program;
 use std::alloc::{AllocError, Global};
-use values::value;
+use values::written_value;
 
 // The records of a WRITE or PRINT statement, or its fault; implied DOs set their variables.
 fn recorded_list(
@@ -163,7 +163,7 @@ fn condition_value(
     ensures kept { map_of program.now cells.new ≡ map_of program.now cells.old }
     ensures len { length cells.new ≡ length cells.old }
 {
-    value(program, condition, cells)
+    written_value(program, condition, cells)
 }
 
 // Executes a logical IF over a WRITE or PRINT statement: it takes a turn, and the statement, where the condition is true,

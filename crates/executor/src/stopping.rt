@@ -8,9 +8,9 @@ ghost use Rattle.meaning.specs.Trees.{none, flat, flat_arms, item_tree, arms_tre
 ghost use Rattle.checker.specs.Checked.{items_in};
 ghost use Rattle.executor.specs.Located.{item_at};
 
-use checker::Program;
 use meaning::ending::StopMessage;
 use meaning::syntax::{Arm, Item, Member, Shape, StopText};
+use programs::Program;
 use std::alloc::{AllocError, Global};
 
 // The item, if it begins at the line.

@@ -2,8 +2,8 @@ use Rattle.std.proofs.Common.{rules, ◌≤◌, refl}
 use Rattle.compiler.proofs.Room.{fits_alone}
 use Rattle.compiler.proofs.code.finished.Goals as goal
 
-pub returns-clause-safe : goal.returns-clause-safe
-returns-clause-safe c =
+pub invariant_of-result : goal.invariant_of-result
+invariant_of-result c =
     let few : c.args.needs ≤ 1024 = search rules in
     record {
       fits = fits_alone c.args.instructions.items c.args.instructions.items c.args.needs 1024 refl c.requires few;

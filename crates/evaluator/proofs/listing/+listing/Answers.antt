@@ -50,20 +50,20 @@ add_loop-returns-then-room-eq0-clause-finds g t c =
     let p = c.args.program.now in
     does_nothing _ _ (λ m. no_room p (scope_in p) (list_items_tree c.args.items.now) c.args.variable.now (limits_tree c.args.limits.now) (map_at p m) c.args.room.now c.if-room-eq0.true)
 
-pub add_loop-returns-in_ok-set_variable-in-Ok-clause-finds : goal.add_loop-returns-in_ok-set_variable-in-Ok-clause-finds
-add_loop-returns-in_ok-set_variable-in-Ok-clause-finds g t c =
+pub add_loop-returns-in_ok-set_named-in-Ok-clause-finds : goal.add_loop-returns-in_ok-set_named-in-Ok-clause-finds
+add_loop-returns-in_ok-set_named-in-Ok-clause-finds g t c =
     let p = c.args.program.now in
     let world = g.S.Store.world in
     let w0 = world c.args.store.now in
     let w1 = world c.values_of_limits.new.store in
-    let w2 = world c.set_variable.new.store in
+    let w2 = world c.set_named.new.store in
     let y = c.add_trips in
     let span = c.in-Ok.span in
     let given = c.args.room.now in
     let one : given ≡ suc (given - 1) = (let some = c.if-room-eq0.false in omega arith) in
     let fits : FitsSigned w32 span.first = search rules in
     let reads = reads_so w0 w1 _ (λ m. span_of (scope_in p) (limits_tree c.args.limits.now) (map_at p m) ≡ Ok (span_values span)) c.in-Ok.ensures.reads (λ m h. h.0) in
-    if_ok_so y.result _ _ (λ r h. loop_found p (scope_in p) (list_items_tree c.args.items.now) c.args.variable.now (limits_tree c.args.limits.now) w0 w1 w2 (world y.new.store) given (given - 1) one (span_values span) (to_z w32 (of_z w32 span.first)) (to_z-of_z w32 span.first fits) reads c.in_ok-set_variable-in-Ok.ensures.does c.args.found.now.items y.new.found.items y.new.room r h) y.ensures.finds
+    if_ok_so y.result _ _ (λ r h. loop_found p (scope_in p) (list_items_tree c.args.items.now) c.args.variable.now (limits_tree c.args.limits.now) w0 w1 w2 (world y.new.store) given (given - 1) one (span_values span) (to_z w32 (of_z w32 span.first)) (to_z-of_z w32 span.first fits) reads c.in_ok-set_named-in-Ok.ensures.does c.args.found.now.items y.new.found.items y.new.room r h) y.ensures.finds
 
 pub add_loop-returns-in-Err-clause-finds : goal.add_loop-returns-in-Err-clause-finds
 add_loop-returns-in-Err-clause-finds g t c =
@@ -113,13 +113,13 @@ pub add_trips-returns-in-Err-clause-later : goal.add_trips-returns-in-Err-clause
 add_trips-returns-in-Err-clause-later g t c =
     later-later _ (g.S.Store.world c.loop.store) _ c.loop.invariant.so_far.does.grows c.in_ok-add_items.ensures.later
 
-pub add_trips-add_to-requires-clause-sized : goal.add_trips-add_to-requires-clause-sized
-add_trips-add_to-requires-clause-sized g t c =
+pub add_trips-add_to_named-requires-clause-sized : goal.add_trips-add_to_named-requires-clause-sized
+add_trips-add_to_named-requires-clause-sized g t c =
     c.in_ok-add_items.ensures.later.cells ∙ c.loop.invariant.sized
 
-pub add_trips-returns-in_err-add_to-clause-later : goal.add_trips-returns-in_err-add_to-clause-later
-add_trips-returns-in_err-add_to-clause-later g t c =
-    later-later _ (g.S.Store.world c.loop.store) _ c.loop.invariant.so_far.does.grows (later-later _ (g.S.Store.world c.add_items.new.store) _ c.in_ok-add_items.ensures.later c.in_err-add_to.ensures.later)
+pub add_trips-returns-in_err-add_to_named-clause-later : goal.add_trips-returns-in_err-add_to_named-clause-later
+add_trips-returns-in_err-add_to_named-clause-later g t c =
+    later-later _ (g.S.Store.world c.loop.store) _ c.loop.invariant.so_far.does.grows (later-later _ (g.S.Store.world c.add_items.new.store) _ c.in_ok-add_items.ensures.later c.in_err-add_to_named.ensures.later)
 
 pub add_trips-returns-in-Err-2-clause-finds : goal.add_trips-returns-in-Err-2-clause-finds
 add_trips-returns-in-Err-2-clause-finds g t c =
@@ -130,12 +130,12 @@ add_trips-returns-in-Err-2-clause-finds g t c =
     let inv = c.loop.invariant in
     let lt : c.loop.counter < trip_count span.first span.last span.step = (let e = inv.ends in let test = c.loop-test.true in omega arith) in
     let fits : FitsSigned w32 span.step = search rules in
-    let adds = does_so _ _ _ (λ m n. Adds c.args.variable.now span.step (map_at p m) (map_at p n) (Err c.in-Err-2.kind)) (rw c.in-Err-2.is at c.in_ok-add_to.ensures.does) (λ m n h. subst (λ by. Adds c.args.variable.now by (map_at p m) (map_at p n) (Err c.in-Err-2.kind)) (to_z-of_z w32 span.step fits) h) in
-    addition_fails p items c.args.variable.now span.first span.last span.step (world c.args.store.now) (world c.loop.store) c.args.found.now.items c.loop.found.items c.args.room.now c.loop.room c.loop.counter inv.so_far (world c.add_items.new.store) lt c.add_items.new.found.items c.add_items.new.room (rw c.in-Ok.is at c.in_ok-add_items.ensures.finds) (world c.add_to.new.store) c.in-Err-2.kind adds
+    let adds = does_so _ _ _ (λ m n. Adds c.args.variable.now span.step (map_at p m) (map_at p n) (Err c.in-Err-2.kind)) (rw c.in-Err-2.is at c.in_ok-add_to_named.ensures.does) (λ m n h. subst (λ by. Adds c.args.variable.now by (map_at p m) (map_at p n) (Err c.in-Err-2.kind)) (to_z-of_z w32 span.step fits) h) in
+    addition_fails p items c.args.variable.now span.first span.last span.step (world c.args.store.now) (world c.loop.store) c.args.found.now.items c.loop.found.items c.args.room.now c.loop.room c.loop.counter inv.so_far (world c.add_items.new.store) lt c.add_items.new.found.items c.add_items.new.room (rw c.in-Ok.is at c.in_ok-add_items.ensures.finds) (world c.add_to_named.new.store) c.in-Err-2.kind adds
 
 pub add_trips-returns-in-Err-2-clause-later : goal.add_trips-returns-in-Err-2-clause-later
 add_trips-returns-in-Err-2-clause-later g t c =
-    later-later _ (g.S.Store.world c.loop.store) _ c.loop.invariant.so_far.does.grows (later-later _ (g.S.Store.world c.add_items.new.store) _ c.in_ok-add_items.ensures.later c.in_ok-add_to.ensures.later)
+    later-later _ (g.S.Store.world c.loop.store) _ c.loop.invariant.so_far.does.grows (later-later _ (g.S.Store.world c.add_items.new.store) _ c.in_ok-add_items.ensures.later c.in_ok-add_to_named.ensures.later)
 
 pub add_trips-loop-preserved : goal.add_trips-loop-preserved
 add_trips-loop-preserved g t c =
@@ -146,11 +146,11 @@ add_trips-loop-preserved g t c =
     let inv = c.loop.invariant in
     let lt : c.loop.counter < trip_count span.first span.last span.step = (let e = inv.ends in let test = c.loop-test.true in omega arith) in
     let fits : FitsSigned w32 span.step = search rules in
-    let adds = does_so _ _ _ (λ m n. Adds c.args.variable.now span.step (map_at p m) (map_at p n) (Ok tt)) (rw c.in-Ok-2.is at c.in_ok-add_to.ensures.does) (λ m n h. subst (λ by. Adds c.args.variable.now by (map_at p m) (map_at p n) (Ok tt)) (to_z-of_z w32 span.step fits) h) in
+    let adds = does_so _ _ _ (λ m n. Adds c.args.variable.now span.step (map_at p m) (map_at p n) (Ok tt)) (rw c.in-Ok-2.is at c.in_ok-add_to_named.ensures.does) (λ m n h. subst (λ by. Adds c.args.variable.now by (map_at p m) (map_at p n) (Ok tt)) (to_z-of_z w32 span.step fits) h) in
     record {
-      so_far = trip_found p items c.args.variable.now span.first span.last span.step (world c.args.store.now) (world c.loop.store) c.args.found.now.items c.loop.found.items c.args.room.now c.loop.room c.loop.counter inv.so_far (world c.add_items.new.store) lt c.add_items.new.found.items c.add_items.new.room (rw c.in-Ok.is at c.in_ok-add_items.ensures.finds) (world c.add_to.new.store) adds;
+      so_far = trip_found p items c.args.variable.now span.first span.last span.step (world c.args.store.now) (world c.loop.store) c.args.found.now.items c.loop.found.items c.args.room.now c.loop.room c.loop.counter inv.so_far (world c.add_items.new.store) lt c.add_items.new.found.items c.add_items.new.room (rw c.in-Ok.is at c.in_ok-add_items.ensures.finds) (world c.add_to_named.new.store) adds;
       ends = inv.ends;
-      sized = c.in_ok-add_to.ensures.later.cells ∙ c.in_ok-add_items.ensures.later.cells ∙ inv.sized;
+      sized = c.in_ok-add_to_named.ensures.later.cells ∙ c.in_ok-add_items.ensures.later.cells ∙ inv.sized;
     }
 
 pub add_trips-returns-clause-finds : goal.add_trips-returns-clause-finds

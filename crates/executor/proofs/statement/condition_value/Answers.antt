@@ -8,9 +8,9 @@ use Rattle.executor.proofs.statement.condition_value.Goals as goal
 pub returns-clause-is : goal.returns-clause-is
 returns-clause-is c =
     let p = c.args.program.now in
-    reads_whole c.args.cells.now c.value.new.store (λ m. value (scope_in p) (expr_tree c.args.condition.now) (map_at p m) ≡ c.value.result) c.value.ensures.reads
+    reads_whole c.args.cells.now c.written_value.new.store (λ m. value (scope_in p) (expr_tree c.args.condition.now) (map_at p m) ≡ c.written_value.result) c.written_value.ensures.reads
 
 pub returns-clause-kept : goal.returns-clause-kept
 returns-clause-kept c =
     let p = c.args.program.now in
-    kept_whole c.args.cells.now c.value.new.store p (λ m. value (scope_in p) (expr_tree c.args.condition.now) (map_at p m) ≡ c.value.result) c.value.ensures.reads
+    kept_whole c.args.cells.now c.written_value.new.store p (λ m. value (scope_in p) (expr_tree c.args.condition.now) (map_at p m) ≡ c.written_value.result) c.written_value.ensures.reads

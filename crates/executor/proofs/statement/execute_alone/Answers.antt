@@ -5,7 +5,7 @@ use Rattle.executor.proofs.Written.{outputs, output_alone, quiet_alone}
 use Rattle.executor.proofs.statement.execute_alone.Goals as goal
 
 pub execute_output-requires-clause-counted : goal.execute_output-requires-clause-counted
-execute_output-requires-clause-counted g c = c.requires.known.listed _ _ (output_alone _ _ _ c.in-Some.ensures)
+execute_output-requires-clause-counted g c = c.requires.known.known.listed _ _ (output_alone _ _ _ c.in-Some.ensures)
 
 pub item_whole-requires-clause-quiet : goal.item_whole-requires-clause-quiet
 item_whole-requires-clause-quiet g c = quiet_alone _ c.requires.alone c.in-None.ensures

@@ -9,7 +9,7 @@ use Rattle.executor.proofs.statement.execute_under.Goals as goal
 
 pub execute_if-requires-clause-counted : goal.execute_if-requires-clause-counted
 execute_if-requires-clause-counted g c =
-    c.requires.known.listed _ _ (output_under _ _ _ c.requires.logical _ c.in-Some.ensures)
+    c.requires.known.known.listed _ _ (output_under _ _ _ c.requires.logical _ c.in-Some.ensures)
 
 pub item_whole-requires-clause-quiet : goal.item_whole-requires-clause-quiet
 item_whole-requires-clause-quiet g c = quiet_under _ _ _ c.requires.logical c.in-None.ensures

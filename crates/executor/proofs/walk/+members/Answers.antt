@@ -27,7 +27,7 @@ use Rattle.marks.specs.Quiet.{under}
 use Rattle.evaluator.specs.Statements.{Adds, Moves, Comes}
 use Rattle.evaluator.proofs.Composed.{comes_none, if_ok_so}
 use Rattle.evaluator.proofs.Executed.{fault_at, passes_over}
-use Rattle.evaluator.proofs.Looped.{known_at, head_known, range_known, arms_known, body_known, loop_does, block_does, unless_do, do_unmoved, do_faults, arms_left, no_arm_left, next_arm, test_ends}
+use Rattle.evaluator.proofs.Looped.{known_at, head_known, range_known, arms_known, arm_known, body_known, loop_does, block_does, unless_do, do_unmoved, do_faults, arms_left, no_arm_left, next_arm, test_ends}
 use Rattle.evaluator.proofs.Turning.{smaller_on, smaller_back, after_test, spends_less}
 use denote.Param.Weighed.{at_most, most}
 use Rattle.meaning.proofs.syntax.Member.TheLaws.{the_size}
@@ -42,7 +42,10 @@ walk_arms-loop-arm-init g t c =
     record { so_far = comes_none _ c.args.turns.now; sized = c.requires.sized; len = refl; same = refl; fewer = omega arith; taken = λ e. absurd (false≢true (sym e)) }
 
 pub walk_arms-test_whole-requires : goal.walk_arms-test_whole-requires
-walk_arms-test_whole-requires g t c = record { sized = c.loop-arm.invariant.sized }
+walk_arms-test_whole-requires g t c =
+    let p = c.args.program.now in
+    let head = arm_known (IsKnown p) c.args.arms.now c.loop-arm.arm-index c.arm-item.result c.loop-arm-test.true c.arm-item.is c.requires.named in
+    record { known = head.is; sized = c.loop-arm.invariant.sized }
 
 pub walk_arms-walk_list-requires : goal.walk_arms-walk_list-requires
 walk_arms-walk_list-requires g t c =
@@ -571,7 +574,7 @@ walk_loop-returns-in_err-outcome-clause-steps g t c =
 pub walk_loop-walk_do-requires : goal.walk_loop-walk_do-requires
 walk_loop-walk_do-requires g t c =
     let d = c.in-Some.ensures in
-    let held = c.requires.head.counted d.label d.comma _ _ (ap under d.is) in
+    let held = c.requires.head.known.counted d.label d.comma _ _ (ap under d.is) in
     let given = c.decreases in
     λ κs h. (omega arith, (search rules, (search rules, (c.requires.ready, (c.requires.named, (c.requires.kept, (held, (c.requires.sized, c.requires.unrefused))))))))
 

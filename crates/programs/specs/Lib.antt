@@ -1,0 +1,5 @@
+pub mod Codes
+pub mod Acts
+pub mod Asked
+pub mod Kept
+pub mod Programs

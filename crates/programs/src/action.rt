@@ -1,0 +1,89 @@
+//! What the execution of a statement needs.
+
+ghost use Rattle.meaning.specs.declared.syntax.Tree.{Tree};
+ghost use Rattle.meaning.specs.Syntax.{ShapeTree};
+ghost use Rattle.programs.specs.Acts.{Acts};
+ghost use Rattle.programs.specs.Asked.{ConditionIs, ConditionalIs, RepeatIs};
+
+use postfix::Code;
+
+/// Where the value of an assignment goes (ANSI X3.9-1978, 10.1).
+#[derive(Drop)]
+pub enum Target {
+    /// A variable, by its cell.
+    Variable(usize),
+    /// An array's element: the code leaves the number of its cell.
+    Element(Code),
+}
+
+/// The variable of a DO statement, by its cell, and its limits (ANSI X3.9-1978, 11.10).
+#[derive(Drop)]
+pub struct Repeat {
+    /// The variable's cell.
+    pub variable: usize,
+    /// Its first value.
+    pub first: Code,
+    /// Its last value.
+    pub last: Code,
+    /// The step; none where it is not written.
+    pub step: Option<Code>,
+}
+
+/// What the execution of a statement needs: codes in place of expressions, cells in place of names, and labels as numbers.
+#[derive(Drop)]
+pub enum Action {
+    /// It is passed over: it is not executable, defines a statement function, or is ELSE, END IF or END.
+    Pass,
+    /// An assignment: where the value goes, and its code.
+    Assign(Target, Code),
+    /// CONTINUE
+    Continue,
+    /// GO TO, with its label.
+    GoTo(u32),
+    /// A computed GO TO: its labels, and the code of its expression.
+    ComputedGoTo(Vec<u32>, Code),
+    /// An arithmetic IF: the code of its expression, and the labels for a negative value, zero and a positive one.
+    ArithmeticIf(Code, u32, u32, u32),
+    /// STOP
+    Stop,
+    /// WRITE or PRINT.
+    Output,
+    /// A logical IF: the code of its condition, and what its statement needs.
+    If(Code, Box<Action>),
+    /// IF THEN or ELSE IF, with the code of the condition.
+    Test(Code),
+    /// DO
+    Repeat(Repeat),
+}
+
+impl Action {
+    /// The condition of a logical IF, and what its statement needs.
+    pub fn conditional(&self) -> Option<(&Code, &Action)>
+        ensures { (t : Tree) (s : ShapeTree) → Acts t self.now s → ConditionalIs t s result }
+    {
+        match self {
+            Action::If(condition, action) => Some((condition, action)),
+            _ => None,
+        }
+    }
+
+    /// The condition of an IF THEN or ELSE IF statement.
+    pub fn condition(&self) -> Option<&Code>
+        ensures { (t : Tree) (s : ShapeTree) → Acts t self.now s → ConditionIs t s result }
+    {
+        match self {
+            Action::Test(condition) => Some(condition),
+            _ => None,
+        }
+    }
+
+    /// What a DO statement needs.
+    pub fn repeat(&self) -> Option<&Repeat>
+        ensures { (t : Tree) (s : ShapeTree) → Acts t self.now s → RepeatIs t s result }
+    {
+        match self {
+            Action::Repeat(repeat) => Some(repeat),
+            _ => None,
+        }
+    }
+}

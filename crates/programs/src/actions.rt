@@ -1,0 +1,74 @@
+//! What statements need, by their lines.
+
+ghost use Rattle.std.specs.Prelude.{◌≡◌, ◌≤◌, IfOk, [], Some, length, slice_get};
+ghost use Rattle.std.specs.Option.{option_copied};
+ghost use Rattle.programs.specs.Kept.{Adds, StayIn, action_at};
+
+use crate::Action;
+use compiler::NoCode;
+use std::alloc::Global;
+
+// No statement begins there.
+const NOWHERE: u32 = 0xffff_ffff;
+
+// Puts a number in the place of a line, behind those of all lines before it.
+fn put_at(places: &mut Vec<u32>, line: u32, place: u32) -> Result<(), NoCode>
+    requires free { length places.old.items ≤ line }
+    ensures put { IfOk result (λ _. slice_get places.new.items line ≡ Some place) }
+    ensures kept { IfOk result (λ _. StayIn places.old.items places.new.items) }
+{
+    places.resize(line as usize, NOWHERE)?;
+    places.push(place)?;
+    Ok(())
+}
+
+/// What statements need. `places` has, for each line, where in `actions` that of its statement stands.
+#[derive(Drop)]
+pub(crate) struct Actions {
+    pub places: Vec<u32>,
+    pub actions: Vec<Action>,
+}
+
+impl Actions {
+    /// None yet.
+    pub fn new(alloc: Global) -> Actions
+        ensures places { result.places.items ≡ [] }
+        ensures actions { result.actions.items ≡ [] }
+    {
+        Actions {
+            places: Vec::new(alloc),
+            actions: Vec::new(alloc),
+        }
+    }
+
+    /// What the statement at a line needs.
+    pub fn at(&self, line: u32) -> Option<&Action>
+        ensures { option_copied result ≡ action_at self.now line }
+    {
+        match self.places.get(line as usize) {
+            Some(place) => self.actions.get(*place as usize),
+            None => None,
+        }
+    }
+
+    /// Keeps what the statement at a line behind all others needs.
+    pub fn add(&mut self, line: u32, action: Action) -> Result<(), NoCode>
+        ensures { IfOk result (λ _. Adds self.old line action self.new) }
+    {
+        if self.places.len() > line as usize || self.actions.len() > 0x7fff_ffff {
+            drop(action);
+            return Err(NoCode::Unruly);
+        }
+        let place = self.actions.len() as u32;
+        match put_at(&mut self.places, line, place) {
+            Ok(()) => {
+                self.actions.push(action)?;
+                Ok(())
+            }
+            Err(reason) => {
+                drop(action);
+                Err(reason)
+            }
+        }
+    }
+}

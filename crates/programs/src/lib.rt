@@ -1,0 +1,13 @@
+//! Programs with the instructions that their statements and statement functions are executed by (ANSI X3.9-1978, chapters 6, 10
+//! to 12 and 15).
+#![tactic(auto)]
+
+mod action;
+mod actions;
+mod codes;
+mod functions;
+mod program;
+mod statement;
+
+pub use action::{Action, Repeat, Target};
+pub use program::{Program, check};

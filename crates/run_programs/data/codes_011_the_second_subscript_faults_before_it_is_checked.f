@@ -1,0 +1,4 @@
+      INTEGER A(3),B(2,2)
+      K=1
+      I=B(K,1/L)
+      END
