@@ -10,12 +10,14 @@ ghost use Rattle.meaning.specs.Values.{value as value_of};
 ghost use Rattle.format_edit.specs.Formatted.{descriptors};
 ghost use Rattle.checker.specs.Checked.{items_in, count_in};
 ghost use Rattle.checker.specs.Starts.{map_of};
+ghost use Rattle.programs.specs.Programs.{IsStatement};
 ghost use Rattle.values.specs.Programs.{scope_in};
 ghost use Rattle.evaluator.specs.Known.{IsCounted, IsKnown};
 ghost use Rattle.marks.specs.Quiet.{output_in, output_tree};
 ghost use Rattle.programs.specs.Asked.{is_logical_if};
 ghost use Rattle.evaluator.specs.Statements.{Spends};
 ghost use Rattle.executor.specs.Walk.{StepsIn, output_as};
+ghost use Rattle.executor.specs.Conditions.{IsSomeCode};
 ghost use Rattle.executor.specs.Recorded.{AreEdited, AreRecorded, recorded};
 
 use crate::halt::Halt;
@@ -27,9 +29,10 @@ use format_edit::{EditFault, Format, FormatFault, edit};
 use marks::output_of;
 use meaning::ending::{Fault, FaultKind, Outcome, Value};
 use meaning::syntax::{Expr, FormatSource, Item, ListItems, Shape};
+use postfix::Code;
 use programs::Program;
 use std::alloc::{AllocError, Global};
-use values::written_value;
+use values::value;
 
 // The records of a WRITE or PRINT statement, or its fault; implied DOs set their variables.
 fn recorded_list(
@@ -151,19 +154,48 @@ fn execute_output<S: Sink>(
     }
 }
 
-// The value of a condition, or its fault. The cells keep their values.
+// The code of the condition of a logical IF.
+fn condition_in<'a>(
+    program: &'a Program,
+    item: &Item,
+    condition: &Expr,
+    statement: &Shape,
+) -> Option<&'a Code>
+    requires known { IsStatement program.now (item_tree item.now) }
+    requires logical { shape_tree item.now.form.shape.value ≡
+        logical_if (expr_tree condition.now) (shape_tree statement.now) }
+    ensures { IsSomeCode program.now (expr_tree condition.now) result }
+{
+    match program.action(item.line) {
+        Some(action) => match action.conditional() {
+            Some((code, _)) => Some(code),
+            None => None,
+        },
+        None => None,
+    }
+}
+
+// The value of the condition of a logical IF, or its fault. The cells keep their values.
 fn condition_value(
     program: &Program,
+    item: &Item,
     condition: &Expr,
+    statement: &Shape,
     cells: &mut Whole,
 ) -> Result<Value, FaultKind>
+    requires known { IsStatement program.now (item_tree item.now) }
+    requires logical { shape_tree item.now.form.shape.value ≡
+        logical_if (expr_tree condition.now) (shape_tree statement.now) }
     requires sized { length cells.old ≡ count_in program.now }
     ensures is { value_of (scope_in program.now) (expr_tree condition.now)
         (map_of program.now cells.old) ≡ result }
     ensures kept { map_of program.now cells.new ≡ map_of program.now cells.old }
     ensures len { length cells.new ≡ length cells.old }
 {
-    written_value(program, condition, cells)
+    match condition_in(program, item, condition, statement) {
+        Some(code) => value(program, code, cells),
+        None => Ok(Value::Bool(false)),
+    }
 }
 
 // Executes a logical IF over a WRITE or PRINT statement: it takes a turn, and the statement, where the condition is true,
@@ -171,32 +203,37 @@ fn condition_value(
 fn execute_if<S: Sink>(
     alloc: Global,
     program: &Program,
-    line: u32,
+    item: &Item,
     condition: &Expr,
+    statement: &Shape,
     source: &FormatSource,
     list: &ListItems,
     cells: &mut Whole,
     turns: &mut u64,
     sink: &mut S,
 ) -> Result<Outcome, Halt>
+    requires known { IsStatement program.now (item_tree item.now) }
+    requires logical { shape_tree item.now.form.shape.value ≡
+        logical_if (expr_tree condition.now) (shape_tree statement.now) }
     requires counted { IsCounted program.now (list_items_tree list.now) }
     requires sized { length cells.old ≡ count_in program.now }
     requires unrefused { (S.told sink.old).refused ≡ false }
     ensures steps { (s : ShapeTree) →
         Some (format_tree source.now, list_items_tree list.now) ≡ output_in s →
         StepsIn program.now cells.old cells.new
-        (step (items_in program.now) (logical_if (expr_tree condition.now) s) line)
+        (step (items_in program.now) (logical_if (expr_tree condition.now) s) item.now.line)
         turns.old turns.new result (S.told sink.old) (S.told sink.new) }
     ensures spends { IfOk result (λ o. Spends o turns.old turns.new) }
     ensures len { length cells.new ≡ length cells.old }
 {
+    let line = item.line;
     if !take_turn(turns) {
         return Ok(Outcome::Fault(Fault {
             kind: FaultKind::F4,
             line,
         }));
     }
-    match condition_value(program, condition, cells) {
+    match condition_value(program, item, condition, statement, cells) {
         Ok(x) => {
             if as_logical(x) {
                 return execute_output(alloc, program, line, source, list, cells, turns, sink);
@@ -231,7 +268,7 @@ fn execute_under<S: Sink>(
 {
     match output_of(statement) {
         Some((source, list)) => execute_if(
-            alloc, program, item.line, condition, source, list, cells, turns, sink,
+            alloc, program, item, condition, statement, source, list, cells, turns, sink,
         ),
         None => Ok(item_whole(program, item, cells, turns)),
     }
