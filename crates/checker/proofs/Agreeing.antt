@@ -5,7 +5,7 @@ use Rattle.meaning.specs.Execution.{format_found}
 use Rattle.meaning.specs.Rules.{checked}
 use Rattle.meaning.specs.Syntax.{exprs_tree, no_exprs}
 use Rattle.meaning.specs.Trees.{members_tree, nested}
-use Rattle.marks.specs.Marked.{AreMarks}
+use Rattle.landmarks.specs.Landmarked.{AreLandmarks}
 use Rattle.roles.specs.Keeping.{kept_at}
 use Rattle.checker.specs.declared.rules.Kept.{Kept}
 use Rattle.checker.specs.Agreed.{AreRead, IsNumbered, found_in}
@@ -15,7 +15,7 @@ use Rattle.checker.specs.FunctionsFound.{AreFound}
 use Rattle.checker.proofs.Building.{Naming}
 use Rattle.checker.proofs.Ruled.{functions_at}
 
-pub numbered : (t : Tree) (k : Kept) → checked (nested t) ≡ Ok (nested t) → Naming t k.names → AreFound (names_in t).definitions t.body.items k.functions → k.function_count ≡ length (names_in t).definitions → exprs_tree k.no_dummies ≡ no_exprs → ((s : ℕ) → 2 ^ 32 ≤ s → format_found (items_in t) s ≡ None) → ((s : ℕ) → found_in k.formats.by_label s ≡ format_found (items_in t) s) → AreRead k.formats.texts → AreMarks (members_tree t.body.items) k.marks → IsNumbered (parts_by t k)
+pub numbered : (t : Tree) (k : Kept) → checked (nested t) ≡ Ok (nested t) → Naming t k.names → AreFound (names_in t).definitions t.body.items k.functions → k.function_count ≡ length (names_in t).definitions → exprs_tree k.no_dummies ≡ no_exprs → ((s : ℕ) → 2 ^ 32 ≤ s → format_found (items_in t) s ≡ None) → ((s : ℕ) → found_in k.formats.by_label s ≡ format_found (items_in t) s) → AreRead k.formats.texts → AreLandmarks (members_tree t.body.items) k.landmarks → IsNumbered (parts_by t k)
 numbered t k accepted naming found counted undummied small formatted read marked =
     record {
       accepted = accepted;

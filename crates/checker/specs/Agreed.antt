@@ -11,7 +11,7 @@ use Rattle.meaning.specs.Syntax.{exprs_tree, no_exprs}
 use Rattle.meaning.specs.Formats.{Parts as FormatParts, format_in, undoubled}
 use Rattle.format_edit.specs.declared.format.Format.{Format}
 use Rattle.format_edit.specs.Formatted.{descriptors}
-use Rattle.marks.specs.Marked.{AreMarks}
+use Rattle.landmarks.specs.Landmarked.{AreLandmarks}
 use Rattle.roles.specs.Keeping.{kept_at}
 use Rattle.checker.specs.declared.parts.Parts.{Parts}
 use Rattle.checker.specs.Checked.{items_in, names_in, count_in}
@@ -47,4 +47,4 @@ pub record IsNumbered (p : Parts) : Type 0 where
   pub small : (s : ℕ) → 2 ^ 32 ≤ s → format_found (items_in p.tree) s ≡ None
   pub formatted : (s : ℕ) → found_in p.formats s ≡ format_found (items_in p.tree) s
   pub read : AreRead p.texts
-  pub marked : AreMarks (members_tree p.tree.body.items) p.marks
+  pub marked : AreLandmarks (members_tree p.tree.body.items) p.landmarks

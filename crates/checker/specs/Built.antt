@@ -52,7 +52,7 @@ parts_by t k = record {
   starts = k.names.starts;
   formats = k.formats.by_label;
   texts = k.formats.texts;
-  marks = k.marks;
+  landmarks = k.landmarks;
 }
 
 -- what is known of a program unit that breaks no rule

@@ -3,7 +3,7 @@
 use expressions::Dimension;
 use format_edit::Format;
 use indexmap::IndexMap;
-use marks::Marks;
+use landmarks::Landmarks;
 use meaning::ending::Value;
 use meaning::syntax::{DataType, Exprs, Tree};
 use std::collections::BTreeMap;
@@ -57,5 +57,5 @@ pub(crate) struct Parts {
     /// The formats in character constants by the constants' texts.
     pub texts: IndexMap<Vec<u8>, Format>,
     /// Where labels lead, and which DO statements have output in their ranges.
-    pub marks: Marks,
+    pub landmarks: Landmarks,
 }

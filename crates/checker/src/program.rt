@@ -4,9 +4,9 @@ ghost use Rattle.std.specs.Prelude.{◌≡◌, IfOk, IfSome, Ok, Some, length, o
 ghost use Rattle.meaning.specs.Reports.{Gives};
 ghost use Rattle.meaning.specs.Rules.{checked};
 ghost use Rattle.meaning.specs.Trees.{members_tree, nested};
-ghost use Rattle.marks.specs.Kept.{IsKept};
-ghost use Rattle.marks.specs.Loud.{is_loud_in};
-ghost use Rattle.marks.specs.Places.{place_in};
+ghost use Rattle.landmarks.specs.Kept.{IsKept};
+ghost use Rattle.landmarks.specs.Loud.{is_loud_in};
+ghost use Rattle.landmarks.specs.Places.{place_in};
 ghost use Rattle.format_edit.specs.Formatted.{descriptors};
 ghost use Rattle.checker.specs.Checked.{count_in, names_in, numbers_in};
 ghost use Rattle.checker.specs.Agreed.{IsReadFrom};
@@ -142,7 +142,7 @@ pub fn check(alloc: Global, tree: Tree) -> Result<Program, Refusal>
                 function_count,
                 no_dummies,
                 formats,
-                marks,
+                landmarks,
             },
         ) => {
             let Names {
@@ -162,7 +162,7 @@ pub fn check(alloc: Global, tree: Tree) -> Result<Program, Refusal>
                     starts,
                     formats: by_label,
                     texts,
-                    marks,
+                    landmarks,
                 },
             })
         }

@@ -13,8 +13,8 @@ ghost use Rattle.meaning.specs.Formats.{format_in as format_in_text, undoubled};
 ghost use Rattle.meaning.specs.Syntax.{exprs_tree, no_exprs, shape_tree};
 ghost use Rattle.meaning.specs.declared.syntax.Tree.{Tree};
 ghost use Rattle.format_edit.specs.Formatted.{descriptors};
-ghost use Rattle.marks.specs.Loud.{is_loud_in};
-ghost use Rattle.marks.specs.Places.{place_in};
+ghost use Rattle.landmarks.specs.Loud.{is_loud_in};
+ghost use Rattle.landmarks.specs.Places.{place_in};
 
 use crate::parts::{Entry, Parts, Storage};
 use expressions::{Cells, Function, Named, Place};
@@ -220,7 +220,7 @@ pub(crate) fn place_in_parts(parts: &Parts, label: u32) -> Option<usize>
     requires { IsNumbered parts.now }
     ensures { result ≡ place_in parts.now.tree label }
 {
-    parts.marks.place(label)
+    parts.landmarks.place(label)
 }
 
 /// Whether a DO statement with this line has output in its range.
@@ -228,5 +228,5 @@ pub(crate) fn is_loud_in_parts(parts: &Parts, line: u32) -> bool
     requires { IsNumbered parts.now }
     ensures { result ≡ is_loud_in parts.now.tree line }
 {
-    parts.marks.is_loud(line)
+    parts.landmarks.is_loud(line)
 }

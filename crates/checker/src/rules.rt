@@ -17,7 +17,7 @@ use crate::parts::{Entry, FunctionAt};
 use crate::starts::starts_of;
 use indexmap::IndexMap;
 use k_rules::{Facts, judge};
-use marks::Marks;
+use landmarks::Landmarks;
 use meaning::refusal::Refusal;
 use meaning::syntax::{DataType, Exprs, Tree};
 use roles::{Roles, items_of, letter_types_of};
@@ -39,7 +39,7 @@ pub(crate) struct Kept {
     pub function_count: usize,
     pub no_dummies: Exprs,
     pub formats: Formats,
-    pub marks: Marks,
+    pub landmarks: Landmarks,
 }
 
 /// What is kept of the names of a program unit, and how many cells they take.
@@ -76,7 +76,7 @@ fn kept_in(alloc: Global, tree: &Tree, facts: &Facts, roles: &Roles) -> Result<K
     requires listed { trees_at roles.now.items.now ≡ items_in tree.now }
     ensures { IfOk result (λ k. IsNumbered (parts_by tree.now k)) }
 {
-    let marks = Marks::new(alloc, &tree.body)?;
+    let landmarks = Landmarks::new(alloc, &tree.body)?;
     let names = names_of(alloc, roles, facts)?;
     let functions = match functions_in(alloc, roles, &tree.body) {
         Ok(functions) => functions,
@@ -92,7 +92,7 @@ fn kept_in(alloc: Global, tree: &Tree, facts: &Facts, roles: &Roles) -> Result<K
             function_count: roles.functions.len(),
             no_dummies: Exprs::Empty,
             formats,
-            marks,
+            landmarks,
         }),
         Err(AllocError) => {
             drop(names);

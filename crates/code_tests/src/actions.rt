@@ -1,7 +1,7 @@
 //! What a program keeps of each statement.
 
 use crate::sources::program_of;
-use programs::{Action, Target};
+use programs::{Action, ListCode, ListCodes, Target};
 use std::test::*;
 
 /// What is kept, by a word.
@@ -16,7 +16,7 @@ fn word_for(action: Option<&Action>) -> &'static str {
         Some(Action::ComputedGoTo(_, _)) => "computed go to",
         Some(Action::ArithmeticIf(_, _, _, _)) => "arithmetic if",
         Some(Action::Stop) => "stop",
-        Some(Action::Output) => "output",
+        Some(Action::Output(_)) => "output",
         Some(Action::If(_, _)) => "if",
         Some(Action::Test(_)) => "test",
         Some(Action::Repeat(_)) => "repeat",
@@ -59,5 +59,58 @@ fn cells_by_name(rt: HostRuntime) {
     assert!(rt; program.functions().len() == 1);
     assert!(rt; program.cell(b"A".as_slice()).is_none());
     assert!(rt; program.cell(b"Q".as_slice()).is_none());
+    drop(program);
+}
+
+/// A cells stand in 0 to 2, L's in 3 to 6, I's is 7.
+const LISTED: &[&[u8]] = &[
+    b"INTEGER A(3)",
+    b"LOGICAL L(2,2)",
+    b"PRINT'(9I4,4L2)',A,I+1,L,(A(I),I=1,3),L(1,2)",
+    b"IF(I.EQ.0)PRINT'(I4)',I",
+];
+
+/// Which item it is, with how many instructions the code of an expression has, with the first cell and the number of cells of an
+/// array, or with the cell of the variable of an implied DO.
+fn item_told(item: &ListCode) -> (&'static str, usize, usize) {
+    match item {
+        ListCode::Value(code) => ("value", code.len(), 0),
+        ListCode::Array(array) => {
+            let word = if array.is_logical {
+                "truths"
+            } else {
+                "numbers"
+            };
+            (word, array.first, array.size)
+        }
+        ListCode::Loop(_, repeat) => ("loop", repeat.variable, 0),
+    }
+}
+
+const ITEMS: &[(&str, usize, usize)] = &[
+    ("numbers", 0, 3),
+    ("value", 3, 0),
+    ("truths", 3, 4),
+    ("loop", 7, 0),
+    ("value", 6, 0),
+];
+
+/// The items of a list, first to last.
+#[test]
+fn items_by_codes(rt: HostRuntime) {
+    let program = program_of(&rt, rt.alloc(), LISTED);
+    let list = program.action(3).and_then(|action| action.list());
+    let mut rest = list.expect(&rt, "a list");
+    for &wanted in ITEMS {
+        match rest {
+            ListCodes::More(item, others) => {
+                assert!(rt; item_told(item) == wanted, "{wanted:?}");
+                rest = others;
+            }
+            ListCodes::Empty => panic!(rt; "no item"),
+        }
+    }
+    assert!(rt; program.action(1).and_then(|action| action.list()).is_none());
+    assert!(rt; program.action(4).and_then(|action| action.list()).is_none());
     drop(program);
 }

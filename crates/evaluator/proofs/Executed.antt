@@ -10,18 +10,20 @@ use Rattle.meaning.specs.declared.ending.Outcome.TheVariants as outcomes
 use Rattle.meaning.specs.declared.syntax.Tree.{Tree}
 use Rattle.meaning.specs.Characters.{number_of}
 use Rattle.meaning.specs.Scopes.{Definition, defined_by, scope_of}
-use Rattle.meaning.specs.Syntax.{ExprTree, ExprsTree, ShapeTree, StopTree, ItemTree, assignment, writing, printing, doing, continuing, going, computed_going, arithmetic_if, logical_if, block_if, else_if, stopping}
+use Rattle.meaning.specs.Syntax.{ExprTree, ExprsTree, FormatTree, ListItemsTree, ShapeTree, StopTree, ItemTree, assignment, writing, printing, doing, continuing, going, computed_going, arithmetic_if, logical_if, block_if, else_if, stopping}
 use Rattle.meaning.specs.Maps.{Map, put}
 use Rattle.meaning.specs.Values.{Scope, dimensions_in, subscripts, value, as_integer, as_logical, integer, and_then}
 use Rattle.meaning.specs.Execution.{Ran, more, Ways, onward, at_label, turn, with_ok, failed, added, assigned, unless_defined, simple, step, condition_of, truth_of, holds, turn_if, tested}
 use Rattle.meaning.proofs.Running.{more-none}
-use Rattle.marks.specs.Quiet.{writes}
+use Rattle.landmarks.specs.Quiet.{output_in, writes}
 use Rattle.checker.specs.Checked.{items_in}
 use Rattle.postfix.specs.declared.code.Code.{Code}
+use Rattle.programs.specs.declared.action.ListCodes.{ListCodes}
 use Rattle.programs.specs.declared.action.Repeat.{Repeat}
 use Rattle.programs.specs.Acts.{is_idle, Conditional, Defines, Repeats}
 use Rattle.programs.specs.Acts as acts
 use Rattle.programs.specs.Asked.{is_logical_if}
+use Rattle.programs.specs.Items.{AreItemsOf}
 use Rattle.evaluator.specs.Statements.{Puts, Sums, target_and_value, Leaves, Passes, Moves, Tests}
 use Rattle.evaluator.proofs.Composed.{moves_behind, moves_same}
 
@@ -172,8 +174,12 @@ module _ (p : Tree) (line : ℕ) (s : ShapeTree) (m : Map) (t : ℕ) where
       passes_as (assignment d.name d.dummies d.body) d.is (defines (items_in p) d.name d.dummies d.body line d.defined m t)
 
   -- what writes nothing is no WRITE or PRINT statement
-  pub output_passes : IsTrue (writes s) → IsTrue (not (writes s)) → IsPassed
-  output_passes h quiet = absurd (false≢true (sym (ap not h) ∙ quiet))
+  pub output_passes : (list : ListCodes) → AreItemsOf p (output_in s) list → IsTrue (not (writes s)) → IsPassed
+  output_passes list = by (output_in s)
+    where
+      by : (o : Option (FormatTree × ListItemsTree)) → AreItemsOf p o list → IsTrue (not (is_some o)) → IsPassed
+      by None are quiet = absurd are
+      by (Some output) are quiet = absurd (false≢true quiet)
 
   -- logical IFs, the statements that head arms, and DO statements do nothing by themselves
   pub if_passes : (c : Code) (under : ShapeTree → Type 0) → Conditional p c under s → IsPassed

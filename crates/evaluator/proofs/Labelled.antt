@@ -9,8 +9,8 @@ use Rattle.meaning.proofs.Ranges.{row_arms-items}
 use Rattle.meaning.specs.Trees.{Members, item_tree, member_before, members_tree, arms_tree, row_arms}
 use Rattle.meaning.specs.LabelRules.{has_label}
 use Rattle.meaning.specs.Execution.{heads, labelled}
-use Rattle.marks.specs.Kept.{IsKept}
-use Rattle.marks.specs.Places.{own_place, place_in}
+use Rattle.landmarks.specs.Kept.{IsKept}
+use Rattle.landmarks.specs.Places.{own_place, place_in}
 use Rattle.evaluator.specs.Places.{at_if, entry, is_number, is_entered_at}
 
 -- where a jump into a list goes on, by the entry of its first member: at it, behind it, or in the rest

@@ -1,4 +1,3 @@
-pub mod Placed
 pub mod Wholes
 pub mod Assigned
 pub mod Limiting

@@ -13,10 +13,9 @@ ghost use Rattle.programs.specs.Acts.{Acts, Assigns, Goes, GoesByCount, GoesBySi
 ghost use Rattle.programs.specs.Asked.{ConditionIs};
 ghost use Rattle.programs.specs.Codes.{IsCode};
 ghost use Rattle.programs.specs.Programs.{IsStatement};
-ghost use Rattle.evaluator.specs.Known.{IsKnown};
 ghost use Rattle.evaluator.specs.Over.{MovesOver, StaysAt, TestsAt};
 ghost use Rattle.evaluator.specs.Places.{next_of};
-ghost use Rattle.marks.specs.Quiet.{is_writing, writes};
+ghost use Rattle.landmarks.specs.Quiet.{is_writing, writes};
 ghost use Rattle.evaluator.specs.Statements.{Moves, Spends, TakesTurn};
 
 use crate::assignment::assign;
@@ -242,7 +241,7 @@ fn run_simple<S: Store>(
         )),
         Action::Stop => Ok(run_stop(line, turns)),
         Action::Pass => Ok(Outcome::Normal),
-        Action::Output => Ok(Outcome::Normal),
+        Action::Output(_) => Ok(Outcome::Normal),
         Action::If(_, _) => Ok(Outcome::Normal),
         Action::Test(_) => Ok(Outcome::Normal),
         Action::Repeat(_) => Ok(Outcome::Normal),
@@ -327,7 +326,7 @@ pub fn run_item<S: Store>(
     store: &mut S,
     turns: &mut u64,
 ) -> Result<Outcome, AllocError>
-    requires known { IsKnown program.now (item_tree item.now) }
+    requires known { IsStatement program.now (item_tree item.now) }
     requires quiet { IsTrue (not (is_writing (shape_tree item.now.form.shape.value))) }
     requires sized { (S.world store.old).cells ≡ count_in program.now }
     ensures does { IfOk result (MovesOver program.now (S.world store.old) (S.world store.new)

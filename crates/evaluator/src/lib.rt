@@ -10,12 +10,12 @@ mod quiet;
 mod shapes;
 mod whole;
 
-pub use assignment::{add_to, add_to_named, assign, set_named, set_variable};
+pub use assignment::{add_to, assign, set_variable};
 pub use control::{run_item, take_turn, test_arm};
-pub use limits::{Span, count_of, values_of_codes, values_of_limits};
+pub use limits::{Span, count_of, values_of_codes};
 pub use listing::list_values;
 pub use places::place_of;
-pub use quiet::{run_list, run_loop, run_trips};
+pub use quiet::{repeat_in, run_list, run_loop, run_trips};
 pub use shapes::{do_of, logical_if_of};
 pub use whole::{
     add_whole, item_whole, limits_whole, list_whole, loop_whole, set_whole, test_whole,

@@ -4,7 +4,7 @@ ghost use Rattle.std.specs.Prelude.{◌≡◌, ◌≤◌, IfSome, drop, length, 
 ghost use Rattle.meaning.specs.Execution.{heads, labelled};
 ghost use Rattle.meaning.specs.LabelRules.{has_label as has};
 ghost use Rattle.meaning.specs.Trees.{arms_tree, item_tree, members_tree};
-ghost use Rattle.marks.specs.Kept.{IsKept};
+ghost use Rattle.landmarks.specs.Kept.{IsKept};
 ghost use Rattle.evaluator.specs.Places.{entry, is_entered_at};
 
 use meaning::syntax::{Arm, Item, Member};

@@ -1,44 +1,47 @@
 //! What is proved over any store, over a whole store, which refuses no write.
 
-ghost use Rattle.std.specs.Prelude.{◌≡◌, ◌<◌, ◌≤◌, [], IsTrue, length, not, IfOk};
+ghost use Rattle.std.specs.Prelude.{◌≡◌, ◌<◌, ◌≤◌, ℕ, List, [], IsTrue, length, not, IfOk};
 ghost use Rattle.meaning.specs.declared.syntax.Loop.{out-Loop};
 ghost use Rattle.meaning.specs.Execution.{step};
 ghost use Rattle.meaning.specs.Lists.{listed, list_limit};
 ghost use Rattle.meaning.specs.Maps.{put};
-ghost use Rattle.meaning.specs.Syntax.{limits_tree, list_items_tree, shape_tree};
+ghost use Rattle.meaning.specs.Syntax.{LimitsTree, list_items_tree, shape_tree};
 ghost use Rattle.meaning.specs.Trees.{flat, item_tree, members_tree};
 ghost use Rattle.meaning.specs.Trips.{span_of};
 ghost use Rattle.checker.specs.Checked.{items_in, count_in};
 ghost use Rattle.checker.specs.Starts.{map_of};
 ghost use Rattle.values.specs.Programs.{scope_in};
+ghost use Rattle.programs.specs.Codes.{AreLimits, IsCell};
+ghost use Rattle.programs.specs.Items.{AreItems};
 ghost use Rattle.programs.specs.Programs.{IsStatement};
-ghost use Rattle.evaluator.specs.Known.{HasCellsIn, IsCounted, IsKnown, AreKnown};
+ghost use Rattle.evaluator.specs.Known.{AreStatements};
 ghost use Rattle.evaluator.specs.Limited.{SpanIs};
 ghost use Rattle.evaluator.specs.Listing.{ListIs};
 ghost use Rattle.evaluator.specs.Over.{MovesIn, TestsIn, loop_as};
-ghost use Rattle.marks.specs.Kept.{IsKept};
-ghost use Rattle.marks.specs.Quiet.{WritesNothing, is_writing};
+ghost use Rattle.landmarks.specs.Kept.{IsKept};
+ghost use Rattle.landmarks.specs.Quiet.{WritesNothing, is_writing};
 ghost use Rattle.evaluator.specs.Statements.{Adds, Spends};
 
-use crate::assignment::{add_to_named, set_named};
+use crate::assignment::{add_to, set_variable};
 use crate::control::{run_item, test_arm};
-use crate::limits::{Span, values_of_limits};
+use crate::limits::{Span, values_of_codes};
 use crate::listing::list_values;
 use crate::quiet::run_loop;
 use array_store::Whole;
 use meaning::ending::{Fault, FaultKind, Outcome, Value};
-use meaning::syntax::{Item, Limits, ListItems, Loop};
-use programs::Program;
+use meaning::syntax::{Item, ListItems, Loop};
+use programs::{ListCodes, Program, Repeat};
 use std::alloc::{AllocError, Global};
 
-/// Gives a variable a value.
-pub fn set_whole(program: &Program, name: &[u8], x: i32, cells: &mut Whole)
-    requires held { HasCellsIn program.now name.now 0 }
+/// Gives a variable a value, by its cell.
+pub fn set_whole(program: &Program, cell: usize, x: i32, cells: &mut Whole)
+    requires small { cell < count_in program.now }
     requires sized { length cells.old ≡ count_in program.now }
-    ensures set { map_of program.now cells.new ≡ put (map_of program.now cells.old) name.now [] x }
+    ensures set { (n : List ℕ) → IsCell program.now n cell →
+        map_of program.now cells.new ≡ put (map_of program.now cells.old) n [] x }
     ensures len { length cells.new ≡ length cells.old }
 {
-    match set_named(program, name, x, cells) {
+    match set_variable(program, cell, x, cells) {
         Ok(()) => {}
         // A whole store refuses no write.
         Err(_) => {}
@@ -47,7 +50,7 @@ pub fn set_whole(program: &Program, name: &[u8], x: i32, cells: &mut Whole)
 
 /// Executes one statement that stands by itself and writes nothing, or passes over one that isn't executable.
 pub fn item_whole(program: &Program, item: &Item, cells: &mut Whole, turns: &mut u64) -> Outcome
-    requires known { IsKnown program.now (item_tree item.now) }
+    requires known { IsStatement program.now (item_tree item.now) }
     requires quiet { IsTrue (not (is_writing (shape_tree item.now.form.shape.value))) }
     requires sized { length cells.old ≡ count_in program.now }
     ensures moves { MovesIn program.now cells.old cells.new
@@ -65,11 +68,11 @@ pub fn item_whole(program: &Program, item: &Item, cells: &mut Whole, turns: &mut
 
 /// Executes a DO statement with its range, which writes nothing; what is no DO statement is passed over.
 pub fn loop_whole(program: &Program, repeated: &Loop, cells: &mut Whole, turns: &mut u64) -> Outcome
-    requires named { AreKnown program.now
+    requires named { AreStatements program.now
         (flat (members_tree (out-Loop repeated.now).range.items)) }
     requires kept { IsKept program.now (members_tree (out-Loop repeated.now).range.items) }
     requires quiet { WritesNothing (members_tree (out-Loop repeated.now).range.items) }
-    requires head { IsKnown program.now (item_tree (out-Loop repeated.now).head) }
+    requires head { IsStatement program.now (item_tree (out-Loop repeated.now).head) }
     requires sized { length cells.old ≡ count_in program.now }
     ensures moves { MovesIn program.now cells.old cells.new
         (loop_as (items_in program.now) (shape_tree (out-Loop repeated.now).head.form.shape.value)
@@ -106,39 +109,40 @@ pub fn test_whole(
     test_arm(program, first, head, cells, turns)
 }
 
-/// Adds to a variable. A sum outside INTEGER is F2, and the variable stays.
+/// Adds to a variable, by its cell. A sum outside INTEGER is F2, and the variable stays.
 pub fn add_whole(
     program: &Program,
-    name: &[u8],
+    cell: usize,
     by: i32,
     cells: &mut Whole,
 ) -> Result<(), FaultKind>
-    requires held { HasCellsIn program.now name.now 0 }
+    requires small { cell < count_in program.now }
     requires sized { length cells.old ≡ count_in program.now }
-    ensures adds { Adds name.now by
-        (map_of program.now cells.old) (map_of program.now cells.new) result }
+    ensures adds { (n : List ℕ) → IsCell program.now n cell →
+        Adds n by (map_of program.now cells.old) (map_of program.now cells.new) result }
     ensures len { length cells.new ≡ length cells.old }
 {
-    match add_to_named(program, name, by, cells) {
+    match add_to(program, cell, by, cells) {
         Ok(outcome) => outcome,
         // A whole store refuses no write.
         Err(_) => Ok(()),
     }
 }
 
-/// The values of limits, or their fault. The cells keep their values.
+/// The values of limits by their codes, or their fault. The cells keep their values.
 pub fn limits_whole(
     program: &Program,
-    limits: &Limits,
+    repeat: &Repeat,
     cells: &mut Whole,
 ) -> Result<Span, FaultKind>
     requires sized { length cells.old ≡ count_in program.now }
-    ensures span { SpanIs result
-        (span_of (scope_in program.now) (limits_tree limits.now) (map_of program.now cells.old)) }
-    ensures kept { map_of program.now cells.new ≡ map_of program.now cells.old }
+    ensures span { (l : LimitsTree) → AreLimits program.now l repeat.now →
+        SpanIs result (span_of (scope_in program.now) l (map_of program.now cells.old)) }
+    ensures kept { (l : LimitsTree) → AreLimits program.now l repeat.now →
+        map_of program.now cells.new ≡ map_of program.now cells.old }
     ensures len { length cells.new ≡ length cells.old }
 {
-    values_of_limits(program, limits, cells)
+    values_of_codes(program, repeat, cells)
 }
 
 /// The values of an output list, first to last, or the leftmost fault, as `list_values` tells them. The `AllocError` comes where
@@ -147,14 +151,15 @@ pub fn list_whole(
     alloc: Global,
     program: &Program,
     list: &ListItems,
+    codes: &ListCodes,
     cells: &mut Whole,
 ) -> Result<Result<Vec<Value>, FaultKind>, AllocError>
-    requires counted { IsCounted program.now (list_items_tree list.now) }
+    requires coded { AreItems program.now (list_items_tree list.now) codes.now }
     requires sized { length cells.old ≡ count_in program.now }
     ensures values { IfOk result (λ r. ListIs r (map_of program.now cells.new)
         (listed (scope_in program.now) (list_items_tree list.now)
         (map_of program.now cells.old) list_limit)) }
     ensures len { length cells.new ≡ length cells.old }
 {
-    list_values(alloc, program, list, cells)
+    list_values(alloc, program, list, codes, cells)
 }

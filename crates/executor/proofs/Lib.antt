@@ -3,6 +3,6 @@ pub mod Composed
 pub mod Written
 pub mod Listed
 pub mod Promised
-pub mod Known
-pub mod Nested
+pub mod Unit
 pub mod Located
+pub mod Told

@@ -8,7 +8,6 @@ use Rattle.meaning.specs.Statements.{entry_of}
 use Rattle.meaning.specs.Refusals.{lesser, merge, with_first, all_of}
 use Rattle.meaning.specs.Answers.{member_of, members_of}
 use Rattle.meaning.proofs.Least.{lesser-lesser}
-use Rattle.executor.specs.Labelled.{AreLabelled, IsLabel}
 
 -- one more at the end
 abbrev with_last : {A : Type 0} → Result (List A) Broken → Result A Broken → Result (List A) Broken
@@ -68,9 +67,3 @@ module _ (found : List Statement) (i : ℕ) (s : Statement) (lt : i < length fou
 pub listed_none : so_far None [] ≡ members_of []
 unfolding members_of
 listed_none = refl
-
--- ---- labels
-
-pub labelled_more : (ms : List ItemTree) (m : ItemTree) → AreLabelled ms → IsLabel m.label → AreLabelled (ms ++ m ∷ [])
-labelled_more [] m h here = (here, tt)
-labelled_more (x ∷ xs) m h here = (h.0, labelled_more xs m h.1 here)

@@ -1,5 +1,5 @@
 -- WRITE and PRINT statements.
-use Rattle.std.proofs.Common.{◌≡◌, ℕ, suc, true, List, [], ◌∷◌, ◌++◌, if◌then◌else◌, Option, Some, None, Result, Ok, Err, refl, sym, ap, ◌∙◌, subst, append_assoc}
+use Rattle.std.proofs.Common.{◌≡◌, ℕ, suc, true, List, [], ◌∷◌, ◌++◌, if◌then◌else◌, Some, None, Result, Ok, Err, refl, sym, ap, ◌∙◌, subst, append_assoc}
 use Rattle.std.specs.Prelude.{not, IsTrue, is_some}
 use Rattle.std.proofs.lemmas.Bool.{false≢true}
 use Rattle.std.specs.Global.{Vec}
@@ -19,7 +19,7 @@ use Rattle.meaning.specs.Execution.{Ran, more, Ways, onward, turn, with_ok, outp
 use Rattle.meaning.specs.Promise.{Told, Took, IsBroken}
 use Rattle.meaning.proofs.Running.{more-more}
 use Rattle.evaluator.specs.Listing.{Gives}
-use Rattle.marks.specs.Quiet.{output_in, is_writing, under}
+use Rattle.landmarks.specs.Quiet.{output_in, is_writing}
 use Rattle.programs.specs.Asked.{is_logical_if}
 use Rattle.evaluator.specs.Statements.{Leaves, Moves, Comes}
 use Rattle.evaluator.proofs.Executed.{fault_at, one_less, turn_none, turn_goes, turn_fails}
@@ -136,12 +136,3 @@ quiet_alone s alone is = quiet_by s is
 
 pub quiet_under : (x : ShapeTree) (e : ExprTree) (s : ShapeTree) → x ≡ logical_if e s → None ≡ output_in s → IsTrue (not (is_writing x))
 quiet_under x e s is none = subst (λ y. IsTrue (not (is_writing y))) (sym is) (quiet_by s none)
-
--- which statement stands under a logical IF, or stands alone
-pub output_under : (x : ShapeTree) (e : ExprTree) (s : ShapeTree) → x ≡ logical_if e s → (o : Option (FormatTree × ListItemsTree)) → o ≡ output_in s → o ≡ output_in (under x)
-output_under x e s is o found = found ∙ ap (λ y. output_in (under y)) (sym is)
-
-pub output_alone : (x : ShapeTree) (source : FormatTree) (list : ListItemsTree) → Some (source, list) ≡ output_in x → Some (source, list) ≡ output_in (under x)
-output_alone (writing control items) source list is = is
-output_alone (printing f items) source list is = is
-output_alone s source list is = absurd cc

@@ -1,7 +1,6 @@
 pub mod Puts
 pub mod Walk
 pub mod Recorded
-pub mod Labelled
 pub mod Located
 pub mod Quiet
 pub mod Conditions

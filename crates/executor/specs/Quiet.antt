@@ -3,8 +3,8 @@ use Rattle.std.specs.Prelude.{◌≡◌, false}
 use Rattle.meaning.specs.declared.syntax.Loop.{Loop, out-Loop}
 use Rattle.meaning.specs.declared.syntax.Tree.{Tree}
 use Rattle.meaning.specs.Trees.{members_tree}
-use Rattle.marks.specs.Loud.{is_loud_in}
-use Rattle.marks.specs.Quiet.{WritesNothing}
+use Rattle.landmarks.specs.Loud.{is_loud_in}
+use Rattle.landmarks.specs.Quiet.{WritesNothing}
 
 abbrev pub IsQuietUnlessLoud : Tree → Loop → Type 0
 IsQuietUnlessLoud t l = is_loud_in t (out-Loop l).head.line ≡ false → WritesNothing (members_tree (out-Loop l).range.items)

@@ -5,10 +5,11 @@ ghost use Rattle.meaning.specs.declared.syntax.Loop.{out-Loop};
 ghost use Rattle.meaning.specs.Syntax.{shape_tree};
 ghost use Rattle.meaning.specs.Trees.{flat, item_tree, members_tree};
 ghost use Rattle.checker.specs.Checked.{items_in, count_in};
-ghost use Rattle.evaluator.specs.Known.{IsKnown, AreKnown};
+ghost use Rattle.programs.specs.Programs.{IsStatement};
+ghost use Rattle.evaluator.specs.Known.{AreStatements};
 ghost use Rattle.evaluator.specs.Over.{MovesIn, loop_as};
-ghost use Rattle.marks.specs.Kept.{IsKept};
-ghost use Rattle.marks.specs.Quiet.{WritesNothing};
+ghost use Rattle.landmarks.specs.Kept.{IsKept};
+ghost use Rattle.landmarks.specs.Quiet.{WritesNothing};
 ghost use Rattle.evaluator.specs.Statements.{Spends};
 
 use array_store::Whole;
@@ -34,11 +35,11 @@ pub trait QuietLoops {
         turns: &mut u64,
     ) -> Result<Outcome, AllocError>
         requires ready { ready self.now }
-        requires named { AreKnown program.now
+        requires named { AreStatements program.now
             (flat (members_tree (out-Loop repeated.now).range.items)) }
         requires kept { IsKept program.now (members_tree (out-Loop repeated.now).range.items) }
         requires quiet { WritesNothing (members_tree (out-Loop repeated.now).range.items) }
-        requires head { IsKnown program.now (item_tree (out-Loop repeated.now).head) }
+        requires head { IsStatement program.now (item_tree (out-Loop repeated.now).head) }
         requires sized { length cells.old ≡ count_in program.now }
         ensures moves { IfOk result (MovesIn program.now cells.old cells.new
             (loop_as (items_in program.now)

@@ -1,13 +1,11 @@
 //! From the bytes of a source to a program that keeps the rules.
 
-ghost use Rattle.std.specs.Prelude.{◌≡◌, map, IfOk};
+ghost use Rattle.std.specs.Prelude.{map};
 ghost use Rattle.meaning.specs.Reports.{Gives};
 ghost use Rattle.meaning.specs.Statements.{entry_of};
 ghost use Rattle.meaning.specs.Trees.{item_tree};
 ghost use Rattle.meaning.specs.Answers.{member_of, members_of, program_of};
 ghost use Rattle.checker.specs.Checked.{tree_of};
-ghost use Rattle.evaluator.specs.Known.{IsTarget};
-ghost use Rattle.executor.specs.Labelled.{AreLabelled, IsLabel, IsLabelled};
 
 use lexer::bare;
 use meaning::refusal::{Broken, Refusal, lesser};
@@ -19,43 +17,22 @@ use programs::{Program, check};
 use source_columns::statements;
 use std::alloc::Global;
 
-// A label, as any number of its type a statement can have.
-fn labelled(label: u32) -> u32
-    ensures same { result ≡ label }
-    ensures fits { IsTarget result }
-{
-    label
-}
-
-// The label of a statement.
-fn label_of(statement: &Statement) -> Option<u32>
-    ensures same { result ≡ statement.now.label }
-    ensures labelled { IsLabel result }
-{
-    match statement.label {
-        Some(label) => Some(labelled(label)),
-        None => None,
-    }
-}
-
 // What one statement says, in its place.
 fn member_in(alloc: Global, statement: &Statement) -> Result<Item, Refusal>
-    ensures exact { Gives item_tree result (member_of (entry_of statement.now)) }
-    ensures labelled { IfOk result (λ x. IsLabel x.label) }
+    ensures { Gives item_tree result (member_of (entry_of statement.now)) }
 {
     let text = bare(alloc, statement)?;
     let form = form(alloc, &text)?;
     Ok(Item {
         line: statement.line,
-        label: label_of(statement),
+        label: statement.label,
         form,
     })
 }
 
 // What the statements say, or the least rule that one of them breaks.
 fn members_in(alloc: Global, found: &[Statement]) -> Result<Vec<Item>, Refusal>
-    ensures exact { Gives (λ v. map item_tree v.items) result (members_of (map entry_of found.now)) }
-    ensures labelled { IfOk result (λ v. AreLabelled (map item_tree v.items)) }
+    ensures { Gives (λ v. map item_tree v.items) result (members_of (map entry_of found.now)) }
 {
     let mut members = Vec::new(alloc);
     let mut broken = None;
@@ -91,8 +68,7 @@ fn members_in(alloc: Global, found: &[Statement]) -> Result<Vec<Item>, Refusal>
 /// where a growth was refused.
 #[tactic(auto, unfolding(meaning::specs::Answers::program_of))]
 pub fn program_in(alloc: Global, source: &[u8]) -> Result<Program, Refusal>
-    ensures exact { Gives tree_of result (program_of source.now) }
-    ensures labelled { IfOk result IsLabelled }
+    ensures { Gives tree_of result (program_of source.now) }
 {
     let found = statements(alloc, source)?;
     let members = members_in(alloc, &found)?;

@@ -4,7 +4,6 @@ ghost use Rattle.std.specs.Prelude.{◌≡◌, ◌↔◌, Ok, false, true};
 ghost use Rattle.meaning.specs.Answers.{answer, answer_of};
 ghost use Rattle.meaning.specs.Promise.{Keeps};
 ghost use Rattle.checker.specs.Checked.{tree_of};
-ghost use Rattle.executor.specs.Labelled.{IsLabelled};
 
 use crate::halt::Halt;
 use crate::quiet_loops::{InOrder, QuietLoops};
@@ -27,7 +26,6 @@ fn run_program<S: Sink, Q: QuietLoops>(
     sink: &mut S,
 ) -> Ending
     requires ready { Q.ready quiet_loops.now }
-    requires labelled { IsLabelled program.now }
     requires unrefused { (S.told sink.old).refused ≡ false }
     ensures promise { Keeps (answer_of (Ok (tree_of program.now)) turns)
         (S.told sink.old) (S.told sink.new) result }

@@ -12,12 +12,13 @@ ghost use Rattle.checker.specs.Checked.{items_in, count_in};
 ghost use Rattle.checker.specs.Starts.{map_of};
 ghost use Rattle.programs.specs.Programs.{IsStatement};
 ghost use Rattle.values.specs.Programs.{scope_in};
-ghost use Rattle.evaluator.specs.Known.{IsCounted, IsKnown};
-ghost use Rattle.marks.specs.Quiet.{output_in, output_tree};
-ghost use Rattle.programs.specs.Asked.{is_logical_if};
+ghost use Rattle.landmarks.specs.Quiet.{output_in, output_tree};
+ghost use Rattle.programs.specs.Asked.{ListIs, is_logical_if};
+ghost use Rattle.programs.specs.Codes.{IsCode};
+ghost use Rattle.programs.specs.Items.{AreItems};
 ghost use Rattle.evaluator.specs.Statements.{Spends};
 ghost use Rattle.executor.specs.Walk.{StepsIn, output_as};
-ghost use Rattle.executor.specs.Conditions.{IsSomeCode};
+ghost use Rattle.executor.specs.Conditions.{AreSomeParts};
 ghost use Rattle.executor.specs.Recorded.{AreEdited, AreRecorded, recorded};
 
 use crate::halt::Halt;
@@ -26,11 +27,11 @@ use array_store::Whole;
 use evaluator::{item_whole, list_whole, logical_if_of, take_turn};
 use expressions::as_logical;
 use format_edit::{EditFault, Format, FormatFault, edit};
-use marks::output_of;
+use landmarks::output_of;
 use meaning::ending::{Fault, FaultKind, Outcome, Value};
 use meaning::syntax::{Expr, FormatSource, Item, ListItems, Shape};
 use postfix::Code;
-use programs::Program;
+use programs::{Action, ListCodes, Program};
 use std::alloc::{AllocError, Global};
 use values::value;
 
@@ -40,16 +41,17 @@ fn recorded_list(
     program: &Program,
     source: &FormatSource,
     list: &ListItems,
+    codes: &ListCodes,
     cells: &mut Whole,
 ) -> Result<Result<Vec<u8>, FaultKind>, AllocError>
-    requires counted { IsCounted program.now (list_items_tree list.now) }
+    requires coded { AreItems program.now (list_items_tree list.now) codes.now }
     requires sized { length cells.old ≡ count_in program.now }
     ensures recorded { IfOk result (λ r. AreRecorded r (map_of program.now cells.new)
         (recorded (items_in program.now) (format_tree source.now) (list_items_tree list.now)
         (map_of program.now cells.old))) }
     ensures len { length cells.new ≡ length cells.old }
 {
-    match list_whole(alloc, program, list, cells)? {
+    match list_whole(alloc, program, list, codes, cells)? {
         Ok(found) => edited_list(alloc, program, source, &found),
         Err(kind) => Ok(Err(kind)),
     }
@@ -125,11 +127,12 @@ fn execute_output<S: Sink>(
     line: u32,
     source: &FormatSource,
     list: &ListItems,
+    codes: &ListCodes,
     cells: &mut Whole,
     turns: &mut u64,
     sink: &mut S,
 ) -> Result<Outcome, Halt>
-    requires counted { IsCounted program.now (list_items_tree list.now) }
+    requires coded { AreItems program.now (list_items_tree list.now) codes.now }
     requires sized { length cells.old ≡ count_in program.now }
     requires unrefused { (S.told sink.old).refused ≡ false }
     ensures steps { StepsIn program.now cells.old cells.new
@@ -145,7 +148,7 @@ fn execute_output<S: Sink>(
             line,
         }));
     }
-    match recorded_list(alloc, program, source, list, cells)? {
+    match recorded_list(alloc, program, source, list, codes, cells)? {
         Ok(records) => {
             put_all(sink, &records)?;
             Ok(Outcome::Normal)
@@ -154,53 +157,100 @@ fn execute_output<S: Sink>(
     }
 }
 
-// The code of the condition of a logical IF.
-fn condition_in<'a>(
+// The code of the condition of a logical IF, and what its statement needs.
+fn conditional_in<'a>(
     program: &'a Program,
     item: &Item,
     condition: &Expr,
     statement: &Shape,
-) -> Option<&'a Code>
+) -> Option<(&'a Code, &'a Action)>
     requires known { IsStatement program.now (item_tree item.now) }
     requires logical { shape_tree item.now.form.shape.value ≡
         logical_if (expr_tree condition.now) (shape_tree statement.now) }
-    ensures { IsSomeCode program.now (expr_tree condition.now) result }
+    ensures { AreSomeParts program.now (expr_tree condition.now) (shape_tree statement.now) result }
 {
     match program.action(item.line) {
-        Some(action) => match action.conditional() {
-            Some((code, _)) => Some(code),
-            None => None,
-        },
+        Some(action) => action.conditional(),
         None => None,
     }
 }
 
-// The value of the condition of a logical IF, or its fault. The cells keep their values.
+// The codes of the list of a statement of the program.
+fn list_in<'a>(program: &'a Program, item: &Item) -> Option<&'a ListCodes>
+    requires known { IsStatement program.now (item_tree item.now) }
+    ensures { ListIs program.now (shape_tree item.now.form.shape.value) result }
+{
+    match program.action(item.line) {
+        Some(action) => action.list(),
+        None => None,
+    }
+}
+
+// The value of a condition by its code, or its fault. The cells keep their values.
 fn condition_value(
     program: &Program,
-    item: &Item,
     condition: &Expr,
-    statement: &Shape,
+    code: &Code,
     cells: &mut Whole,
 ) -> Result<Value, FaultKind>
-    requires known { IsStatement program.now (item_tree item.now) }
-    requires logical { shape_tree item.now.form.shape.value ≡
-        logical_if (expr_tree condition.now) (shape_tree statement.now) }
+    requires code { IsCode program.now (expr_tree condition.now) code.now }
     requires sized { length cells.old ≡ count_in program.now }
     ensures is { value_of (scope_in program.now) (expr_tree condition.now)
         (map_of program.now cells.old) ≡ result }
     ensures kept { map_of program.now cells.new ≡ map_of program.now cells.old }
     ensures len { length cells.new ≡ length cells.old }
 {
-    match condition_in(program, item, condition, statement) {
-        Some(code) => value(program, code, cells),
-        None => Ok(Value::Bool(false)),
-    }
+    value(program, code, cells)
 }
 
 // Executes a logical IF over a WRITE or PRINT statement: it takes a turn, and the statement, where the condition is true,
 // another.
 fn execute_if<S: Sink>(
+    alloc: Global,
+    program: &Program,
+    line: u32,
+    condition: &Expr,
+    code: &Code,
+    source: &FormatSource,
+    list: &ListItems,
+    codes: &ListCodes,
+    cells: &mut Whole,
+    turns: &mut u64,
+    sink: &mut S,
+) -> Result<Outcome, Halt>
+    requires code { IsCode program.now (expr_tree condition.now) code.now }
+    requires coded { AreItems program.now (list_items_tree list.now) codes.now }
+    requires sized { length cells.old ≡ count_in program.now }
+    requires unrefused { (S.told sink.old).refused ≡ false }
+    ensures steps { (s : ShapeTree) →
+        Some (format_tree source.now, list_items_tree list.now) ≡ output_in s →
+        StepsIn program.now cells.old cells.new
+        (step (items_in program.now) (logical_if (expr_tree condition.now) s) line)
+        turns.old turns.new result (S.told sink.old) (S.told sink.new) }
+    ensures spends { IfOk result (λ o. Spends o turns.old turns.new) }
+    ensures len { length cells.new ≡ length cells.old }
+{
+    if !take_turn(turns) {
+        return Ok(Outcome::Fault(Fault {
+            kind: FaultKind::F4,
+            line,
+        }));
+    }
+    match condition_value(program, condition, code, cells) {
+        Ok(x) => {
+            if as_logical(x) {
+                return execute_output(
+                    alloc, program, line, source, list, codes, cells, turns, sink,
+                );
+            }
+            Ok(Outcome::Normal)
+        }
+        Err(kind) => Ok(Outcome::Fault(Fault { kind, line })),
+    }
+}
+
+// Executes a logical IF over a WRITE or PRINT statement, whose parts are these.
+fn execute_writing<S: Sink>(
     alloc: Global,
     program: &Program,
     item: &Item,
@@ -212,35 +262,28 @@ fn execute_if<S: Sink>(
     turns: &mut u64,
     sink: &mut S,
 ) -> Result<Outcome, Halt>
-    requires known { IsStatement program.now (item_tree item.now) }
     requires logical { shape_tree item.now.form.shape.value ≡
         logical_if (expr_tree condition.now) (shape_tree statement.now) }
-    requires counted { IsCounted program.now (list_items_tree list.now) }
+    requires writes { Some (format_tree source.now, list_items_tree list.now) ≡
+        output_in (shape_tree statement.now) }
+    requires known { IsStatement program.now (item_tree item.now) }
     requires sized { length cells.old ≡ count_in program.now }
     requires unrefused { (S.told sink.old).refused ≡ false }
-    ensures steps { (s : ShapeTree) →
-        Some (format_tree source.now, list_items_tree list.now) ≡ output_in s →
-        StepsIn program.now cells.old cells.new
-        (step (items_in program.now) (logical_if (expr_tree condition.now) s) item.now.line)
+    ensures steps { StepsIn program.now cells.old cells.new
+        (step (items_in program.now) (shape_tree item.now.form.shape.value) item.now.line)
         turns.old turns.new result (S.told sink.old) (S.told sink.new) }
     ensures spends { IfOk result (λ o. Spends o turns.old turns.new) }
     ensures len { length cells.new ≡ length cells.old }
 {
     let line = item.line;
-    if !take_turn(turns) {
-        return Ok(Outcome::Fault(Fault {
-            kind: FaultKind::F4,
-            line,
-        }));
-    }
-    match condition_value(program, item, condition, statement, cells) {
-        Ok(x) => {
-            if as_logical(x) {
-                return execute_output(alloc, program, line, source, list, cells, turns, sink);
-            }
-            Ok(Outcome::Normal)
-        }
-        Err(kind) => Ok(Outcome::Fault(Fault { kind, line })),
+    match conditional_in(program, item, condition, statement) {
+        Some((code, action)) => match action.list() {
+            Some(codes) => execute_if(
+                alloc, program, line, condition, code, source, list, codes, cells, turns, sink,
+            ),
+            None => Ok(Outcome::Normal),
+        },
+        None => Ok(Outcome::Normal),
     }
 }
 
@@ -257,7 +300,7 @@ fn execute_under<S: Sink>(
 ) -> Result<Outcome, Halt>
     requires logical { shape_tree item.now.form.shape.value ≡
         logical_if (expr_tree condition.now) (shape_tree statement.now) }
-    requires known { IsKnown program.now (item_tree item.now) }
+    requires known { IsStatement program.now (item_tree item.now) }
     requires sized { length cells.old ≡ count_in program.now }
     requires unrefused { (S.told sink.old).refused ≡ false }
     ensures steps { StepsIn program.now cells.old cells.new
@@ -267,7 +310,7 @@ fn execute_under<S: Sink>(
     ensures len { length cells.new ≡ length cells.old }
 {
     match output_of(statement) {
-        Some((source, list)) => execute_if(
+        Some((source, list)) => execute_writing(
             alloc, program, item, condition, statement, source, list, cells, turns, sink,
         ),
         None => Ok(item_whole(program, item, cells, turns)),
@@ -291,7 +334,7 @@ fn execute_alone<S: Sink>(
     sink: &mut S,
 ) -> Result<Outcome, Halt>
     requires alone { IsTrue (not (is_logical_if (shape_tree item.now.form.shape.value))) }
-    requires known { IsKnown program.now (item_tree item.now) }
+    requires known { IsStatement program.now (item_tree item.now) }
     requires sized { length cells.old ≡ count_in program.now }
     requires unrefused { (S.told sink.old).refused ≡ false }
     ensures steps { StepsIn program.now cells.old cells.new
@@ -301,9 +344,12 @@ fn execute_alone<S: Sink>(
     ensures len { length cells.new ≡ length cells.old }
 {
     match output_in_place(item) {
-        Some((source, list)) => execute_output(
-            alloc, program, item.line, source, list, cells, turns, sink,
-        ),
+        Some((source, list)) => match list_in(program, item) {
+            Some(codes) => execute_output(
+                alloc, program, item.line, source, list, codes, cells, turns, sink,
+            ),
+            None => Ok(Outcome::Normal),
+        },
         None => Ok(item_whole(program, item, cells, turns)),
     }
 }
@@ -317,7 +363,7 @@ pub fn execute_item<S: Sink>(
     turns: &mut u64,
     sink: &mut S,
 ) -> Result<Outcome, Halt>
-    requires known { IsKnown program.now (item_tree item.now) }
+    requires known { IsStatement program.now (item_tree item.now) }
     requires sized { length cells.old ≡ count_in program.now }
     requires unrefused { (S.told sink.old).refused ≡ false }
     ensures steps { StepsIn program.now cells.old cells.new

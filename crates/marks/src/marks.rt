@@ -1,64 +1,60 @@
-//! What is kept of the lists of a program unit.
+//! A set of cells.
 
-ghost use Rattle.std.specs.Prelude.{◌≡◌, IfOk};
-ghost use Rattle.meaning.specs.Trees.{Members, members_tree};
-ghost use Rattle.marks.specs.Loud.{is_loud};
-ghost use Rattle.marks.specs.Marked.{AreMarks};
-ghost use Rattle.marks.specs.Places.{place_from};
+ghost use Rattle.std.specs.Prelude.{◌≡◌, ◌↔◌, IsTrue, OnOk, OnErr};
+ghost use Rattle.std.specs.Ordering.{nat_cmp};
+ghost use Rattle.std.specs.FinSet as set;
+ghost use Rattle.std.specs.Coded.{coded_ℕ};
+ghost use Rattle.marks.specs.Cells.{Share};
 
-use crate::loud::loud_lines;
-use crate::places::places_of;
-use meaning::syntax::Member;
+use meaning::cell::Cell;
 use std::alloc::{AllocError, Global};
-use std::collections::{BTreeMap, BTreeSet};
+use std::collections::BTreeSet;
+use std::marker::Model;
 
-/// Where the labels of a list and of those further in lead, and which DO statements have output in their ranges.
+/// A set of cells. Contracts see the set of their numbers, and not how it is kept.
+#[derive(Drop)]
 pub struct Marks {
-    /// The place of each label in the list that has it.
-    places: BTreeMap<u32, usize>,
-    /// The initial lines of the DO statements with a WRITE or PRINT statement in their ranges.
-    loud: BTreeSet<u32>,
+    numbers: BTreeSet<usize>,
 }
 
-impl Drop for Marks {
-    fn drop(self) {
-        let Marks { places, loud } = self;
-        drop(places);
-        drop(loud);
-    }
+impl Model for Marks {
+    ghost Value = { set.FinSet nat_cmp };
+
+    ghost coded = { set.code coded_ℕ };
+
+    ghost view = { λ m. set.from_list m.numbers.keys };
 }
 
 impl Marks {
-    /// Those of a list. The `AllocError` comes where a growth was refused.
-    pub fn new(alloc: Global, members: &[Member]) -> Result<Self, AllocError>
-        ensures { IfOk result (AreMarks (members_tree members.now)) }
+    /// No cells. It takes no memory.
+    pub fn new(alloc: Global) -> Marks
+        ensures { result ≡ set.empty }
     {
-        let places = places_of(alloc, members)?;
-        match loud_lines(alloc, members) {
-            Ok(loud) => Ok(Marks { places, loud }),
-            Err(AllocError) => {
-                drop(places);
-                Err(AllocError)
-            }
+        Marks {
+            numbers: BTreeSet::new(alloc),
         }
     }
 
-    /// The place in its list that a label leads to: that of its statement, or, of END IF, that behind the block IF; none where no
-    /// statement has the label, or ELSE IF or ELSE alone (ANSI X3.9-1978, 11.1 to 11.9). Of the statements with one label the first
-    /// counts.
-    pub fn place(&self, label: u32) -> Option<usize>
-        ensures { (ms : Members) → AreMarks ms self.now → result ≡ place_from label 0 ms }
+    /// Adds a cell. The `AllocError` comes where memory was refused, and the set stays as it was.
+    pub fn set(&mut self, cell: Cell) -> Result<(), AllocError>
+        ensures ok { OnOk result (self.new ≡ set.insert self.old cell.0) }
+        ensures err { OnErr result (self.new ≡ self.old) }
     {
-        match self.places.get(&label) {
-            Some(place) => Some(*place),
-            None => None,
-        }
+        self.numbers.insert(cell.0)?;
+        Ok(())
     }
 
-    /// Whether a DO statement with this initial line has a WRITE or PRINT statement in its range.
-    pub fn is_loud(&self, line: u32) -> bool
-        ensures { (ms : Members) → AreMarks ms self.now → result ≡ is_loud line ms }
+    /// Whether a cell is in the set.
+    pub fn has(&self, cell: Cell) -> bool
+        ensures { result ≡ set.contains self.now cell.0 }
     {
-        self.loud.contains(&line)
+        self.numbers.contains(&cell.0)
+    }
+
+    /// Whether a cell is in both sets.
+    pub fn meets(&self, other: &Marks) -> bool
+        ensures { IsTrue result ↔ Share self.now other.now }
+    {
+        !self.numbers.is_disjoint(&other.numbers)
     }
 }

@@ -3,15 +3,16 @@ use Rattle.std.specs.Prelude.{◌≡◌, ◌⊎◌, ℕ, Bool, true, false, List
 use Rattle.meaning.specs.declared.syntax.Tree.{Tree}
 use Rattle.meaning.specs.Characters.{number_of}
 use Rattle.meaning.specs.Scopes.{defined_by}
-use Rattle.meaning.specs.Syntax.{ExprTree, ExprsTree, LimitsTree, StopTree, ShapeTree, assignment, format, doing, continuing, typing, ending, naming, implying, logical_typing, dimensioning, parameter, initializing, definition, going, computed_going, arithmetic_if, logical_if, block_if, else_if, otherwise, end_if, stopping}
+use Rattle.meaning.specs.Syntax.{ExprTree, ExprsTree, LimitsTree, ListItemsTree, StopTree, ShapeTree, assignment, format, doing, continuing, typing, ending, naming, implying, logical_typing, dimensioning, parameter, initializing, definition, going, computed_going, arithmetic_if, logical_if, block_if, else_if, otherwise, end_if, stopping}
 use Rattle.checker.specs.Checked.{names_in}
-use Rattle.marks.specs.Quiet.{writes}
+use Rattle.landmarks.specs.Quiet.{output_in}
 use Rattle.postfix.specs.declared.code.Code.{Code}
 use Rattle.programs.specs.declared.action.Action.{Action}
 use Rattle.programs.specs.declared.action.Action.TheVariants.{Pass, Assign, Continue, GoTo, ComputedGoTo, ArithmeticIf, Stop, Output, If', Test, Repeat as Do}
 use Rattle.programs.specs.declared.action.Repeat.{Repeat}
 use Rattle.programs.specs.declared.action.Target.{Target}
-use Rattle.programs.specs.Codes.{IsCell, IsCode, IsCodeIf, IsTarget}
+use Rattle.programs.specs.Codes.{AreLimits, IsCell, IsCode, IsTarget}
+use Rattle.programs.specs.Items.{AreItems, AreItemsOf}
 
 -- ---- what is passed over
 
@@ -91,12 +92,6 @@ pub record Tests (t : Tree) (c : Code) (s : ShapeTree) : Type 0 where
   pub is : (s ≡ block_if condition) ⊎ (s ≡ else_if condition)
   pub code : IsCode t condition c
 
--- limits
-pub record AreLimits (t : Tree) (l : LimitsTree) (r : Repeat) : Type 0 where
-  pub first : IsCode t l.first r.first
-  pub last : IsCode t l.last r.last
-  pub step : IsCodeIf t l.step r.step
-
 pub record Repeats (t : Tree) (r : Repeat) (s : ShapeTree) : Type 0 where
   pub label : List ℕ
   pub comma : Bool
@@ -114,7 +109,7 @@ Acts t (GoTo label) s = Goes label s
 Acts t (ComputedGoTo labels c) s = GoesByCount t labels.items c s
 Acts t (ArithmeticIf c negative zero positive) s = GoesBySign t c negative zero positive s
 Acts t Stop s = Stops s
-Acts t Output s = IsTrue (writes s)
+Acts t (Output list) s = AreItemsOf t (output_in s) list
 Acts t (If' c p a) s = Conditional t c (Acts t a) s
 Acts t (Test c) s = Tests t c s
 Acts t (Do r) s = Repeats t r s
@@ -130,3 +125,8 @@ AssignsTo t target e a = ⊥
 abbrev pub TestsBy : Tree → ExprTree → Action → Type 0
 TestsBy t e (Test c) = IsCode t e c
 TestsBy t e a = ⊥
+
+-- a WRITE or PRINT statement with the codes of this list
+abbrev pub WritesList : Tree → ListItemsTree → Action → Type 0
+WritesList t list (Output codes) = AreItems t list codes
+WritesList t list a = ⊥

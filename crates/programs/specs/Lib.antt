@@ -1,4 +1,5 @@
 pub mod Codes
+pub mod Items
 pub mod Acts
 pub mod Asked
 pub mod Kept

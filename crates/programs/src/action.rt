@@ -3,7 +3,7 @@
 ghost use Rattle.meaning.specs.declared.syntax.Tree.{Tree};
 ghost use Rattle.meaning.specs.Syntax.{ShapeTree};
 ghost use Rattle.programs.specs.Acts.{Acts};
-ghost use Rattle.programs.specs.Asked.{ConditionIs, ConditionalIs, RepeatIs};
+ghost use Rattle.programs.specs.Asked.{ConditionIs, ConditionalIs, ListIs, RepeatIs};
 
 use postfix::Code;
 
@@ -29,6 +29,37 @@ pub struct Repeat {
     pub step: Option<Code>,
 }
 
+/// A whole array in an output list (ANSI X3.9-1978, 12.8.2). Its cells stand one behind the other, in the order of its elements.
+#[derive(Clone, Copy)]
+pub struct WholeArray {
+    /// The cell of its first element.
+    pub first: usize,
+    /// How many elements it has.
+    pub size: usize,
+    /// Whether they are LOGICAL.
+    pub is_logical: bool,
+}
+
+/// An item of an output list (ANSI X3.9-1978, 12.8.2).
+#[derive(Drop)]
+#[cycle(list_code)]
+pub enum ListCode {
+    /// An expression.
+    Value(Code),
+    /// A whole array.
+    Array(WholeArray),
+    /// An implied DO: its items, and its variable and limits.
+    Loop(Box<ListCodes>, Repeat),
+}
+
+/// The items of an output list, first to last.
+#[derive(Drop)]
+#[cycle(list_code)]
+pub enum ListCodes {
+    Empty,
+    More(ListCode, Box<ListCodes>),
+}
+
 /// What the execution of a statement needs: codes in place of expressions, cells in place of names, and labels as numbers.
 #[derive(Drop)]
 pub enum Action {
@@ -46,8 +77,8 @@ pub enum Action {
     ArithmeticIf(Code, u32, u32, u32),
     /// STOP
     Stop,
-    /// WRITE or PRINT.
-    Output,
+    /// WRITE or PRINT, with its list.
+    Output(ListCodes),
     /// A logical IF: the code of its condition, and what its statement needs.
     If(Code, Box<Action>),
     /// IF THEN or ELSE IF, with the code of the condition.
@@ -73,6 +104,16 @@ impl Action {
     {
         match self {
             Action::Test(condition) => Some(condition),
+            _ => None,
+        }
+    }
+
+    /// The list of a WRITE or PRINT statement.
+    pub fn list(&self) -> Option<&ListCodes>
+        ensures { (t : Tree) (s : ShapeTree) → Acts t self.now s → ListIs t s result }
+    {
+        match self {
+            Action::Output(list) => Some(list),
             _ => None,
         }
     }

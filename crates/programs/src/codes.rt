@@ -1,14 +1,16 @@
-//! Codes of the expressions and the targets in a program's statements (ANSI X3.9-1978, 6.1, 10.1 and 15.4).
+//! Codes of the expressions and the limits in a program's statements (ANSI X3.9-1978, 6.1, 10.1 and 15.4).
 
-ghost use Rattle.std.specs.Prelude.{IfOk, option_map};
-ghost use Rattle.meaning.specs.Syntax.{expr_tree};
-ghost use Rattle.programs.specs.Codes.{IsCode, IsCodeIf};
+ghost use Rattle.std.specs.Prelude.{◌≡◌, IfOk, option_map};
+ghost use Rattle.meaning.specs.Syntax.{expr_tree, limits_tree};
+ghost use Rattle.programs.specs.Codes.{AreLimits, IsCell, IsCode, IsCodeIf};
 
+use crate::Repeat;
 use checker::Program;
 use compiler::{NoCode, Scene, code_of};
 use expressions::Numbering;
 use kinds::{Frame, is_logical};
-use meaning::syntax::{Expr, Exprs};
+use meaning::cell::Cell;
+use meaning::syntax::{Expr, Exprs, Limits};
 use postfix::Code;
 use std::alloc::Global;
 
@@ -46,4 +48,60 @@ pub(crate) fn code_if(
         },
         None => Ok(None),
     }
+}
+
+/// The cell of a variable.
+pub(crate) fn cell_of(name: &[u8], program: &Program) -> Result<usize, NoCode>
+    ensures { IfOk result (IsCell program.now name.now) }
+{
+    match program.find(name).cell() {
+        Some(cell) => Ok(cell.0),
+        None => Err(NoCode::Unruly),
+    }
+}
+
+// The codes of limits, with the cell of the variable.
+fn limits_in(
+    alloc: Global,
+    variable: usize,
+    limits: &Limits,
+    program: &Program,
+) -> Result<Repeat, NoCode>
+    ensures limits { IfOk result (AreLimits program.now (limits_tree limits.now)) }
+    ensures variable { IfOk result (λ r. r.variable ≡ variable) }
+{
+    let first = code_in(alloc, &limits.first, program)?;
+    match code_in(alloc, &limits.last, program) {
+        Ok(last) => match code_if(alloc, &limits.step, program) {
+            Ok(step) => Ok(Repeat {
+                variable,
+                first,
+                last,
+                step,
+            }),
+            Err(reason) => {
+                drop(first);
+                drop(last);
+                Err(reason)
+            }
+        },
+        Err(reason) => {
+            drop(first);
+            Err(reason)
+        }
+    }
+}
+
+/// The cell of a DO variable, and the codes of its limits.
+pub(crate) fn repeat_in(
+    alloc: Global,
+    variable: &[u8],
+    limits: &Limits,
+    program: &Program,
+) -> Result<Repeat, NoCode>
+    ensures variable { IfOk result (λ r. IsCell program.now variable.now r.variable) }
+    ensures limits { IfOk result (AreLimits program.now (limits_tree limits.now)) }
+{
+    let cell = cell_of(variable, program)?;
+    limits_in(alloc, cell, limits, program)
 }

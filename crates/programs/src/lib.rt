@@ -6,8 +6,9 @@ mod action;
 mod actions;
 mod codes;
 mod functions;
+mod items;
 mod program;
 mod statement;
 
-pub use action::{Action, Repeat, Target};
+pub use action::{Action, ListCode, ListCodes, Repeat, Target, WholeArray};
 pub use program::{Program, check};

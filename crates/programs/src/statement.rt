@@ -3,19 +3,19 @@
 ghost use Rattle.std.specs.Prelude.{◌≡◌, ℕ, Bool, List, IfOk, Some, map};
 ghost use Rattle.meaning.specs.declared.syntax.Tree.{Tree};
 ghost use Rattle.meaning.specs.Characters.{number_of};
-ghost use Rattle.meaning.specs.Syntax.{arithmetic_if, assignment, doing, going, expr_tree, exprs_tree, limits_tree, logical_if, shape_tree, computed_going};
+ghost use Rattle.meaning.specs.Syntax.{arithmetic_if, assignment, doing, going, expr_tree, exprs_tree, limits_tree, list_items_tree, logical_if, shape_tree, computed_going};
 ghost use Rattle.checker.specs.Told.{IsArrayIn};
-ghost use Rattle.programs.specs.Acts.{Acts, AreLimits, AssignsTo, TestsBy};
-ghost use Rattle.programs.specs.Codes.{IsCell, IsTarget};
+ghost use Rattle.programs.specs.Acts.{Acts, AssignsTo, TestsBy, WritesList};
+ghost use Rattle.programs.specs.Codes.{IsTarget};
 
-use crate::codes::{code_if, code_in};
-use crate::{Action, Repeat, Target};
+use crate::codes::{cell_of, code_in, repeat_in};
+use crate::items::list_code;
+use crate::{Action, Target};
 use checker::Program;
 use compiler::{NoCode, Scene, place_of};
 use expressions::{Cells, Numbering};
-use meaning::cell::Cell;
 use meaning::number::number;
-use meaning::syntax::{Expr, Exprs, Limits, Shape};
+use meaning::syntax::{Expr, Exprs, Limits, ListItems, Shape};
 use std::alloc::Global;
 
 // The label that digits spell.
@@ -38,16 +38,6 @@ fn targets(alloc: Global, labels: &[Vec<u8>]) -> Result<Vec<u32>, NoCode>
         found.push(target(label)?)?;
     }
     Ok(found)
-}
-
-// The cell of a variable.
-fn cell_of(name: &[u8], program: &Program) -> Result<usize, NoCode>
-    ensures { IfOk result (IsCell program.now name.now) }
-{
-    match program.find(name).cell() {
-        Some(cell) => Ok(cell.0),
-        None => Err(NoCode::Unruly),
-    }
 }
 
 // The code of an element's place.
@@ -166,38 +156,6 @@ fn test_action(alloc: Global, condition: &Expr, program: &Program) -> Result<Act
     }
 }
 
-// The codes of limits, with the cell of the variable.
-fn repeat_in(
-    alloc: Global,
-    variable: usize,
-    limits: &Limits,
-    program: &Program,
-) -> Result<Repeat, NoCode>
-    ensures limits { IfOk result (AreLimits program.now (limits_tree limits.now)) }
-    ensures variable { IfOk result (λ r. r.variable ≡ variable) }
-{
-    let first = code_in(alloc, &limits.first, program)?;
-    match code_in(alloc, &limits.last, program) {
-        Ok(last) => match code_if(alloc, &limits.step, program) {
-            Ok(step) => Ok(Repeat {
-                variable,
-                first,
-                last,
-                step,
-            }),
-            Err(reason) => {
-                drop(first);
-                drop(last);
-                Err(reason)
-            }
-        },
-        Err(reason) => {
-            drop(first);
-            Err(reason)
-        }
-    }
-}
-
 // A DO statement.
 fn repeat_action(
     alloc: Global,
@@ -208,9 +166,18 @@ fn repeat_action(
     ensures { (label : List ℕ) (comma : Bool) → IfOk result (λ a. Acts program.now a
         (doing label comma variable.now (limits_tree limits.now))) }
 {
-    let cell = cell_of(variable, program)?;
-    match repeat_in(alloc, cell, limits, program) {
+    match repeat_in(alloc, variable, limits, program) {
         Ok(repeat) => Ok(Action::Repeat(repeat)),
+        Err(reason) => Err(reason),
+    }
+}
+
+// A WRITE or PRINT statement with this list.
+fn output_action(alloc: Global, list: &ListItems, program: &Program) -> Result<Action, NoCode>
+    ensures { IfOk result (λ a. WritesList program.now (list_items_tree list.now) a) }
+{
+    match list_code(alloc, list, program) {
+        Ok(codes) => Ok(Action::Output(codes)),
         Err(reason) => Err(reason),
     }
 }
@@ -276,8 +243,8 @@ fn simple_action(alloc: Global, shape: &Shape, program: &Program) -> Result<Acti
         } => assignment_action(alloc, name, subscripts, value, program),
         Shape::Continue => Ok(Action::Continue),
         Shape::Stop(_) => Ok(Action::Stop),
-        Shape::Write { .. } => Ok(Action::Output),
-        Shape::Print { .. } => Ok(Action::Output),
+        Shape::Write { control: _, list } => output_action(alloc, list, program),
+        Shape::Print { format: _, list } => output_action(alloc, list, program),
         Shape::IfThen(condition) => test_action(alloc, condition, program),
         Shape::ElseIf(condition) => test_action(alloc, condition, program),
         Shape::Do {

@@ -1,4 +1,4 @@
-use Rattle.std.proofs.Common.{◌≡◌, sym, subst, Ok}
+use Rattle.std.proofs.Common.{sym, subst, Ok}
 use Rattle.meaning.specs.Stores.{Reads}
 use Rattle.meaning.specs.Syntax.{shape_tree}
 use Rattle.meaning.proofs.Stores.{reads_nothing}

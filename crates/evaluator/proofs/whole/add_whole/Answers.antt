@@ -8,6 +8,6 @@ use Rattle.evaluator.proofs.Wholes.{does_whole}
 use Rattle.evaluator.proofs.whole.add_whole.Goals as goal
 
 pub returns-in-Ok-clause-adds : goal.returns-in-Ok-clause-adds
-returns-in-Ok-clause-adds c =
+returns-in-Ok-clause-adds c = λ n is.
     let p = c.args.program.now in
-    subst (λ by. Adds c.args.name.now by (map_of p c.args.cells.now) (map_of p c.add_to_named.new.store) c.in-Ok.outcome) (to_z-of_z w32 c.args.by c.ranges.by) (does_whole c.args.cells.now c.add_to_named.new.store (λ m k. Adds c.args.name.now (to_z w32 (of_z w32 c.args.by)) (map_at p m) (map_at p k) c.in-Ok.outcome) c.in-Ok.ensures.does)
+    subst (λ by. Adds n by (map_of p c.args.cells.now) (map_of p c.add_to.new.store) c.in-Ok.outcome) (to_z-of_z w32 c.args.by c.ranges.by) (does_whole c.args.cells.now c.add_to.new.store (λ m k. Adds n (to_z w32 (of_z w32 c.args.by)) (map_at p m) (map_at p k) c.in-Ok.outcome) (c.in-Ok.ensures.does n is))

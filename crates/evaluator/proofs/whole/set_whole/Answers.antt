@@ -8,7 +8,6 @@ use Rattle.evaluator.proofs.Wholes.{does_whole}
 use Rattle.evaluator.proofs.whole.set_whole.Goals as goal
 
 pub returns-in-Ok-clause-set : goal.returns-in-Ok-clause-set
-returns-in-Ok-clause-set c =
+returns-in-Ok-clause-set c = λ n is.
     let p = c.args.program.now in
-    let n = c.args.name.now in
-    does_whole c.args.cells.now c.set_named.new.store (λ m k. map_at p k ≡ put (map_at p m) n [] (to_z w32 (of_z w32 c.args.x))) c.in-Ok.ensures.does ∙ ap (put (map_of p c.args.cells.now) n []) (to_z-of_z w32 c.args.x c.ranges.x)
+    does_whole c.args.cells.now c.set_variable.new.store (λ m k. map_at p k ≡ put (map_at p m) n [] (to_z w32 (of_z w32 c.args.x))) (c.in-Ok.ensures.does n is) ∙ ap (put (map_of p c.args.cells.now) n []) (to_z-of_z w32 c.args.x c.ranges.x)

@@ -5,14 +5,14 @@ use Rattle.values.specs.Programs.{map_at, scope_in}
 use Rattle.evaluator.proofs.Wholes.{reads_whole, kept_whole}
 use Rattle.executor.proofs.statement.condition_value.Goals as goal
 
-pub returns-in-Some-clause-is : goal.returns-in-Some-clause-is
-returns-in-Some-clause-is c =
+pub returns-clause-is : goal.returns-clause-is
+returns-clause-is c =
     let p = c.args.program.now in
     let e = expr_tree c.args.condition.now in
-    reads_whole c.args.cells.now c.value.new.store (λ m. value (scope_in p) e (map_at p m) ≡ c.value.result) (c.value.ensures.reads e c.in-Some.ensures)
+    reads_whole c.args.cells.now c.value.new.store (λ m. value (scope_in p) e (map_at p m) ≡ c.value.result) (c.value.ensures.reads e c.requires.code)
 
-pub returns-in-Some-clause-kept : goal.returns-in-Some-clause-kept
-returns-in-Some-clause-kept c =
+pub returns-clause-kept : goal.returns-clause-kept
+returns-clause-kept c =
     let p = c.args.program.now in
     let e = expr_tree c.args.condition.now in
-    kept_whole c.args.cells.now c.value.new.store p (λ m. value (scope_in p) e (map_at p m) ≡ c.value.result) (c.value.ensures.reads e c.in-Some.ensures)
+    kept_whole c.args.cells.now c.value.new.store p (λ m. value (scope_in p) e (map_at p m) ≡ c.value.result) (c.value.ensures.reads e c.requires.code)

@@ -1,17 +1,21 @@
+use Rattle.meaning.specs.Syntax.{shape_tree}
 use Rattle.checker.specs.Checked.{items_in}
 use Rattle.checker.specs.Starts.{map_of}
 use Rattle.executor.proofs.Composed.{steps_quietly, steps_same}
-use Rattle.executor.proofs.Written.{outputs, output_alone, quiet_alone}
+use Rattle.executor.proofs.Told.{items_told}
+use Rattle.executor.proofs.Written.{outputs, quiet_alone}
 use Rattle.executor.proofs.statement.execute_alone.Goals as goal
 
-pub execute_output-requires-clause-counted : goal.execute_output-requires-clause-counted
-execute_output-requires-clause-counted g c = c.requires.known.known.listed _ _ (output_alone _ _ _ c.in-Some.ensures)
+pub execute_output-requires-clause-coded : goal.execute_output-requires-clause-coded
+execute_output-requires-clause-coded g c =
+    let s = shape_tree c.args.item.now.form.shape.value in
+    items_told c.args.program.now s _ _ c.in-Some.ensures c.in-Some-list_in.codes.now c.in-Some-list_in.ensures
 
 pub item_whole-requires-clause-quiet : goal.item_whole-requires-clause-quiet
 item_whole-requires-clause-quiet g c = quiet_alone _ c.requires.alone c.in-None.ensures
 
-pub returns-in-Some-clause-steps : goal.returns-in-Some-clause-steps
-returns-in-Some-clause-steps g c =
+pub returns-in-Some-list_in-clause-steps : goal.returns-in-Some-list_in-clause-steps
+returns-in-Some-list_in-clause-steps g c =
     let p = c.args.program.now in
     let told = g.S.Sink.told in
     let y = c.execute_output in

@@ -17,7 +17,7 @@ returns-then-not-take_turn-clause-steps g c =
     let p = c.args.program.now in
     let m = map_of p c.args.cells.now in
     let u = c.take_turn.new.turns in
-    λ s is. steps_quietly _ c.args.turns.now m u (fault_at F4 c.args.item.now.line) (g.S.Sink.told c.args.sink.now) (if_unexecuted (items_in p) (expr_tree c.args.condition.now) s c.args.item.now.line m c.args.turns.now u c.if-not-take_turn.ensures.0 c.if-not-take_turn.ensures.1)
+    λ s is. steps_quietly _ c.args.turns.now m u (fault_at F4 c.args.line) (g.S.Sink.told c.args.sink.now) (if_unexecuted (items_in p) (expr_tree c.args.condition.now) s c.args.line m c.args.turns.now u c.if-not-take_turn.ensures.0 c.if-not-take_turn.ensures.1)
 
 pub returns-then-as_logical-clause-steps : goal.returns-then-as_logical-clause-steps
 returns-then-as_logical-clause-steps g c =
@@ -27,7 +27,7 @@ returns-then-as_logical-clause-steps g c =
     let e = expr_tree c.args.condition.now in
     let source = format_tree c.args.source.now in
     let list = list_items_tree c.args.list.now in
-    let line = c.args.item.now.line in
+    let line = c.args.line in
     let m = map_of p c.args.cells.now in
     let t = c.args.turns.now in
     let u = c.take_turn.new.turns in
@@ -41,7 +41,7 @@ returns-else-as_logical-clause-steps g c =
     let p = c.args.program.now in
     let all = items_in p in
     let e = expr_tree c.args.condition.now in
-    let line = c.args.item.now.line in
+    let line = c.args.line in
     let m = map_of p c.args.cells.now in
     let t = c.args.turns.now in
     let u = c.take_turn.new.turns in
@@ -52,7 +52,7 @@ returns-in-Err-clause-steps g c =
     let p = c.args.program.now in
     let all = items_in p in
     let e = expr_tree c.args.condition.now in
-    let line = c.args.item.now.line in
+    let line = c.args.line in
     let m = map_of p c.args.cells.now in
     let t = c.args.turns.now in
     let u = c.take_turn.new.turns in

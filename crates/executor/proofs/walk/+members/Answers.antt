@@ -15,15 +15,15 @@ use Rattle.meaning.specs.Trips.{trip_count}
 use Rattle.meaning.specs.Maps.{put}
 use Rattle.meaning.specs.Execution.{onward, exec, looped, arms_from}
 use Rattle.meaning.specs.Promise.{Told}
-use Rattle.marks.specs.Kept.{IsKept, AreArmsKept}
-use Rattle.marks.proofs.Keeping.{kept_at, kept_range, kept_quiet, kept_arms, kept_body}
+use Rattle.landmarks.specs.Kept.{IsKept, AreArmsKept}
+use Rattle.landmarks.proofs.Keeping.{kept_at, kept_range, kept_quiet, kept_arms, kept_body}
 use Rattle.checker.specs.Checked.{items_in}
 use Rattle.checker.specs.Starts.{map_of}
 use Rattle.values.specs.Programs.{scope_in}
-use Rattle.evaluator.specs.Known.{IsKnown, AreKnown}
+use Rattle.programs.specs.Programs.{IsStatement}
+use Rattle.evaluator.specs.Known.{AreStatements}
 use Rattle.evaluator.specs.Limited.{span_values}
 use Rattle.evaluator.specs.Member.{member_does}
-use Rattle.marks.specs.Quiet.{under}
 use Rattle.evaluator.specs.Statements.{Adds, Moves, Comes}
 use Rattle.evaluator.proofs.Composed.{comes_none, if_ok_so}
 use Rattle.evaluator.proofs.Executed.{fault_at, passes_over}
@@ -35,6 +35,7 @@ use Rattle.meaning.proofs.syntax.Arm.TheLaws.{the_size as arm_size}
 use Rattle.meaning.specs.declared.syntax.Member.TheViews.{sized-Loop, sized-Block, size_is-Arm, size_is-Block, weight-Arm-body, weight-Block-arms}
 use Rattle.executor.specs.Walk.{Runs, Steps, Halts}
 use Rattle.executor.proofs.Composed.{front_none, so_far_none, steps_same, steps_quietly, member_goes, member_jumps, member_leaves, member_ends, member_halts, last_member, last_trip, range_halts, range_ends, trip_goes, sum_faults, do_runs, arm_steps}
+use Rattle.executor.proofs.Told.{told_by}
 use Rattle.executor.proofs.walk.+members.Goals as goal
 
 pub walk_arms-loop-arm-init : goal.walk_arms-loop-arm-init
@@ -44,8 +45,8 @@ walk_arms-loop-arm-init g t c =
 pub walk_arms-test_whole-requires : goal.walk_arms-test_whole-requires
 walk_arms-test_whole-requires g t c =
     let p = c.args.program.now in
-    let head = arm_known (IsKnown p) c.args.arms.now c.loop-arm.arm-index c.arm-item.result c.loop-arm-test.true c.arm-item.is c.requires.named in
-    record { known = head.is; sized = c.loop-arm.invariant.sized }
+    let head = arm_known (IsStatement p) c.args.arms.now c.loop-arm.arm-index c.arm-item.result c.loop-arm-test.true c.arm-item.is c.requires.named in
+    record { known = head; sized = c.loop-arm.invariant.sized }
 
 pub walk_arms-walk_list-requires : goal.walk_arms-walk_list-requires
 walk_arms-walk_list-requires g t c =
@@ -61,7 +62,7 @@ walk_arms-walk_list-requires g t c =
     let lt = c.loop-arm-test.true in
     let is = c.arm-item.is in
     let m = map_of p c.loop-arm.cells in
-    let named = subst (λ xs. AreKnown p (flat (members_tree xs))) (sym c.deref.ensures.value) (body_known (IsKnown p) arms i a lt is c.requires.named) in
+    let named = subst (λ xs. AreStatements p (flat (members_tree xs))) (sym c.deref.ensures.value) (body_known (IsStatement p) arms i a lt is c.requires.named) in
     let kept = subst (λ xs. IsKept p (members_tree xs)) (sym c.deref.ensures.value) (kept_body p arms i a lt is c.requires.kept) in
     let size = at_most arm_size arms i a lt in
     let same = ap arm_size is in
@@ -225,6 +226,13 @@ walk_do-returns-then-not-take_turn-clause-steps g t c =
     let m = map_of p c.args.cells.now in
     λ label comma. steps_quietly _ c.args.turns.now m c.take_turn.new.turns (fault_at F4 l.head.line) (told c.args.sink.now) (do_unmoved (scope_in p) (exec program) label comma c.args.variable.now (limits_tree c.args.limits.now) l.head.line range m c.args.turns.now c.take_turn.new.turns c.if-not-take_turn.ensures.0 c.if-not-take_turn.ensures.1)
 
+pub walk_do-walk_trips-requires : goal.walk_do-walk_trips-requires
+walk_do-walk_trips-requires g t c =
+    let some = (c.in-Ok.ensures.span (limits_tree c.args.limits.now) c.requires.limited).1 in
+    let sized = c.set_whole.ensures.len ∙ c.in-Ok.ensures.len ∙ c.requires.sized in
+    let given = c.decreases in
+    λ κs h. (omega arith, (search rules, (search rules, (c.requires.ready, (c.requires.named, (c.requires.kept, (c.requires.counted, (some, (sized, c.requires.unrefused)))))))))
+
 pub walk_do-returns-in-Ok-clause-steps : goal.walk_do-returns-in-Ok-clause-steps
 walk_do-returns-in-Ok-clause-steps g t c =
     let p = c.args.program.now in
@@ -235,8 +243,8 @@ walk_do-returns-in-Ok-clause-steps g t c =
     let m = map_of p c.args.cells.now in
     let y = c.walk_trips in
     let fits : FitsSigned w32 c.in-Ok.span.first = search rules in
-    let first : map_of p c.set_whole.new.cells ≡ put m c.args.variable.now [] c.in-Ok.span.first = c.set_whole.ensures.set ∙ ap (λ x. put x c.args.variable.now [] (to_z w32 (of_z w32 c.in-Ok.span.first))) c.limits_whole.ensures.kept ∙ ap (λ x. put m c.args.variable.now [] x) (to_z-of_z w32 c.in-Ok.span.first fits) in
-    λ label comma. do_runs (scope_in p) (exec program) label comma c.args.variable.now (limits_tree c.args.limits.now) l.head.line range m c.args.turns.now c.take_turn.new.turns c.if-not-take_turn.ensures (span_values c.in-Ok.span) (map_of p c.set_whole.new.cells) (map_of p y.new.cells) y.new.turns y.result (told c.args.sink.now) (told y.new.sink) c.in-Ok.ensures.span.0 first y.ensures.runs
+    let first : map_of p c.set_whole.new.cells ≡ put m c.args.variable.now [] c.in-Ok.span.first = c.set_whole.ensures.set c.args.variable.now c.requires.counted ∙ ap (λ x. put x c.args.variable.now [] (to_z w32 (of_z w32 c.in-Ok.span.first))) (c.limits_whole.ensures.kept (limits_tree c.args.limits.now) c.requires.limited) ∙ ap (λ x. put m c.args.variable.now [] x) (to_z-of_z w32 c.in-Ok.span.first fits) in
+    λ label comma. do_runs (scope_in p) (exec program) label comma c.args.variable.now (limits_tree c.args.limits.now) l.head.line range m c.args.turns.now c.take_turn.new.turns c.if-not-take_turn.ensures (span_values c.in-Ok.span) (map_of p c.set_whole.new.cells) (map_of p y.new.cells) y.new.turns y.result (told c.args.sink.now) (told y.new.sink) (c.in-Ok.ensures.span (limits_tree c.args.limits.now) c.requires.limited).0 first y.ensures.runs
 
 pub walk_do-returns-in-Err-clause-steps : goal.walk_do-returns-in-Err-clause-steps
 walk_do-returns-in-Err-clause-steps g t c =
@@ -246,7 +254,7 @@ walk_do-returns-in-Err-clause-steps g t c =
     let l = out-Loop c.args.repeated.now in
     let range = members_tree l.range.items in
     let m = map_of p c.args.cells.now in
-    λ label comma. steps_quietly _ c.args.turns.now _ c.take_turn.new.turns (fault_at c.in-Err.kind l.head.line) (told c.args.sink.now) (subst (λ z. Moves (λ go. looped (scope_in p) (exec program) (doing label comma c.args.variable.now (limits_tree c.args.limits.now)) l.head.line range m c.args.turns.now go) c.args.turns.now z c.take_turn.new.turns (fault_at c.in-Err.kind l.head.line)) (sym c.in-Err.ensures.kept) (do_faults (scope_in p) (exec program) label comma c.args.variable.now (limits_tree c.args.limits.now) l.head.line range m c.args.turns.now c.take_turn.new.turns c.if-not-take_turn.ensures c.in-Err.kind c.in-Err.ensures.span))
+    λ label comma. steps_quietly _ c.args.turns.now _ c.take_turn.new.turns (fault_at c.in-Err.kind l.head.line) (told c.args.sink.now) (subst (λ z. Moves (λ go. looped (scope_in p) (exec program) (doing label comma c.args.variable.now (limits_tree c.args.limits.now)) l.head.line range m c.args.turns.now go) c.args.turns.now z c.take_turn.new.turns (fault_at c.in-Err.kind l.head.line)) (sym (c.in-Err.ensures.kept (limits_tree c.args.limits.now) c.requires.limited)) (do_faults (scope_in p) (exec program) label comma c.args.variable.now (limits_tree c.args.limits.now) l.head.line range m c.args.turns.now c.take_turn.new.turns c.if-not-take_turn.ensures c.in-Err.kind (c.in-Err.ensures.span (limits_tree c.args.limits.now) c.requires.limited)))
 
 pub walk_list-loop-place-init : goal.walk_list-loop-place-init
 walk_list-loop-place-init g t c =
@@ -263,7 +271,7 @@ walk_list-walk_member-requires g t c =
     let x = c.index-members-place.result in
     let lt = c.loop-place-test.true in
     let is = c.index-members-place.is in
-    let named = known_at (IsKnown p) ms i x lt is c.requires.named in
+    let named = known_at (IsStatement p) ms i x lt is c.requires.named in
     let kept = kept_at p ms i x lt is c.requires.kept in
     let size = at_most the_size ms i x lt in
     let same = ap the_size is in
@@ -574,12 +582,12 @@ walk_loop-returns-in_err-outcome-clause-steps g t c =
 pub walk_loop-walk_do-requires : goal.walk_loop-walk_do-requires
 walk_loop-walk_do-requires g t c =
     let d = c.in-Some.ensures in
-    let held = c.requires.head.known.counted d.label d.comma _ _ (ap under d.is) in
+    let r = told_by c.args.program.now _ d.label d.comma _ _ d.is c.in-Some-repeat_in.repeat.now c.in-Some-repeat_in.ensures in
     let given = c.decreases in
-    λ κs h. (omega arith, (search rules, (search rules, (c.requires.ready, (c.requires.named, (c.requires.kept, (held, (c.requires.sized, c.requires.unrefused))))))))
+    λ κs h. (omega arith, (search rules, (search rules, (c.requires.ready, (c.requires.named, (c.requires.kept, (r.0, (r.1, (c.requires.sized, c.requires.unrefused)))))))))
 
-pub walk_loop-returns-in-Some-clause-steps : goal.walk_loop-returns-in-Some-clause-steps
-walk_loop-returns-in-Some-clause-steps g t c =
+pub walk_loop-returns-in-Some-repeat_in-clause-steps : goal.walk_loop-returns-in-Some-repeat_in-clause-steps
+walk_loop-returns-in-Some-repeat_in-clause-steps g t c =
     let p = c.args.program.now in
     let program = items_in p in
     let told = g.S.Sink.told in
@@ -603,8 +611,8 @@ walk_loop-returns-in-None-clause-steps g t c =
 pub walk_member-walk_loop-requires : goal.walk_member-walk_loop-requires
 walk_member-walk_loop-requires g t c =
     let p = c.args.program.now in
-    let head = head_known (IsKnown p) c.args.member.now c.in-Loop.repeated c.in-Loop.is c.requires.named in
-    let range = range_known (IsKnown p) c.args.member.now c.in-Loop.repeated c.in-Loop.is c.requires.named in
+    let head = head_known (IsStatement p) c.args.member.now c.in-Loop.repeated c.in-Loop.is c.requires.named in
+    let range = range_known (IsStatement p) c.args.member.now c.in-Loop.repeated c.in-Loop.is c.requires.named in
     let kept = kept_range p c.args.member.now c.in-Loop.repeated c.in-Loop.is c.requires.kept in
     let quiet = kept_quiet p c.args.member.now c.in-Loop.repeated c.in-Loop.is c.requires.kept in
     let given = c.decreases in
@@ -615,7 +623,7 @@ walk_member-walk_loop-requires g t c =
 pub walk_member-walk_arms-requires : goal.walk_member-walk_arms-requires
 walk_member-walk_arms-requires g t c =
     let p = c.args.program.now in
-    let named = subst (λ xs. AreKnown p (flat_arms (arms_tree xs))) (sym c.deref.ensures.value) (arms_known (IsKnown p) c.args.member.now c.in-Block.block c.in-Block.is c.requires.named) in
+    let named = subst (λ xs. AreStatements p (flat_arms (arms_tree xs))) (sym c.deref.ensures.value) (arms_known (IsStatement p) c.args.member.now c.in-Block.block c.in-Block.is c.requires.named) in
     let kept = subst (λ xs. AreArmsKept p (arms_tree xs)) (sym c.deref.ensures.value) (kept_arms p c.args.member.now c.in-Block.block c.in-Block.is c.requires.kept) in
     let given = c.decreases in
     let same = ap the_size c.in-Block.is in
@@ -892,7 +900,7 @@ walk_trips-returns-in-Err-clause-runs g t c =
     let lt : i < trip_count span.first span.last span.step = (let e = inv.ends in let test = c.loop-test.true in omega arith) in
     let runs = subst (λ xs. Runs (exec program (members_tree xs) (members_tree xs) m c.loop.turns) c.loop.turns n left (Ok outcomes.Normal) (told c.loop.sink) (told y.new.sink)) c.deref.ensures.value (rw c.in-Normal.is at c.in_ok-walk_list.ensures.runs) in
     let fits : FitsSigned w32 span.step = search rules in
-    let adds = subst (λ by. Adds c.args.variable.now by n (map_of p c.add_whole.new.cells) (Err c.in-Err.kind)) (to_z-of_z w32 span.step fits) (c.in-Err.ensures.adds) in
+    let adds = subst (λ by. Adds c.args.variable.now by n (map_of p c.add_whole.new.cells) (Err c.in-Err.kind)) (to_z-of_z w32 span.step fits) (c.in-Err.ensures.adds c.args.variable.now c.requires.counted) in
     sum_faults (exec program) l.head.line c.args.variable.now span.first span.step (trip_count span.first span.last span.step) range _ c.args.turns.now i c.loop.turns m (told c.args.sink.now) (told c.loop.sink) inv.so_far (told y.new.sink) lt n left (map_of p c.add_whole.new.cells) c.in-Err.kind runs adds
 
 pub walk_trips-returns-in-Err-clause-turns : goal.walk_trips-returns-in-Err-clause-turns
@@ -948,7 +956,7 @@ walk_trips-loop-preserved g t c =
     let lt : i < trip_count span.first span.last span.step = (let e = inv.ends in let test = c.loop-test.true in omega arith) in
     let runs = subst (λ xs. Runs (exec program (members_tree xs) (members_tree xs) m c.loop.turns) c.loop.turns n left (Ok outcomes.Normal) (told c.loop.sink) (told y.new.sink)) c.deref.ensures.value (rw c.in-Normal.is at c.in_ok-walk_list.ensures.runs) in
     let fits : FitsSigned w32 span.step = search rules in
-    let adds = subst (λ by. Adds c.args.variable.now by n (map_of p c.add_whole.new.cells) (Ok tt)) (to_z-of_z w32 span.step fits) (c.in-Ok.ensures.adds) in
+    let adds = subst (λ by. Adds c.args.variable.now by n (map_of p c.add_whole.new.cells) (Ok tt)) (to_z-of_z w32 span.step fits) (c.in-Ok.ensures.adds c.args.variable.now c.requires.counted) in
     let le = c.in_ok-walk_list.ensures.turns in
     let fewer = inv.fewer in
     record {

@@ -4,18 +4,18 @@ use Rattle.meaning.specs.Answers.{run_of}
 use Rattle.meaning.specs.Execution.{Ran, exec}
 use Rattle.checker.specs.Checked.{tree_of, items_in}
 use Rattle.checker.specs.Starts.{map_of}
-use Rattle.marks.specs.Kept.{IsKept}
-use Rattle.evaluator.specs.Known.{AreKnown}
+use Rattle.landmarks.specs.Kept.{IsKept}
+use Rattle.evaluator.specs.Known.{AreStatements}
 use Rattle.executor.specs.Walk.{Ends}
 use Rattle.executor.proofs.Composed.{ends_as}
-use Rattle.executor.proofs.Known.{all_known, start_is}
+use Rattle.executor.proofs.Unit.{all_statements, start_is}
 use Rattle.executor.proofs.walk.execute.Goals as goal
 
 pub walk_list-requires-clause-named : goal.walk_list-requires-clause-named
 walk_list-requires-clause-named g c =
     let t = c.args.program.now in
     let is = c.deref.ensures.value ∙ ap (λ u. u.body.items) c.tree-tree.ensures.tree in
-    subst (λ ms. AreKnown t (flat (members_tree ms))) (sym is) (all_known t c.tree-tree.ensures.allowed c.requires.labelled)
+    subst (λ ms. AreStatements t (flat (members_tree ms))) (sym is) (all_statements t)
 
 pub walk_list-requires-clause-kept : goal.walk_list-requires-clause-kept
 walk_list-requires-clause-kept g c =

@@ -1,7 +1,7 @@
 use Rattle.std.proofs.Common.{◌≡◌, Ok, subst}
 use Rattle.meaning.specs.Rules.{checked}
 use Rattle.meaning.specs.Trees.{nested}
-use Rattle.marks.proofs.Apart.{all_kept}
+use Rattle.landmarks.proofs.Apart.{all_kept}
 use Rattle.checker.proofs.Ruled.{labels_once}
 use Rattle.checker.proofs.program.Program.tree.Goals as goal
 

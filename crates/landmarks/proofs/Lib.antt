@@ -1,0 +1,4 @@
+pub mod Silent
+pub mod Keeping
+pub mod Apart
+mod Putting

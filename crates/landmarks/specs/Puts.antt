@@ -1,0 +1,34 @@
+-- What tables of labels and of lines have once more is put into them.
+use Rattle.std.specs.Prelude.{◌≡◌, ℕ, Bool, ◌||◌, if◌then◌else◌, Option, Some, None}
+use Rattle.std.specs.BTreeMap.{BTreeMap, get}
+use Rattle.std.specs.BTreeSet.{BTreeSet, contains}
+use Rattle.std.specs.Option.{option_or}
+use Rattle.std.specs.Ordering.{nat_cmp}
+use Rattle.meaning.specs.declared.syntax.Member.{Member}
+use Rattle.meaning.specs.LabelRules.{is_label_at}
+use Rattle.meaning.specs.Trees.{none, member_before}
+use Rattle.landmarks.specs.Loud.{is_loud}
+use Rattle.landmarks.specs.Places.{place_from}
+
+-- where a table says that a label leads
+abbrev pub place_at : BTreeMap ℕ ℕ → ℕ → Option ℕ
+place_at places s = get nat_cmp places s
+
+-- a table has what it had, and else these
+abbrev pub Puts : (ℕ → Option ℕ) → BTreeMap ℕ ℕ → BTreeMap ℕ ℕ → Type 0
+Puts more old new = (s : ℕ) → place_at new s ≡ option_or (place_at old s) (more s)
+
+-- where the label of a statement leads
+abbrev pub place_if : Option ℕ → ℕ → ℕ → Option ℕ
+place_if label i s = if is_label_at label s then Some i else None
+
+-- where the labels of a member lead
+abbrev pub member_places : Member → ℕ → ℕ → Option ℕ
+member_places x i s = place_from s i (member_before x none)
+
+-- a set has its lines and these
+abbrev pub PutsLines : (ℕ → Bool) → BTreeSet ℕ → BTreeSet ℕ → Type 0
+PutsLines more old new = (line : ℕ) → contains nat_cmp new line ≡ (contains nat_cmp old line || more line)
+
+abbrev pub member_loud : Member → ℕ → Bool
+member_loud x line = is_loud line (member_before x none)

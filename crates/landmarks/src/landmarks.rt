@@ -1,0 +1,64 @@
+//! What is kept of the lists of a program unit.
+
+ghost use Rattle.std.specs.Prelude.{◌≡◌, IfOk};
+ghost use Rattle.meaning.specs.Trees.{Members, members_tree};
+ghost use Rattle.landmarks.specs.Loud.{is_loud};
+ghost use Rattle.landmarks.specs.Landmarked.{AreLandmarks};
+ghost use Rattle.landmarks.specs.Places.{place_from};
+
+use crate::loud::loud_lines;
+use crate::places::places_of;
+use meaning::syntax::Member;
+use std::alloc::{AllocError, Global};
+use std::collections::{BTreeMap, BTreeSet};
+
+/// Where the labels of a list and of those further in lead, and which DO statements have output in their ranges.
+pub struct Landmarks {
+    /// The place of each label in the list that has it.
+    places: BTreeMap<u32, usize>,
+    /// The initial lines of the DO statements with a WRITE or PRINT statement in their ranges.
+    loud: BTreeSet<u32>,
+}
+
+impl Drop for Landmarks {
+    fn drop(self) {
+        let Landmarks { places, loud } = self;
+        drop(places);
+        drop(loud);
+    }
+}
+
+impl Landmarks {
+    /// Those of a list. The `AllocError` comes where a growth was refused.
+    pub fn new(alloc: Global, members: &[Member]) -> Result<Self, AllocError>
+        ensures { IfOk result (AreLandmarks (members_tree members.now)) }
+    {
+        let places = places_of(alloc, members)?;
+        match loud_lines(alloc, members) {
+            Ok(loud) => Ok(Landmarks { places, loud }),
+            Err(AllocError) => {
+                drop(places);
+                Err(AllocError)
+            }
+        }
+    }
+
+    /// The place in its list that a label leads to: that of its statement, or, of END IF, that behind the block IF; none where no
+    /// statement has the label, or ELSE IF or ELSE alone (ANSI X3.9-1978, 11.1 to 11.9). Of the statements with one label the first
+    /// counts.
+    pub fn place(&self, label: u32) -> Option<usize>
+        ensures { (ms : Members) → AreLandmarks ms self.now → result ≡ place_from label 0 ms }
+    {
+        match self.places.get(&label) {
+            Some(place) => Some(*place),
+            None => None,
+        }
+    }
+
+    /// Whether a DO statement with this initial line has a WRITE or PRINT statement in its range.
+    pub fn is_loud(&self, line: u32) -> bool
+        ensures { (ms : Members) → AreLandmarks ms self.now → result ≡ is_loud line ms }
+    {
+        self.loud.contains(&line)
+    }
+}

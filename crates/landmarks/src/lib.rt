@@ -1,0 +1,11 @@
+//! What is kept of the lists of a program unit: where its labels stand, and which DO statements have output in their ranges
+//! (ANSI X3.9-1978, 3.4, chapter 11 and 12.8).
+#![tactic(auto)]
+
+mod landmarks;
+mod loud;
+mod places;
+mod quiet;
+
+pub use landmarks::Landmarks;
+pub use quiet::{is_quiet_list, output_of, statement_of};
