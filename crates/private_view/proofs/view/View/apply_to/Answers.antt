@@ -4,7 +4,7 @@ use Rattle.meaning.specs.Stores.{known, overlay}
 use Rattle.array_store.specs.Whole.{world_of}
 use Rattle.private_view.specs.Views.{Seen}
 use Rattle.private_view.proofs.Putting.{keys_below, below_more, put_is, length-put_entries}
-use Rattle.private_view.proofs.view.View.apply.Goals as goal
+use Rattle.private_view.proofs.view.View.apply_to.Goals as goal
 
 pub put_all-requires : goal.put_all-requires
 put_all-requires c =
