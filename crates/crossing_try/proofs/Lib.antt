@@ -1,0 +1,4 @@
+pub mod Crossing
+pub mod CrossingStores
+pub mod Captures
+pub mod CrossingWork
