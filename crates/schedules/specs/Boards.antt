@@ -1,6 +1,5 @@
 -- What a board of a stage shows, and what its calls do (own).
 use Rattle.std.specs.Prelude.{◌≡◌, ℕ, ◌+◌, ◌*◌, ◌^◌, ◌<◌, ◌≤◌, Option, Some, None, List, [], ◌∷◌, ◌++◌, map, length, slice_get, slice_set, replicate, refl}
-use Rattle.std.specs.Coded.{Coded, code_by, coded×, coded_ℕ, coded_list, coded_option}
 use Rattle.schedules.specs.declared.event.Ticket.{Ticket}
 use Rattle.schedules.specs.declared.event.Event.{Event}
 use Rattle.schedules.specs.declared.event.Event.TheVariants.{Claim, Post, Lose}
@@ -18,6 +17,15 @@ pub record Stage (T : Type 0) : Type 0 where
   pub places : List (Place T)
   -- what happened, first to last
   pub events : List Event
+
+-- nobody has anything out
+abbrev pub AreIdle : List (Option ℕ) → Type 0
+AreIdle outs = (worker block : ℕ) → slice_get outs worker ≡ Some (Some block) → ⊥
+
+-- the same of the workers below a number
+abbrev pub AreIdleBelow : ℕ → List (Option ℕ) → Type 0
+AreIdleBelow n outs =
+    (worker block : ℕ) → worker < n → slice_get outs worker ≡ Some (Some block) → ⊥
 
 module _ {T : Type 0} where
   -- nothing was given out
@@ -66,6 +74,24 @@ module _ {T : Type 0} where
   given_up (Posted r) = Posted r
   given_up Lost = Lost
 
+  -- each block was posted or lost
+  abbrev pub AreEnded : List (Place T) → Type 0
+  AreEnded places = (block : ℕ) → slice_get places block ≡ Some Open → ⊥
+
+  -- what the worker had out is lost, and nothing else
+  pub record LetsGo (old : Stage T) (worker : ℕ) (new : Stage T) : Type 0 where
+    pub idle : (block : ℕ) → slice_get new.outs worker ≡ Some (Some block) → ⊥
+    pub others : (k : ℕ) → (k ≡ worker → ⊥) → slice_get new.outs k ≡ slice_get old.outs k
+    pub workers : length new.outs ≡ length old.outs
+    pub places : map given_up new.places ≡ map given_up old.places
+
+  -- the next block, if there is one, is lost, and nothing else
+  pub record LosesNext (old new : Stage T) : Type 0 where
+    pub idle : AreIdle new.outs
+    pub next : old.next < length old.places → new.next ≡ old.next + 1
+    pub all : length old.places ≤ old.next → new ≡ old
+    pub places : map given_up new.places ≡ map given_up old.places
+
   -- ---- what a board keeps
 
   pub record IsBoard (number : T → ℕ) (many room : ℕ) (s : Stage T) : Type 0 where
@@ -79,18 +105,3 @@ module _ {T : Type 0} where
     pub few : length s.outs < 2 ^ 32
     -- there is room for two events a block
     pub roomy : 2 * length s.places ≤ room
-
--- ---- its code
-
-abbrev pub Parts : Type 0 → Type 0
-Parts T = ℕ × (List (Option ℕ) × (List (Place T) × List Event))
-
-abbrev pub parts_of : {T : Type 0} → Stage T → Parts T
-parts_of s = (s.next, (s.outs, (s.places, s.events)))
-
-abbrev pub of_parts : {T : Type 0} → Parts T → Stage T
-of_parts p = record { next = p.0; outs = p.1.0; places = p.1.1.0; events = p.1.1.1 }
-
-abbrev pub coded_stage : {T : Type 0} → Coded (Place T) → Coded Event → Coded (Stage T)
-coded_stage {T} place event =
-    code_by (Parts T) (coded× coded_ℕ (coded× (coded_list (coded_option coded_ℕ)) (coded× (coded_list place) (coded_list event)))) parts_of of_parts (λ _. refl)

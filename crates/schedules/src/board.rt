@@ -1,10 +1,11 @@
 //! The board of a stage.
 
-ghost use Rattle.std.specs.Prelude.{◌≡◌, ◌↔◌, ◌+◌, ◌<◌, ◌≤◌, ◌^◌, IsTrue, IfOk, [], ◌∷◌, ◌++◌, None, length, replicate, vec_len, vec_capacity, if◌then◌else◌};
+ghost use Rattle.std.specs.Prelude.{◌≡◌, ◌↔◌, ◌+◌, ◌*◌, ◌<◌, ◌≤◌, ◌^◌, IsTrue, IfOk, [], ◌∷◌, ◌++◌, None, length, map, replicate, vec_len, vec_capacity, if◌then◌else◌};
 ghost use Rattle.schedules.specs.declared.place.Place.TheVariants.{Open};
-ghost use Rattle.schedules.specs.Schedules.{IsIdle, IsOut};
-ghost use Rattle.schedules.specs.Boards.{first_stage, Claims, with_run, without_run};
+ghost use Rattle.schedules.specs.Schedules.{IsIdle, IsOut, SettledOnce};
+ghost use Rattle.schedules.specs.Boards.{AreEnded, AreIdle, AreNumbered, Claims, IsBoard, IsScheduled, LetsGo, LosesNext, first_stage, given_up, with_run, without_run};
 
+use crate::closed::Closed;
 use crate::event::{Event, Ticket};
 use crate::numbered::Numbered;
 use crate::place::Place;
@@ -22,9 +23,7 @@ pub struct Board<T: Numbered> {
 
 impl<T: Numbered> Model for Board<T> {
     ghost use Rattle.std.specs.Prelude.{vec_capacity};
-    ghost use Rattle.schedules.specs.contracts.place.Place as places;
-    ghost use Rattle.schedules.specs.contracts.event.Event as events;
-    ghost use Rattle.schedules.specs.Boards.{Stage, IsBoard, coded_stage};
+    ghost use Rattle.schedules.specs.Boards.{Stage, IsBoard};
 
     ghost Value = { Stage T };
 
@@ -152,5 +151,72 @@ impl<T: Numbered + Drop> Board<T> {
         self.outs[ticket.worker as usize] = None;
         self.places[ticket.block as usize] = Place::Lost;
         true
+    }
+
+    // What is true of every board.
+    fn known(&self)
+        ensures { IsBoard T.number T.blocks (2 * length self.now.places) self.now }
+    {
+        let _ = &self.next;
+    }
+
+    // Gives up what a worker has out.
+    fn let_go(&mut self, worker: u32)
+        ensures { LetsGo self.old worker self.new }
+    {
+        self.known();
+        let out = match self.outs.get(worker as usize) {
+            Some(out) => *out,
+            None => None,
+        };
+        if let Some(block) = out {
+            let _ = self.lose_in(Ticket { worker, block });
+        }
+    }
+
+    // Claims the next block, if there is one, and gives it up.
+    fn lose_next(&mut self)
+        requires { AreIdle self.old.outs }
+        ensures { LosesNext self.old self.new }
+    {
+        self.known();
+        if let Some(ticket) = self.claim_in(0) {
+            let _ = self.lose_in(ticket);
+        }
+    }
+
+    /// Gives up what is still out, and then what was never given out.
+    pub fn settle(&mut self)
+        ensures once { SettledOnce T.blocks self.new.events }
+        ensures ended { AreEnded self.new.places }
+        ensures places { self.new.places ≡ map given_up self.old.places }
+    {
+        let workers = self.outs.len();
+        let blocks = self.places.len();
+        for worker in 0..workers {
+            self.let_go(worker as u32);
+        }
+        for _ in 0..blocks {
+            self.lose_next();
+        }
+        self.known();
+    }
+
+    /// Hands on what it has for each block and what happened, both unchanged.
+    pub fn close(self) -> Closed<T>
+        ensures places { result.places.items ≡ self.places }
+        ensures events { result.events.items ≡ self.events }
+        ensures scheduled { IsScheduled self }
+        ensures numbered { AreNumbered T.number self.places }
+        ensures blocks { length self.places ≡ T.blocks }
+    {
+        let Board {
+            next: _,
+            outs,
+            places,
+            events,
+        } = self;
+        drop(outs);
+        Closed { places, events }
     }
 }
