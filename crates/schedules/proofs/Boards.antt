@@ -1,5 +1,5 @@
 -- What a board keeps, from call to call.
-use Rattle.std.proofs.Common.{◌≡◌, ℕ, zero, suc, ◌+◌, ◌*◌, ◌^◌, ◌<◌, ◌≤◌, inl, inr, List, [], ◌∷◌, ◌++◌, map, length, Option, Some, None, option_map, slice_get, slice_set, replicate, refl, sym, ap, ap₂, ◌∙◌, subst, arith}
+use Rattle.std.proofs.Common.{◌≡◌, ℕ, zero, suc, ◌+◌, ◌*◌, ◌^◌, ◌<◌, ◌≤◌, ◌↔◌, Bool, true, false, if◌then◌else◌, inl, inr, List, [], ◌∷◌, ◌++◌, map, length, Option, Some, None, option_map, slice_get, slice_set, replicate, refl, sym, ap, ap₂, ◌∙◌, subst, arith}
 use Rattle.std.proofs.lemmas.Bool.{cases_eq}
 use Rattle.std.proofs.lemmas.List.{length-set, length-append, length-map, length-replicate, map-set}
 use Rattle.std.proofs.lemmas.Option.{slice_get_within, slice_get-map}
@@ -9,7 +9,7 @@ use Rattle.schedules.specs.declared.event.Event.TheVariants.{Claim, Post, Lose}
 use Rattle.schedules.specs.declared.place.Place.{Place}
 use Rattle.schedules.specs.declared.place.Place.TheVariants.{Open, Posted, Lost}
 use Rattle.schedules.specs.Schedules.{End, unended, posted, lost, World, first_world, IsIdle, IsOut, ended, Happens, Replays, SettledOnce}
-use Rattle.schedules.specs.Boards.{Stage, end_of, world_of, IsScheduled, AreNumbered, first_stage, claimed, with_run, without_run, IsBoard, AreIdle, AreEnded, LetsGo, LosesNext, given_up}
+use Rattle.schedules.specs.Boards.{Stage, end_of, world_of, IsScheduled, AreNumbered, first_stage, claimed, with_run, without_run, IsBoard, AreIdle, AreEnded, Claims, LetsGo, LosesNext, given_up}
 use Rattle.schedules.proofs.Setting.{get_same, get_other, get_replicated, is_replicated}
 use Rattle.schedules.proofs.Histories.{History, history, count_out, one_less, replays_more, settled}
 
@@ -208,3 +208,12 @@ module _ {T : Type 0} where
   -- nothing was left open
   pub all_given_up : (ps old : List (Place T)) → AreEnded ps → map given_up ps ≡ map given_up old → ps ≡ map given_up old
   all_given_up ps old ended same = sym (ended_same ps ended) ∙ same
+
+  pub loses_claimed : (number : T → ℕ) (many room : ℕ) (s mid new : Stage T) (t : Ticket) (r : Bool) → IsBoard number many room s → AreIdle s.outs → Claims s 0 (Some t) mid → ((r ≡ true) ↔ IsOut mid.outs t) → new ≡ (if r then without_run t mid else mid) → LosesNext s new
+  loses_claimed number many room s mid new t r is idle claim told gone =
+      let same : t ≡ record { worker = 0; block = s.next } = claim.1 in
+      let some = is.workers in
+      let first = ap (λ u. u.worker) same in
+      let out : IsOut (claimed t s).outs t = get_same s.outs t.worker (Some t.block) (omega (arith, some, first)) in
+      let yes : r ≡ true = told.1 (subst (λ m. IsOut m.outs t) (sym claim.2) out) in
+      subst (λ n. LosesNext s n) (sym (gone ∙ ap (λ b. if b then without_run t mid else mid) yes ∙ ap (λ m. without_run t m) claim.2 ∙ ap (λ u. without_run u (claimed u s)) same)) (loses_next number many room s is claim.0 idle)

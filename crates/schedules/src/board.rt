@@ -1,6 +1,6 @@
 //! The board of a stage.
 
-ghost use Rattle.std.specs.Prelude.{◌≡◌, ◌↔◌, ◌+◌, ◌*◌, ◌<◌, ◌≤◌, ◌^◌, IsTrue, IfOk, [], ◌∷◌, ◌++◌, None, length, map, replicate, vec_len, vec_capacity, if◌then◌else◌};
+ghost use Rattle.std.specs.Prelude.{◌≡◌, ◌↔◌, ◌+◌, ◌*◌, ◌<◌, ◌≤◌, ◌^◌, IsTrue, IfOk, [], ◌∷◌, ◌++◌, None, Some, length, map, replicate, slice_get, ℕ, vec_len, vec_capacity, if◌then◌else◌};
 ghost use Rattle.schedules.specs.declared.place.Place.TheVariants.{Open};
 ghost use Rattle.schedules.specs.Schedules.{IsIdle, IsOut, SettledOnce};
 ghost use Rattle.schedules.specs.Boards.{AreEnded, AreIdle, AreNumbered, Claims, IsBoard, IsScheduled, LetsGo, LosesNext, first_stage, given_up, with_run, without_run};
@@ -160,17 +160,35 @@ impl<T: Numbered + Drop> Board<T> {
         let _ = &self.next;
     }
 
+    // The block that a worker has out.
+    fn out_of(&self, worker: u32) -> Option<u32>
+        ensures { (block : ℕ) → (result ≡ Some block) ↔ (slice_get self.now.outs worker ≡ Some (Some block)) }
+    {
+        match self.outs.get(worker as usize) {
+            Some(out) => *out,
+            None => None,
+        }
+    }
+
     // Gives up what a worker has out.
     fn let_go(&mut self, worker: u32)
         ensures { LetsGo self.old worker self.new }
     {
         self.known();
-        let out = match self.outs.get(worker as usize) {
-            Some(out) => *out,
-            None => None,
-        };
-        if let Some(block) = out {
+        if let Some(block) = self.out_of(worker) {
             let _ = self.lose_in(Ticket { worker, block });
+        }
+    }
+
+    // Gives up all that is out.
+    fn let_all_go(&mut self)
+        ensures idle { AreIdle self.new.outs }
+        ensures places { map given_up self.new.places ≡ map given_up self.old.places }
+    {
+        let workers = self.outs.len();
+        for worker in 0..workers {
+            self.known();
+            self.let_go(worker as u32);
         }
     }
 
@@ -185,20 +203,29 @@ impl<T: Numbered + Drop> Board<T> {
         }
     }
 
+    // Claims what was never given out, and gives it up.
+    fn lose_rest(&mut self)
+        requires { AreIdle self.old.outs }
+        ensures idle { AreIdle self.new.outs }
+        ensures all { length self.new.places ≤ self.new.next }
+        ensures places { map given_up self.new.places ≡ map given_up self.old.places }
+    {
+        let blocks = self.places.len();
+        for _ in 0..blocks {
+            self.known();
+            self.lose_next();
+        }
+        self.known();
+    }
+
     /// Gives up what is still out, and then what was never given out.
     pub fn settle(&mut self)
         ensures once { SettledOnce T.blocks self.new.events }
         ensures ended { AreEnded self.new.places }
         ensures places { self.new.places ≡ map given_up self.old.places }
     {
-        let workers = self.outs.len();
-        let blocks = self.places.len();
-        for worker in 0..workers {
-            self.let_go(worker as u32);
-        }
-        for _ in 0..blocks {
-            self.lose_next();
-        }
+        self.let_all_go();
+        self.lose_rest();
         self.known();
     }
 
