@@ -1,4 +1,2 @@
 pub mod Crossing
 pub mod CrossingStores
-pub mod Captures
-pub mod CrossingWork

@@ -3,4 +3,4 @@
 
 mod work;
 
-pub use work::{Trace, Work, all};
+pub use work::{Gate, Job, StageKey, StageWork, Trace, run_stage};

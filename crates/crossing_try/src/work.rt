@@ -1,17 +1,35 @@
 //! A trial: what a worker holds may cross threads.
 
 ghost use Rattle.std.specs.Prelude.{◌≡◌, ◌+◌, ◌^◌, ◌≤◌, ◌<◌};
-ghost use Rattle.std.specs.Thread.{IsSync, IsSend};
 
 use array_store::Whole;
 use meaning::syntax::Loop;
 use private_view::View;
+use schedules::{Board, Numbered};
 use std::alloc::Global;
-use std::sync::{Mutex, Wait};
-use std::thread::{Threads, join};
+use std::marker::{Brand, PhantomData};
+use std::sync::Wait;
+use std::thread::Threads;
+use workers::{Work, run_all};
+
+/// A type that stands for one stage's data.
+pub trait StageKey {
+    ghost use Rattle.std.specs.Prelude.{ℕ};
+
+    ghost count: { ℕ };
+}
+
+impl StageKey for Brand {
+    ghost count = { 0 };
+}
+
+/// What a block enters.
+pub trait Gate {
+    fn enter(&self, block: u32);
+}
 
 /// What is to be done.
-pub struct Work<'a> {
+pub struct Job<'a> {
     pub repeated: &'a Loop,
     pub base: &'a Whole,
     pub first: i32,
@@ -22,70 +40,73 @@ pub struct Work<'a> {
 
 /// What was done.
 #[derive(Drop)]
-pub struct Trace<'a> {
+pub struct Trace<'a, J: StageKey> {
     pub block: u32,
     pub view: View<'a>,
+    pub key: PhantomData<J>,
 }
 
-fn one<'a, R: Wait>(
-    rt: &R,
-    alloc: Global,
-    work: &Work<'a>,
-    shared: &Mutex<Vec<Option<Trace<'a>>>>,
-    block: u32,
-) {
-    let trace = Trace {
-        block,
-        view: View::new(alloc, work.base),
-    };
-    let mut all = shared.lock(rt);
-    let _ = all.push(Some(trace));
+impl<'a, J: StageKey> Numbered for Trace<'a, J> {
+    ghost number = { λ t. t.block };
+
+    ghost blocks = { J.count };
 }
 
-// Blocks from one on, each in a thread of its own where one can be made.
-#[cycle(halves)]
-fn work_from<'a, R: Threads + Wait + Sync>(
-    rt: &R,
-    alloc: Global,
-    work: &Work<'a>,
-    shared: &Mutex<Vec<Option<Trace<'a>>>>,
-    from: u32,
-    count: u32,
-)
-    requires count { 0 < count }
-    requires room { from + count < 2 ^ 32 }
-{
-    if count == 1 {
-        one(rt, alloc, work, shared, from);
-        return;
+/// How it is done.
+pub struct StageWork<'a, J: StageKey, G: Gate> {
+    pub job: &'a Job<'a>,
+    pub gate: &'a G,
+    pub alloc: Global,
+    pub key: PhantomData<J>,
+}
+
+impl<'a, J: StageKey, G: Gate> Work<Trace<'a, J>> for StageWork<'a, J, G> {
+    fn run(&self, block: u32) -> Option<Trace<'a, J>> {
+        self.gate.enter(block);
+        Some(Trace {
+            block,
+            view: View::new(self.alloc, self.job.base),
+            key: PhantomData,
+        })
     }
-    let low = count / 2;
-    let high = count - low;
-    let up = from + low;
-    join(
-        rt,
-        move ||
-            requires { IsSync R.row × (0 < low) × (from + low < 2 ^ 32) }
-        { work_from(rt, alloc, work, shared, from, low) },
-        move ||
-            requires { IsSync R.row × (0 < high) × (up + high < 2 ^ 32) }
-        { work_from(rt, alloc, work, shared, up, high) },
-    );
+}
+
+fn stage<'a, J: StageKey + Send + Sync, R: Threads + Wait + Sync, G: Gate + Sync>(
+    rt: &R,
+    alloc: Global,
+    job: &'a Job<'a>,
+    workers: u32,
+    gate: &'a G,
+) -> Option<usize>
+    requires key { job.now.blocks ≡ J.count }
+    requires some { 0 < workers }
+    requires room { workers < 2 ^ 32 }
+{
+    let board: Board<Trace<'a, J>> = match Board::new(alloc, job.blocks, workers) {
+        Ok(board) => board,
+        Err(_) => return None,
+    };
+    let work = StageWork {
+        job,
+        gate,
+        alloc,
+        key: PhantomData,
+    };
+    let board = run_all(rt, board, &work, job.blocks, workers);
+    let closed = board.close();
+    Some(closed.places.len())
 }
 
 /// How many of the first blocks were run.
-pub fn all<'a, R: Threads + Wait + Sync>(
+pub fn run_stage<'a, R: Threads + Wait + Sync, G: Gate + Sync>(
     rt: &R,
     alloc: Global,
-    work: &Work<'a>,
-    blocks: u32,
-) -> usize
-    requires some { 0 < blocks }
-    requires room { blocks < 2 ^ 32 }
+    job: &'a Job<'a>,
+    workers: u32,
+    gate: &'a G,
+) -> Option<usize>
+    requires some { 0 < workers }
+    requires room { workers < 2 ^ 32 }
 {
-    let all: Vec<Option<Trace<'a>>> = Vec::new(alloc);
-    let shared = Mutex::new(all);
-    work_from(rt, alloc, work, &shared, 0, blocks);
-    let all = shared.into_inner();
-    all.len()
+    stage::<Brand, R, G>(rt, alloc, job, workers, gate)
 }

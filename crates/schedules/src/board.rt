@@ -1,6 +1,6 @@
 //! The board of a stage.
 
-ghost use Rattle.std.specs.Prelude.{◌≡◌, ◌↔◌, ◌+◌, ◌*◌, ◌<◌, ◌≤◌, ◌^◌, IsTrue, IfOk, [], ◌∷◌, ◌++◌, None, Some, length, map, replicate, slice_get, ℕ, vec_len, vec_capacity, if◌then◌else◌};
+ghost use Rattle.std.specs.Prelude.{◌≡◌, ◌↔◌, ◌+◌, ◌*◌, ◌<◌, ◌≤◌, ◌^◌, IsTrue, IfOk, IfSome, [], ◌∷◌, ◌++◌, None, Some, length, map, replicate, slice_get, ℕ, vec_len, vec_capacity, if◌then◌else◌};
 ghost use Rattle.schedules.specs.declared.place.Place.TheVariants.{Open};
 ghost use Rattle.schedules.specs.Schedules.{IsIdle, IsOut, SettledOnce};
 ghost use Rattle.schedules.specs.Boards.{AreEnded, AreIdle, AreNumbered, Claims, IsBoard, IsScheduled, LetsGo, LosesNext, first_stage, given_up, with_run, without_run};
@@ -97,7 +97,8 @@ impl<T: Numbered + Drop> Board<T> {
     /// Gives the next block to an idle worker; `None` where all blocks were given out.
     pub fn claim_in(&mut self, worker: u32) -> Option<Ticket>
         requires idle { IsIdle self.old.outs worker }
-        ensures { Claims self.old worker result self.new }
+        ensures claims { Claims self.old worker result self.new }
+        ensures below { IfSome result (λ t. t.block < T.blocks) }
     {
         if self.next as usize >= self.places.len() {
             return None;

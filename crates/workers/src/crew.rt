@@ -1,6 +1,6 @@
 //! Threads that run the blocks of one board.
 
-ghost use Rattle.std.specs.Prelude.{◌≡◌, ◌+◌, ◌^◌, ◌≤◌, ◌<◌};
+ghost use Rattle.std.specs.Prelude.{◌≡◌, ◌+◌, ◌^◌, ◌≤◌, ◌<◌, IfSome};
 ghost use Rattle.std.specs.Thread.{IsSync, IsSend};
 ghost use Rattle.schedules.specs.Schedules.{SettledOnce};
 ghost use Rattle.schedules.specs.Boards.{AreEnded};
@@ -15,7 +15,9 @@ fn claim<T: Numbered + Drop, R: Wait>(
     rt: &R,
     shared: &Mutex<Board<T>>,
     worker: u32,
-) -> Option<Ticket> {
+) -> Option<Ticket>
+    ensures { IfSome result (λ t. t.block < T.blocks) }
+{
     let mut guard = shared.lock(rt);
     let board = &mut *guard;
     if board.idle(worker) {
@@ -26,18 +28,14 @@ fn claim<T: Numbered + Drop, R: Wait>(
 }
 
 // Puts what came of a block on the board.
-fn put<T: Numbered + Drop, R: Wait>(
-    rt: &R,
-    shared: &Mutex<Board<T>>,
-    ticket: Ticket,
-    run: T,
-)
+fn put<T: Numbered + Drop, R: Wait>(rt: &R, shared: &Mutex<Board<T>>, ticket: Ticket, run: T)
     requires { T.number run ≡ ticket.block }
 {
     let mut guard = shared.lock(rt);
     let _ = guard.post_in(ticket, run);
 }
 
+// Gives a block up.
 fn give_up<T: Numbered + Drop, R: Wait>(rt: &R, shared: &Mutex<Board<T>>, ticket: Ticket) {
     let mut guard = shared.lock(rt);
     let _ = guard.lose_in(ticket);

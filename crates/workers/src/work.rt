@@ -1,6 +1,6 @@
 //! What workers do.
 
-ghost use Rattle.std.specs.Prelude.{◌≡◌, IfSome};
+ghost use Rattle.std.specs.Prelude.{◌≡◌, ◌<◌, IfSome};
 
 use schedules::Numbered;
 
@@ -8,5 +8,6 @@ use schedules::Numbered;
 pub trait Work<T: Numbered> {
     /// The run of a block; `None` where it is lost.
     fn run(&self, block: u32) -> Option<T>
+        requires { block < T.blocks }
         ensures { IfSome result (λ r. T.number r ≡ block) };
 }
