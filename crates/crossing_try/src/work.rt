@@ -53,6 +53,7 @@ impl<'a, J: StageKey> Numbered for Trace<'a, J> {
 }
 
 /// How it is done.
+#[derive(Drop)]
 pub struct StageWork<'a, J: StageKey, G: Gate> {
     pub job: &'a Job<'a>,
     pub gate: &'a G,
