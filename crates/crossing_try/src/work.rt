@@ -5,6 +5,7 @@ ghost use Rattle.std.specs.Prelude.{◌≡◌, ◌+◌, ◌^◌, ◌≤◌, ◌<
 use array_store::Whole;
 use meaning::syntax::Loop;
 use private_view::View;
+use programs::Program;
 use schedules::{Board, Numbered};
 use std::alloc::Global;
 use std::marker::{Brand, PhantomData};
@@ -30,6 +31,7 @@ pub trait Gate {
 
 /// What is to be done.
 pub struct Job<'a> {
+    pub program: &'a Program,
     pub repeated: &'a Loop,
     pub base: &'a Whole,
     pub first: i32,

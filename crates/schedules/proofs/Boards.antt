@@ -47,7 +47,7 @@ module _ {T : Type 0} where
 
   number_set : (number : T → ℕ) (ps : List (Place T)) (i : ℕ) (r : T) → AreNumbered number ps → number r ≡ i → AreNumbered number (slice_set ps i (Posted r))
   number_set number ps i r are is b q got = elim (cases_eq b i) [
-      inl same ↦
+    | inl same ↦
         let w = subst (λ n. b < n) (length-set ps i (Posted r)) (slice_get_within (slice_set ps i (Posted r)) b (Posted q) got) in
         let e : Some (Posted r) ≡ Some (Posted q) = sym (get_same ps i (Posted r) (subst (λ j. j < length ps) same w)) ∙ subst (λ j. slice_get (slice_set ps i (Posted r)) j ≡ Some (Posted q)) same got in
         let f : r ≡ q = cc in
@@ -57,7 +57,7 @@ module _ {T : Type 0} where
 
   number_lost : (number : T → ℕ) (ps : List (Place T)) (i : ℕ) → AreNumbered number ps → AreNumbered number (slice_set ps i Lost)
   number_lost number ps i are b q got = elim (cases_eq b i) [
-      inl same ↦
+    | inl same ↦
         let w = subst (λ n. b < n) (length-set ps i Lost) (slice_get_within (slice_set ps i Lost) b (Posted q) got) in
         let e : Some Lost ≡ Some (Posted q) = sym (get_same ps i Lost (subst (λ j. j < length ps) same w)) ∙ subst (λ j. slice_get (slice_set ps i Lost) j ≡ Some (Posted q)) same got in
         absurd cc
@@ -77,55 +77,60 @@ module _ {T : Type 0} where
   pub first_board : (number : T → ℕ) (blocks workers room : ℕ) → 0 < workers → blocks < 2 ^ 32 → workers < 2 ^ 32 → 2 * blocks ≤ room → IsBoard number blocks room (first_stage blocks workers)
   first_board number blocks workers room some small few roomy =
       let open_place : Place T = Open in let nothing : Option ℕ = None in let p = length-replicate blocks open_place in let o = length-replicate workers nothing in record {
-    scheduled = ap₂ (λ b k. first_world b k) p o ∙ ap (λ es. record { next = 0; outs = replicate workers None; ends = es }) (sym (ends_first T blocks));
-    numbered = none_posted number blocks;
-    blocks = p;
-    workers = omega (arith, some, o);
-    small = omega (arith, small, p);
-    few = omega (arith, few, o);
-    roomy = omega (arith, roomy, p);
-  }
+        scheduled = ap₂ (λ b k. first_world b k) p o ∙ ap (λ es. record { next = 0; outs = replicate workers None; ends = es }) (sym (ends_first T blocks));
+        numbered = none_posted number blocks;
+        blocks = p;
+        workers = omega (arith, some, o);
+        small = omega (arith, small, p);
+        few = omega (arith, few, o);
+        roomy = omega (arith, roomy, p);
+      }
 
   pub claimed_board : (number : T → ℕ) (many room : ℕ) (s : Stage T) (k : ℕ) → IsBoard number many room s → s.next < length s.places → IsIdle s.outs k → IsBoard number many room (claimed (record { worker = k; block = s.next }) s)
   claimed_board number many room s k b left idle =
       let o = length-set s.outs k (Some s.next) in let m = length-map s.places end_of in record {
-    scheduled = goes_on s (Claim (record { worker = k; block = s.next })) (s.next + 1) (slice_set s.outs k (Some s.next)) s.places b.scheduled refl o (refl, omega (arith, left, m), idle, refl);
-    numbered = b.numbered;
-    blocks = b.blocks;
-    workers = let w = b.workers in omega (arith, w, o);
-    small = b.small;
-    few = let f = b.few in omega (arith, f, o);
-    roomy = b.roomy;
-  }
+        scheduled = goes_on s (Claim (record { worker = k; block = s.next })) (s.next + 1) (slice_set s.outs k (Some s.next)) s.places b.scheduled refl o (refl, omega (arith, left, m), idle, refl);
+        numbered = b.numbered;
+        blocks = b.blocks;
+        workers = let w = b.workers in omega (arith, w, o);
+        small = b.small;
+        few = let f = b.few in omega (arith, f, o);
+        roomy = b.roomy;
+      }
 
   pub posted_board : (number : T → ℕ) (many room : ℕ) (s : Stage T) (t : Ticket) (r : T) → IsBoard number many room s → IsOut s.outs t → number r ≡ t.block → IsBoard number many room (with_run t r s)
   posted_board number many room s t r b out is =
       let o = length-set s.outs t.worker None in let p = length-set s.places t.block (Posted r) in record {
-    scheduled = goes_on s (Post t) s.next (slice_set s.outs t.worker None) (slice_set s.places t.block (Posted r)) b.scheduled p o (out, ap (λ es. record { next = s.next; outs = slice_set s.outs t.worker None; ends = es }) (map-set end_of s.places t.block (Posted r)));
-    numbered = number_set number s.places t.block r b.numbered is;
-    blocks = p ∙ b.blocks;
-    workers = let w = b.workers in omega (arith, w, o);
-    small = let q = b.small in omega (arith, q, p);
-    few = let f = b.few in omega (arith, f, o);
-    roomy = let q = b.roomy in omega (arith, q, p);
-  }
+        scheduled = goes_on s (Post t) s.next (slice_set s.outs t.worker None) (slice_set s.places t.block (Posted r)) b.scheduled p o (out, ap (λ es. record { next = s.next; outs = slice_set s.outs t.worker None; ends = es }) (map-set end_of s.places t.block (Posted r)));
+        numbered = number_set number s.places t.block r b.numbered is;
+        blocks = p ∙ b.blocks;
+        workers = let w = b.workers in omega (arith, w, o);
+        small = let q = b.small in omega (arith, q, p);
+        few = let f = b.few in omega (arith, f, o);
+        roomy = let q = b.roomy in omega (arith, q, p);
+      }
 
   pub lost_board : (number : T → ℕ) (many room : ℕ) (s : Stage T) (t : Ticket) → IsBoard number many room s → IsOut s.outs t → IsBoard number many room (without_run t s)
   lost_board number many room s t b out =
       let o = length-set s.outs t.worker None in let p = length-set s.places t.block Lost in record {
-    scheduled = goes_on s (Lose t) s.next (slice_set s.outs t.worker None) (slice_set s.places t.block Lost) b.scheduled p o (out, ap (λ es. record { next = s.next; outs = slice_set s.outs t.worker None; ends = es }) (map-set end_of s.places t.block Lost));
-    numbered = number_lost number s.places t.block b.numbered;
-    blocks = p ∙ b.blocks;
-    workers = let w = b.workers in omega (arith, w, o);
-    small = let q = b.small in omega (arith, q, p);
-    few = let f = b.few in omega (arith, f, o);
-    roomy = let q = b.roomy in omega (arith, q, p);
-  }
+        scheduled = goes_on s (Lose t) s.next (slice_set s.outs t.worker None) (slice_set s.places t.block Lost) b.scheduled p o (out, ap (λ es. record { next = s.next; outs = slice_set s.outs t.worker None; ends = es }) (map-set end_of s.places t.block Lost));
+        numbered = number_lost number s.places t.block b.numbered;
+        blocks = p ∙ b.blocks;
+        workers = let w = b.workers in omega (arith, w, o);
+        small = let q = b.small in omega (arith, q, p);
+        few = let f = b.few in omega (arith, f, o);
+        roomy = let q = b.roomy in omega (arith, q, p);
+      }
 
   -- more room is room enough
   pub roomier : (number : T → ℕ) (many room more : ℕ) (s : Stage T) → room ≤ more → IsBoard number many room s → IsBoard number many more s
   roomier number many room more s le b = record {
-    scheduled = b.scheduled; numbered = b.numbered; blocks = b.blocks; workers = b.workers; small = b.small; few = b.few;
+    scheduled = b.scheduled;
+    numbered = b.numbered;
+    blocks = b.blocks;
+    workers = b.workers;
+    small = b.small;
+    few = b.few;
     roomy = let r = b.roomy in omega (arith, r, le);
   }
 
@@ -179,7 +184,7 @@ module _ {T : Type 0} where
       let freed = get_same (slice_set s.outs 0 (Some s.next)) 0 None (omega (arith, some, l)) in
       record {
         idle = λ k b got. elim (cases_eq k 0) [
-            inl same ↦ absurd (let e : Some None ≡ Some (Some b) = sym freed ∙ subst (λ i. slice_get (slice_set (slice_set s.outs 0 (Some s.next)) 0 None) i ≡ Some (Some b)) same got in cc)
+          | inl same ↦ absurd (let e : Some None ≡ Some (Some b) = sym freed ∙ subst (λ i. slice_get (slice_set (slice_set s.outs 0 (Some s.next)) 0 None) i ≡ Some (Some b)) same got in cc)
           | inr not ↦ idle k b (sym (get_other s.outs 0 (Some s.next) k not) ∙ sym (get_other (slice_set s.outs 0 (Some s.next)) 0 None k not) ∙ got)
         ];
         next = λ lt. refl;
@@ -201,8 +206,8 @@ module _ {T : Type 0} where
   all_ended number many room s is all idle b got =
       let h = board_history number many room s is in let w = slice_get_within s.places b Open got in
       elim (h.given b (omega (arith, w, all))) [
-        inl out ↦ idle out.0 b out.1
-      | inr back ↦ back.over (open_unended s.places b got)
+        | inl out ↦ idle out.0 b out.1
+        | inr back ↦ back.over (open_unended s.places b got)
       ]
 
   -- nothing was left open

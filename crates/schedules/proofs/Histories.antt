@@ -7,7 +7,7 @@ use Rattle.std.proofs.lemmas.Option.{slice_get_within}
 use Rattle.schedules.specs.declared.event.Ticket.{Ticket}
 use Rattle.schedules.specs.declared.event.Event.{Event}
 use Rattle.schedules.specs.declared.event.Event.TheVariants.{Claim, Post, Lose}
-use Rattle.schedules.specs.Schedules.{End, unended, posted, lost, World, first_world, IsIdle, IsOut, ended, Happens, Replays, block_of, events_of, IsOnce, SettledOnce}
+use Rattle.schedules.specs.Schedules.{End, unended, posted, lost, World, first_world, IsIdle, IsOut, ended, Happens, Replays, block_of, events_of, IsOnce, SettledOnce, ticket}
 use Rattle.schedules.proofs.Setting.{get_same, get_other, get_replicated, is_replicated}
 
 -- ---- how many workers have something out
@@ -47,9 +47,6 @@ with_own b done e h =
     filter-append (λ e. eqb (block_of e) b) done (e ∷ []) ∙ ap (λ t. events_of b done ++ cond t (e ∷ []) []) (eq-eqb (block_of e) b h)
 
 -- ---- what a history tells
-
-abbrev pub ticket : ℕ → ℕ → Ticket
-ticket k b = record { worker = k; block = b }
 
 pub record Held (done : List Event) (w : World) (k b : ℕ) : Type 0 where
   pub before : b < w.next
@@ -106,7 +103,7 @@ module _ (done : List Event) (w : World) (k : ℕ) (h : History done w) (left : 
 
   claim_held : (j b : ℕ) → slice_get (slice_set w.outs k (Some w.next)) j ≡ Some (Some b) → Held now (given_out k w) j b
   claim_held j b out = elim (cases_eq j k) [
-      inl same ↦
+    | inl same ↦
         let is : w.next ≡ b = some_is (some_is (sym own ∙ subst (λ i. slice_get (slice_set w.outs k (Some w.next)) i ≡ Some (Some b)) same out)) in
         subst (λ i. Held now (given_out k w) i b) (sym same) (subst (λ c. Held now (given_out k w) k c) is (record {
           before = omega arith;
@@ -125,11 +122,11 @@ module _ (done : List Event) (w : World) (k : ℕ) (h : History done w) (left : 
 
   claim_given : (b : ℕ) → b < w.next + 1 → ((j : ℕ) × (slice_get (slice_set w.outs k (Some w.next)) j ≡ Some (Some b))) ⊎ IsBack now (given_out k w) b
   claim_given b lt = elim (cases_eq b w.next) [
-      inl same ↦ inl (k, subst (λ c. slice_get (slice_set w.outs k (Some w.next)) k ≡ Some (Some c)) (sym same) own)
+    | inl same ↦ inl (k, subst (λ c. slice_get (slice_set w.outs k (Some w.next)) k ≡ Some (Some c)) (sym same) own)
     | inr not ↦ elim (h.given b (omega (arith, not, lt))) [
-          inl out ↦ inl (out.0, get_other w.outs k (Some w.next) out.0 (λ e. none_isnt (sym idle ∙ subst (λ i. slice_get w.outs i ≡ Some (Some b)) e out.1)) ∙ out.1)
-        | inr back ↦ inr (back_other done w (given_out k w) (Claim (ticket k w.next)) b (λ e. not (sym e)) refl back)
-      ]
+      | inl out ↦ inl (out.0, get_other w.outs k (Some w.next) out.0 (λ e. none_isnt (sym idle ∙ subst (λ i. slice_get w.outs i ≡ Some (Some b)) e out.1)) ∙ out.1)
+      | inr back ↦ inr (back_other done w (given_out k w) (Claim (ticket k w.next)) b (λ e. not (sym e)) refl back)
+    ]
   ]
 
   pub claim_history : History now (given_out k w)
@@ -186,7 +183,7 @@ module _ (done : List Event) (w : World) (e : Event) (k b : ℕ) (how : End) (h 
 
   end_held : (j c : ℕ) → slice_get (slice_set w.outs k None) j ≡ Some (Some c) → Held (done ++ e ∷ []) after j c
   end_held j c got = elim (cases_eq j k) [
-      inl same ↦ absurd (none_isnt (sym freed ∙ subst (λ i. slice_get (slice_set w.outs k None) i ≡ Some (Some c)) same got))
+    | inl same ↦ absurd (none_isnt (sym freed ∙ subst (λ i. slice_get (slice_set w.outs k None) i ≡ Some (Some c)) same got))
     | inr not ↦
         let old = h.held j c (sym (get_other w.outs k None j not) ∙ got) in
         let apart : c ≡ b → ⊥ = λ same. not (worker_same (first_same (sym (subst (λ i. events_of i done ≡ Claim (ticket j i) ∷ []) same old.only) ∙ mine.only))) in
@@ -199,26 +196,26 @@ module _ (done : List Event) (w : World) (e : Event) (k b : ℕ) (how : End) (h 
 
   end_given : (c : ℕ) → c < w.next → ((j : ℕ) × (slice_get (slice_set w.outs k None) j ≡ Some (Some c))) ⊎ IsBack (done ++ e ∷ []) after c
   end_given c lt = elim (cases_eq c b) [
-      inl same ↦ inr (subst (λ i. IsBack (done ++ e ∷ []) after i) (sym same) (record {
-        once = end_once done e k b how is mine.only;
-        over = λ o. end_over e (ticket k b) how is (sym (get_same w.ends b how (slice_get_within w.ends b unended mine.open_yet)) ∙ o);
-      }))
+    | inl same ↦ inr (subst (λ i. IsBack (done ++ e ∷ []) after i) (sym same) (record {
+      once = end_once done e k b how is mine.only;
+      over = λ o. end_over e (ticket k b) how is (sym (get_same w.ends b how (slice_get_within w.ends b unended mine.open_yet)) ∙ o);
+    }))
     | inr not ↦ elim (h.given c lt) [
-          inl other ↦ inl (other.0, get_other w.outs k None other.0 (λ same. not (some_is (some_is (sym other.1 ∙ subst (λ i. slice_get w.outs i ≡ Some (Some b)) (sym same) out)))) ∙ other.1)
-        | inr back ↦ inr (back_other done w after e c (λ x. not (sym x ∙ end_block e (ticket k b) how is)) (get_other w.ends b how c not) back)
-      ]
+      | inl other ↦ inl (other.0, get_other w.outs k None other.0 (λ same. not (some_is (some_is (sym other.1 ∙ subst (λ i. slice_get w.outs i ≡ Some (Some b)) (sym same) out)))) ∙ other.1)
+      | inr back ↦ inr (back_other done w after e c (λ x. not (sym x ∙ end_block e (ticket k b) how is)) (get_other w.ends b how c not) back)
+    ]
   ]
 
   pub end_history : History (done ++ e ∷ []) after
   end_history =
-    let less = mine.before in record {
-    upto = let u = h.upto in let l = length-set w.ends b how in omega (arith, u, l);
-    count = let c = h.count in let m = one_less w.outs k b out in let l = length-append done (e ∷ []) in omega (arith, c, m, l);
-    later = λ c lt. with_other c done e (λ x. let y = end_block e (ticket k b) how is in omega (arith, x, y, lt, less)) ∙ h.later c lt;
-    waits = λ c lt inside. get_other w.ends b how c (λ x. omega (arith, x, lt, less)) ∙ h.waits c lt (subst (λ n. c < n) (length-set w.ends b how) inside);
-    held = end_held;
-    given = end_given;
-  }
+      let less = mine.before in record {
+        upto = let u = h.upto in let l = length-set w.ends b how in omega (arith, u, l);
+        count = let c = h.count in let m = one_less w.outs k b out in let l = length-append done (e ∷ []) in omega (arith, c, m, l);
+        later = λ c lt. with_other c done e (λ x. let y = end_block e (ticket k b) how is in omega (arith, x, y, lt, less)) ∙ h.later c lt;
+        waits = λ c lt inside. get_other w.ends b how c (λ x. omega (arith, x, lt, less)) ∙ h.waits c lt (subst (λ n. c < n) (length-set w.ends b how) inside);
+        held = end_held;
+        given = end_given;
+      }
 
 -- ---- whole schedules
 

@@ -1,5 +1,5 @@
 -- What a board of a stage shows, and what its calls do (own).
-use Rattle.std.specs.Prelude.{◌≡◌, ℕ, ◌+◌, ◌*◌, ◌^◌, ◌<◌, ◌≤◌, Option, Some, None, List, [], ◌∷◌, ◌++◌, map, length, slice_get, slice_set, replicate, refl}
+use Rattle.std.specs.Prelude.{◌≡◌, ◌↔◌, ℕ, ◌+◌, ◌*◌, ◌^◌, ◌<◌, ◌≤◌, Option, Some, None, List, [], ◌∷◌, ◌++◌, map, length, slice_get, slice_set, replicate, refl}
 use Rattle.schedules.specs.declared.event.Ticket.{Ticket}
 use Rattle.schedules.specs.declared.event.Event.{Event}
 use Rattle.schedules.specs.declared.event.Event.TheVariants.{Claim, Post, Lose}
@@ -17,6 +17,10 @@ pub record Stage (T : Type 0) : Type 0 where
   pub places : List (Place T)
   -- what happened, first to last
   pub events : List Event
+
+-- what a worker has out
+abbrev pub IsOutOf : List (Option ℕ) → ℕ → Option ℕ → Type 0
+IsOutOf outs worker out = (block : ℕ) → (out ≡ Some block) ↔ (slice_get outs worker ≡ Some (Some block))
 
 -- nobody has anything out
 abbrev pub AreIdle : List (Option ℕ) → Type 0

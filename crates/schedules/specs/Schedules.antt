@@ -34,6 +34,10 @@ IsIdle outs worker = slice_get outs worker ≡ Some None
 abbrev pub IsOut : List (Option ℕ) → Ticket → Type 0
 IsOut outs t = slice_get outs t.worker ≡ Some (Some t.block)
 
+-- an idle worker is given the next block
+abbrev pub with_claim : Ticket → World → World
+with_claim t w = record { next = w.next + 1; outs = slice_set w.outs t.worker (Some t.block); ends = w.ends }
+
 -- it is out no more
 abbrev pub ended : Ticket → End → World → World
 ended t how w = record { next = w.next; outs = slice_set w.outs t.worker None; ends = slice_set w.ends t.block how }
@@ -41,7 +45,7 @@ ended t how w = record { next = w.next; outs = slice_set w.outs t.worker None; e
 -- an event makes one world of another: an idle worker is given the next block, or one that is out comes back
 abbrev pub Happens : Event → World → World → Type 0
 Happens (Claim t) w v =
-    (t.block ≡ w.next) × (w.next < length w.ends) × IsIdle w.outs t.worker × (v ≡ record { next = w.next + 1; outs = slice_set w.outs t.worker (Some t.block); ends = w.ends })
+    (t.block ≡ w.next) × (w.next < length w.ends) × IsIdle w.outs t.worker × (v ≡ with_claim t w)
 Happens (Post t) w v = IsOut w.outs t × (v ≡ ended t posted w)
 Happens (Lose t) w v = IsOut w.outs t × (v ≡ ended t lost w)
 
@@ -60,10 +64,22 @@ block_of (Lose t) = t.block
 abbrev pub events_of : ℕ → List Event → List Event
 events_of block events = filter (λ e. eqb (block_of e) block) events
 
--- claimed by a worker, and then posted or lost in its name
+-- a block was given out, and then its run was posted
+abbrev pub WasPosted : Ticket → List Event → Type 0
+WasPosted t events = events ≡ Claim t ∷ Post t ∷ []
+
+-- a block was given out, and then given up
+abbrev pub WasLost : Ticket → List Event → Type 0
+WasLost t events = events ≡ Claim t ∷ Lose t ∷ []
+
+-- a block in a worker's name
+abbrev pub ticket : ℕ → ℕ → Ticket
+ticket worker block = record { worker = worker; block = block }
+
+-- a block was claimed by a worker, and then posted or lost in its name, and there is nothing else of it
 abbrev pub IsOnce : ℕ → List Event → Type 0
 IsOnce block events =
-    (worker : ℕ) × ((events_of block events ≡ Claim (record { worker = worker; block = block }) ∷ Post (record { worker = worker; block = block }) ∷ []) ⊎ (events_of block events ≡ Claim (record { worker = worker; block = block }) ∷ Lose (record { worker = worker; block = block }) ∷ []))
+    (worker : ℕ) × (WasPosted (ticket worker block) (events_of block events) ⊎ WasLost (ticket worker block) (events_of block events))
 
 -- each block below a number is claimed once and then posted or lost once, and there is nothing else
 pub record SettledOnce (blocks : ℕ) (events : List Event) : Type 0 where

@@ -1,9 +1,9 @@
 //! The board of a stage.
 
-ghost use Rattle.std.specs.Prelude.{◌≡◌, ◌↔◌, ◌+◌, ◌*◌, ◌<◌, ◌≤◌, ◌^◌, IsTrue, IfOk, IfSome, [], ◌∷◌, ◌++◌, None, Some, length, map, replicate, slice_get, ℕ, vec_len, vec_capacity, if◌then◌else◌};
+ghost use Rattle.std.specs.Prelude.{◌≡◌, ◌↔◌, ◌+◌, ◌*◌, ◌<◌, ◌≤◌, ◌^◌, IsTrue, IfOk, IfSome, [], ◌∷◌, ◌++◌, None, length, map, replicate, vec_len, vec_capacity, if◌then◌else◌};
 ghost use Rattle.schedules.specs.declared.place.Place.TheVariants.{Open};
 ghost use Rattle.schedules.specs.Schedules.{IsIdle, IsOut, SettledOnce};
-ghost use Rattle.schedules.specs.Boards.{AreEnded, AreIdle, AreNumbered, Claims, IsBoard, IsScheduled, LetsGo, LosesNext, first_stage, given_up, with_run, without_run};
+ghost use Rattle.schedules.specs.Boards.{AreEnded, AreIdle, AreNumbered, Claims, IsBoard, IsOutOf, IsScheduled, LetsGo, LosesNext, first_stage, given_up, with_run, without_run};
 
 use crate::closed::Closed;
 use crate::event::{Event, Ticket};
@@ -27,9 +27,19 @@ impl<T: Numbered> Model for Board<T> {
 
     ghost Value = { Stage T };
 
-    ghost view = { λ b. record { next = b.next; outs = b.outs.items; places = b.places.items; events = b.events.items } };
+    ghost view = { λ b. record {
+      next = b.next;
+      outs = b.outs.items;
+      places = b.places.items;
+      events = b.events.items;
+    } };
 
-    ghost invariant = { λ b. IsBoard T.number T.blocks (vec_capacity b.events) (record { next = b.next; outs = b.outs.items; places = b.places.items; events = b.events.items }) };
+    ghost invariant = { λ b. IsBoard T.number T.blocks (vec_capacity b.events) (record {
+      next = b.next;
+      outs = b.outs.items;
+      places = b.places.items;
+      events = b.events.items;
+    }) };
 }
 
 // Writes down what happened; there is room.
@@ -163,7 +173,7 @@ impl<T: Numbered + Drop> Board<T> {
 
     // The block that a worker has out.
     fn out_of(&self, worker: u32) -> Option<u32>
-        ensures { (block : ℕ) → (result ≡ Some block) ↔ (slice_get self.now.outs worker ≡ Some (Some block)) }
+        ensures { IsOutOf self.now.outs worker result }
     {
         match self.outs.get(worker as usize) {
             Some(out) => *out,
