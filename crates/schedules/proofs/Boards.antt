@@ -1,17 +1,17 @@
 -- What a board keeps, from call to call.
-use Rattle.std.proofs.Common.{◌≡◌, ℕ, zero, suc, ◌+◌, ◌*◌, ◌^◌, ◌<◌, ◌≤◌, ◌↔◌, Bool, true, false, if◌then◌else◌, inl, inr, List, [], ◌∷◌, ◌++◌, map, length, Option, Some, None, option_map, slice_get, slice_set, replicate, refl, sym, ap, ap₂, ◌∙◌, subst, arith}
+use Rattle.std.proofs.Common.{◌≡◌, ℕ, zero, suc, ◌+◌, ◌*◌, ◌^◌, ◌<◌, ◌≤◌, ◌↔◌, Bool, true, if◌then◌else◌, inl, inr, List, [], ◌∷◌, ◌++◌, map, length, Option, Some, None, option_map, slice_get, slice_set, replicate, refl, sym, ap, ap₂, ◌∙◌, subst, arith}
 use Rattle.std.proofs.lemmas.Bool.{cases_eq}
-use Rattle.std.proofs.lemmas.List.{length-set, length-append, length-map, length-replicate, map-set}
+use Rattle.std.proofs.lemmas.List.{length-set, length-map, length-replicate, map-set}
 use Rattle.std.proofs.lemmas.Option.{slice_get_within, slice_get-map}
 use Rattle.schedules.specs.declared.event.Ticket.{Ticket}
 use Rattle.schedules.specs.declared.event.Event.{Event}
 use Rattle.schedules.specs.declared.event.Event.TheVariants.{Claim, Post, Lose}
 use Rattle.schedules.specs.declared.place.Place.{Place}
 use Rattle.schedules.specs.declared.place.Place.TheVariants.{Open, Posted, Lost}
-use Rattle.schedules.specs.Schedules.{End, unended, posted, lost, World, first_world, IsIdle, IsOut, ended, Happens, Replays, SettledOnce}
+use Rattle.schedules.specs.Schedules.{unended, first_world, IsIdle, IsOut, ended, Happens, Replays, SettledOnce}
 use Rattle.schedules.specs.Boards.{Stage, end_of, world_of, IsScheduled, AreNumbered, first_stage, claimed, with_run, without_run, IsBoard, AreIdle, AreEnded, Claims, LetsGo, LosesNext, given_up}
-use Rattle.schedules.proofs.Setting.{get_same, get_other, get_replicated, is_replicated}
-use Rattle.schedules.proofs.Histories.{History, history, count_out, one_less, replays_more, settled}
+use Rattle.schedules.proofs.Setting.{get_same, get_other, is_replicated}
+use Rattle.schedules.proofs.Histories.{History, history, one_less, replays_more, settled}
 
 ends_first : (T : Type 0) (n : ℕ) → map (end_of {T = T}) (replicate n Open) ≡ replicate n unended
 ends_first T zero = refl

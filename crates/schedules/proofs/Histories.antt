@@ -1,5 +1,5 @@
 -- What a schedule tells of each block, and of how many events there are.
-use Rattle.std.proofs.Common.{◌≡◌, ℕ, zero, suc, ◌+◌, ◌*◌, ◌<◌, ◌≤◌, ◌⊎◌, inl, inr, Bool, true, false, cond, eqb, List, [], ◌∷◌, ◌++◌, filter, length, Option, Some, None, slice_get, slice_set, replicate, refl, sym, ap, ◌∙◌, subst, arith}
+use Rattle.std.proofs.Common.{◌≡◌, ℕ, zero, suc, ◌+◌, ◌*◌, ◌<◌, ◌≤◌, ◌⊎◌, inl, inr, cond, eqb, List, [], ◌∷◌, ◌++◌, length, Option, Some, None, slice_get, slice_set, replicate, refl, sym, ap, ◌∙◌, subst, arith}
 use Rattle.std.proofs.lemmas.Bool.{cases_eq, eq-eqb, ne_eqb}
 use Rattle.std.proofs.lemmas.List.{length-set, append-nil, append_assoc, length-append, length-replicate}
 use Rattle.std.proofs.lemmas.List.Elements.{filter-append}
@@ -7,7 +7,7 @@ use Rattle.std.proofs.lemmas.Option.{slice_get_within}
 use Rattle.schedules.specs.declared.event.Ticket.{Ticket}
 use Rattle.schedules.specs.declared.event.Event.{Event}
 use Rattle.schedules.specs.declared.event.Event.TheVariants.{Claim, Post, Lose}
-use Rattle.schedules.specs.Schedules.{End, unended, posted, lost, World, first_world, IsIdle, IsOut, ended, Happens, Replays, block_of, events_of, IsOnce, SettledOnce, ticket}
+use Rattle.schedules.specs.Schedules.{End, unended, posted, lost, World, first_world, ended, Happens, Replays, block_of, events_of, IsOnce, SettledOnce, ticket}
 use Rattle.schedules.proofs.Setting.{get_same, get_other, get_replicated, is_replicated}
 
 -- ---- how many workers have something out

@@ -1,11 +1,11 @@
 -- What a board of a stage shows, and what its calls do (own).
-use Rattle.std.specs.Prelude.{◌≡◌, ◌↔◌, ℕ, ◌+◌, ◌*◌, ◌^◌, ◌<◌, ◌≤◌, Option, Some, None, List, [], ◌∷◌, ◌++◌, map, length, slice_get, slice_set, replicate, refl}
+use Rattle.std.specs.Prelude.{◌≡◌, ◌↔◌, ℕ, ◌+◌, ◌*◌, ◌^◌, ◌<◌, ◌≤◌, Option, Some, None, List, [], ◌∷◌, ◌++◌, map, length, slice_get, slice_set, replicate}
 use Rattle.schedules.specs.declared.event.Ticket.{Ticket}
 use Rattle.schedules.specs.declared.event.Event.{Event}
 use Rattle.schedules.specs.declared.event.Event.TheVariants.{Claim, Post, Lose}
 use Rattle.schedules.specs.declared.place.Place.{Place}
 use Rattle.schedules.specs.declared.place.Place.TheVariants.{Open, Posted, Lost}
-use Rattle.schedules.specs.Schedules.{End, unended, posted, lost, World, first_world, IsIdle, IsOut, Replays}
+use Rattle.schedules.specs.Schedules.{End, unended, posted, lost, World, first_world, Replays}
 
 -- what contracts see of a board whose runs are of a type
 pub record Stage (T : Type 0) : Type 0 where

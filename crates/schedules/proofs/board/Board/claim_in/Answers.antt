@@ -1,6 +1,5 @@
 use Rattle.std.proofs.Common.{rules, ◌≡◌, ◌<◌, Some, None, length, slice_get}
 use Rattle.std.proofs.lemmas.Option.{slice_get_within}
-use Rattle.schedules.specs.Boards.{IsBoard}
 use Rattle.schedules.proofs.Boards.{room_to_claim, claimed_board, roomier}
 use Rattle.schedules.proofs.board.Board.claim_in.Goals as goal
 

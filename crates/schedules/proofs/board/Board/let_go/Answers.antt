@@ -1,4 +1,4 @@
-use Rattle.std.proofs.Common.{◌≡◌, true, Some}
+use Rattle.std.proofs.Common.{◌≡◌, true}
 use Rattle.schedules.specs.Schedules.{IsOut}
 use Rattle.schedules.proofs.Boards.{lets_go, lets_nothing}
 use Rattle.schedules.proofs.board.Board.let_go.Goals as goal

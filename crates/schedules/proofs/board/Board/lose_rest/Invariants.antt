@@ -1,4 +1,4 @@
-use Rattle.std.proofs.Common.{◌≡◌, ◌≤◌, map, length}
+use Rattle.std.proofs.Common.{◌≡◌, ◌≤◌, map}
 use Rattle.schedules.specs.Boards.{AreIdle, given_up}
 use Rattle.schedules.proofs.board.Board.lose_rest.Given as goal
 

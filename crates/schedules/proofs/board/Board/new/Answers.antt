@@ -1,4 +1,4 @@
-use Rattle.std.proofs.Common.{rules, ◌≡◌, ◌*◌, ◌≤◌, ◌^◌, ◌<◌, vec_capacity, arith}
+use Rattle.std.proofs.Common.{rules, ◌*◌, ◌≤◌, vec_capacity}
 use Rattle.schedules.proofs.Boards.{first_board}
 use Rattle.schedules.proofs.board.Board.new.Goals as goal
 
