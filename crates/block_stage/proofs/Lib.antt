@@ -6,3 +6,8 @@ pub mod Meeting
 pub mod Cutting
 pub mod Staging
 pub mod Written
+pub mod Boards
+pub mod Crossing
+pub mod CrossingStores
+pub mod CrossingProgram
+pub mod CrossingWork

@@ -3,6 +3,7 @@
 #![tactic(auto)]
 
 mod block;
+mod board;
 mod cuts;
 mod gate;
 mod job;
@@ -12,8 +13,10 @@ mod stage;
 mod trace;
 
 pub use block::{BlockRun, Lost, run_block};
+pub use board::Board;
 pub use gate::{Gate, Open};
 pub use job::{Job, JobKey};
 pub use place::value_at;
 pub use posted::{Posted, cut};
+pub use schedules::{Event, Ticket};
 pub use stage::run_stage;

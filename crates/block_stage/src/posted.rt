@@ -13,30 +13,34 @@ use crate::job::{Job, Parts};
 use crate::trace::Trace;
 use array_store::Whole;
 use meaning::ending::{Outcome, Run};
+use schedules::Event;
 use std::alloc::{AllocError, Global};
 use std::marker::Model;
 
-/// The runs that the workers of a stage posted, at the places of their blocks; none where a block is missing.
+/// The runs that the workers of a stage posted, at the places of their blocks; none where a block is missing. It keeps what happened
+/// on the board. Its type keeps that each run is of its block, and faithful to the job.
 #[derive(Drop)]
 pub struct Posted<'a> {
     job: Job<'a>,
     places: Vec<Option<Trace<'a>>>,
+    events: Vec<Event>,
 }
 
 impl<'a> Model for Posted<'a> {
-    ghost use Rattle.block_stage.specs.Stages.{Stage, IsStage};
+    ghost use Rattle.block_stage.specs.Stages.{PostedParts, ArePosted};
     ghost use Rattle.std.specs.Coded.{codes};
     ghost use Rattle.meaning.specs.contracts.syntax.Tree as trees;
     ghost use Rattle.meaning.specs.contracts.syntax.Loop as loops;
+    ghost use Rattle.schedules.specs.contracts.event.Event as happenings;
     ghost use Rattle.block_stage.specs.Faithful.{coded_run};
 
-    ghost Value = { Stage };
+    ghost Value = { PostedParts };
 
-    ghost coded = { Prim.hlevel (codes, trees.the_row.coded, loops.the_row.coded, coded_run) };
+    ghost coded = { Prim.hlevel (codes, trees.the_row.coded, loops.the_row.coded, happenings.the_row.coded, coded_run) };
 
-    ghost view = { λ p. record { job = p.job; places = p.places.items } };
+    ghost view = { λ p. record { job = p.job; places = p.places.items; events = p.events.items } };
 
-    ghost invariant = { λ p. IsStage (record { job = p.job; places = p.places.items }) };
+    ghost invariant = { λ p. ArePosted (record { job = p.job; places = p.places.items; events = p.events.items }) };
 }
 
 /// How many blocks may be committed.
@@ -48,14 +52,36 @@ pub fn cut(posted: &Posted) -> usize
 }
 
 impl<'a> Posted<'a> {
-    ghost use Rattle.block_stage.specs.Stages.{IsStage};
+    ghost use Rattle.block_stage.specs.Stages.{ArePosted};
 
-    // Runs at the places of their blocks.
-    pub(crate) fn new(job: Job<'a>, places: Vec<Option<Trace<'a>>>) -> Posted<'a>
-        requires { IsStage (record { job = job; places = places.items }) }
-        ensures { result ≡ record { job = job.entry; places = places.entry.items } }
+    // Runs at the places of their blocks, and what happened.
+    pub(crate) fn new(
+        job: Job<'a>,
+        places: Vec<Option<Trace<'a>>>,
+        events: Vec<Event>,
+    ) -> Posted<'a>
+        requires { ArePosted (record { job = job; places = places.items; events = events.items }) }
+        ensures { result ≡ record { job = job.entry; places = places.entry.items; events = events.items } }
     {
-        Posted { job, places }
+        Posted {
+            job,
+            places,
+            events,
+        }
+    }
+
+    /// How many blocks the stage had.
+    pub fn blocks(&self) -> usize
+        ensures { result ≡ length self.now.places }
+    {
+        self.places.len()
+    }
+
+    /// What happened on the board, first to last.
+    pub fn events(&self) -> &[Event]
+        ensures { result.now ≡ self.now.events }
+    {
+        &self.events
     }
 
     /// The cells that the first so many blocks wrote, in any order, and maybe more than once. The `AllocError` comes where a growth

@@ -1,67 +1,96 @@
-//! The blocks of a stage, one after another in one thread.
+//! The blocks of a stage, run by several workers.
 
 ghost use Rattle.std.specs.Prelude.{◌≡◌, ◌<◌, IfOk, IfSome};
+ghost use Rattle.schedules.specs.Schedules.{SettledOnce};
 ghost use Rattle.block_stage.specs.Jobs.{data_of};
-ghost use Rattle.block_stage.specs.Faithful.{IsFaithful};
 
-use crate::block::run_block;
+use crate::block::{BlockRun, run_block};
+use crate::board::Board;
 use crate::gate::Gate;
 use crate::job::{Job, JobKey, Parts};
 use crate::posted::Posted;
-use crate::trace::Trace;
 use std::alloc::{AllocError, Global};
-use std::marker::Brand;
+use std::marker::{Brand, Model, PhantomData};
 use std::sync::Wait;
 use std::thread::Threads;
+use workers::{Work, run_all};
 
-// The run of a block, or none where it is lost.
-fn placed<'a, J: JobKey, G: Gate>(
+/// How the blocks of J's job are run: each on a view of its own, through a gate.
+#[derive(Drop)]
+pub struct BlockWork<'a, J: JobKey, G: Gate> {
+    job: Job<'a>,
+    gate: &'a G,
     alloc: Global,
-    job: &Job<'a>,
-    block: u32,
-    gate: &G,
-) -> Option<Trace<'a>>
-    requires key { data_of job.now ≡ J.job }
-    requires below { block < J.job.blocks }
-    ensures { IfSome result (λ r. (r.block ≡ block) × IsFaithful J.job r) }
-{
-    match run_block::<J, G>(alloc, job, block, gate) {
-        Ok(run) => Some(run.into_trace()),
-        Err(_) => None,
+    of: PhantomData<J>,
+}
+
+impl<'a, J: JobKey, G: Gate> Model for BlockWork<'a, J, G> {
+    ghost use Rattle.std.specs.Prelude.{◌≡◌};
+    ghost use Rattle.std.specs.Coded.{codes};
+    ghost use Rattle.meaning.specs.contracts.syntax.Tree as trees;
+    ghost use Rattle.meaning.specs.contracts.syntax.Loop as loops;
+    ghost use Rattle.block_stage.specs.Jobs.{JobParts, data_of};
+
+    ghost Value = { JobParts };
+
+    ghost coded = { Prim.hlevel (codes, trees.the_row.coded, loops.the_row.coded) };
+
+    ghost view = { λ w. w.job };
+
+    ghost invariant = { λ w. data_of w.job ≡ J.job };
+}
+
+impl<'a, J: JobKey, G: Gate> Work<BlockRun<'a, J>> for BlockWork<'a, J, G> {
+    fn run(&self, block: u32) -> Option<BlockRun<'a, J>> {
+        match run_block::<J, G>(self.alloc, &self.job, block, self.gate) {
+            Ok(run) => Some(run),
+            Err(_) => None,
+        }
     }
 }
 
-// The runs of all blocks. A block that is lost is missing.
-fn stage_of<'a, J: JobKey, G: Gate>(
-    alloc: Global,
-    job: &Job<'a>,
-    gate: &G,
-) -> Result<Posted<'a>, AllocError>
-    requires key { data_of job.now ≡ J.job }
-    ensures { IfOk result (λ p. p.job ≡ job.now) }
-{
-    let parts: Parts<'a> = job.parts();
-    let mut places = Vec::new(alloc);
-    for block in 0..parts.blocks {
-        let place = placed::<J, G>(alloc, job, block, gate);
-        places.push(place)?;
-    }
-    Ok(Posted::new(job.again(), places))
-}
-
-/// The runs of all blocks of a job, by so many workers; `None` where memory was refused. Each block enters the gate.
-pub fn run_stage<'a, R: Threads + Wait + Sync, G: Gate + Sync>(
-    _rt: &R,
+// The stage of J's job.
+fn stage_of<'a, J: JobKey + Send + Sync, R: Threads + Wait + Sync, G: Gate + Sync>(
+    rt: &R,
     alloc: Global,
     job: &Job<'a>,
     workers: u32,
-    gate: &G,
+    gate: &'a G,
+) -> Result<Posted<'a>, AllocError>
+    requires key { data_of job.now ≡ J.job }
+    requires some { 0 < workers }
+    ensures job { IfOk result (λ p. p.job ≡ job.now) }
+    ensures once { IfOk result (λ p. SettledOnce job.now.blocks p.events) }
+{
+    let parts: Parts<'a> = job.parts();
+    let board: Board<'a, J> = Board::new(alloc, job, workers)?;
+    let Board { job, blocks, room } = board;
+    let work: BlockWork<'a, J, G> = BlockWork {
+        job: job.again(),
+        gate,
+        alloc,
+        of: PhantomData,
+    };
+    let blocks = run_all(rt, blocks, &work, parts.blocks, workers);
+    let board: Board<'a, J> = Board { job, blocks, room };
+    Ok(board.close())
+}
+
+/// Runs the blocks of a job by so many workers, of which the calling thread is one and each other has a thread where one can be
+/// started; `None` where memory was refused for the board. In what happened each block is claimed once, and then posted or lost
+/// once. It waits for the workers.
+pub fn run_stage<'a, R: Threads + Wait + Sync, G: Gate + Sync>(
+    rt: &R,
+    alloc: Global,
+    job: &Job<'a>,
+    workers: u32,
+    gate: &'a G,
 ) -> Option<Posted<'a>>
     requires some { 0 < workers }
-    ensures { IfSome result (λ p. p.job ≡ job.now) }
+    ensures job { IfSome result (λ p. p.job ≡ job.now) }
+    ensures once { IfSome result (λ p. SettledOnce job.now.blocks p.events) }
 {
-    let _ = workers;
-    match stage_of::<Brand, G>(alloc, job, gate) {
+    match stage_of::<Brand, R, G>(rt, alloc, job, workers, gate) {
         Ok(posted) => Some(posted),
         Err(_) => None,
     }

@@ -2,14 +2,18 @@
 use denote.Param.Send.{IsSync, sendable}
 use Rattle.std.proofs.Crossing.{crosses}
 use Rattle.std.proofs.MapsCrossing as maps
-use Rattle.crossing_try.proofs.Crossing.{Tree_field, Exprs_field}
-use Rattle.crossing_try.proofs.CrossingStores.{Format_field, Landmarks_field}
+use Rattle.block_stage.proofs.Crossing.{Tree_field, Exprs_field}
+use Rattle.block_stage.proofs.CrossingStores.{Format_field, Landmarks_field}
 use Rattle.checker.specs.contracts.parts.Storage as Storage
 use Rattle.checker.specs.contracts.parts.Entry as Entry
 use Rattle.checker.specs.contracts.parts.FunctionAt as FunctionAt
 use Rattle.checker.specs.contracts.parts.Parts as Parts
 use Rattle.checker.specs.contracts.program.Program as Checked
-use Rattle.postfix.specs.contracts.instruction.Instruction as Instruction
+use Rattle.postfix.specs.contracts.instruction.VariableSubscript as VariableSubscript
+use Rattle.postfix.specs.contracts.instruction.Step as Step
+use Rattle.postfix.specs.contracts.instruction.Change as Change
+use Rattle.postfix.specs.contracts.instruction.Combiner as Combiner
+use Rattle.postfix.specs.contracts.operation.Operation as Operation
 use Rattle.postfix.specs.contracts.code.Code as Code
 use Rattle.programs.specs.contracts.action.Target as Target
 use Rattle.programs.specs.contracts.action.Repeat as Repeat
@@ -36,11 +40,23 @@ Parts_field = search (crosses, maps.crosses, Tree_field, Exprs_field, Format_fie
 Checked_field : IsSync Checked.the_field.row
 Checked_field = search (Parts_field, sendable) depth 60 fits 20000
 
-Instruction_field : IsSync Instruction.the_field.row
-Instruction_field = search (crosses, sendable) depth 60 fits 20000
+Step_field : IsSync Step.the_field.row
+Step_field = search (crosses, sendable) depth 60 fits 20000
+
+Subscript_field : IsSync VariableSubscript.the_field.row
+Subscript_field = search (crosses, Step_field, sendable) depth 60 fits 20000
+
+Change_field : IsSync Change.the_field.row
+Change_field = search (crosses, Subscript_field, sendable) depth 60 fits 20000
+
+Combiner_field : IsSync Combiner.the_field.row
+Combiner_field = search (crosses, Step_field, sendable) depth 60 fits 20000
+
+Operation_field : IsSync Operation.the_field.row
+Operation_field = search (Subscript_field, Step_field, Change_field, Combiner_field, sendable) depth 200 fits 200000
 
 Code_field : IsSync Code.the_field.row
-Code_field = search (crosses, Instruction_field, sendable) depth 60 fits 20000
+Code_field = search (crosses, Operation_field, sendable) depth 60 fits 20000
 
 Target_field : IsSync Target.the_field.row
 Target_field = search (Code_field, sendable) depth 60 fits 20000

@@ -1,0 +1,15 @@
+use Rattle.std.proofs.Common.{length, map, sym, ap, ◌∙◌, subst}
+use Rattle.std.proofs.lemmas.List.{length-map}
+use Rattle.block_stage.specs.Jobs.{JobData}
+use Rattle.block_stage.specs.Stages.{AreRunsOf, run_in}
+use Rattle.block_stage.proofs.board.Board.close.Goals as goal
+
+pub new-requires : goal.new-requires
+new-requires g c =
+    let places = c.close-places.result.places.items in
+    let key = c.self.invariant.0 in
+    record {
+      job = c.parts-parts.ensures.job;
+      whole = ap length c.runs_of-runs.ensures.runs ∙ length-map places run_in ∙ ap length c.close-places.ensures.places ∙ c.close-places.ensures.blocks ∙ sym (ap (λ (d : JobData). d.blocks) key);
+      faithful = subst (λ d. AreRunsOf d c.runs_of-runs.result.items) (sym key) c.runs_of-runs.ensures.faithful;
+    }

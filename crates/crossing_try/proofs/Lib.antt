@@ -1,4 +1,0 @@
-pub mod Crossing
-pub mod CrossingStores
-pub mod CrossingProgram
-pub mod CrossingWork
