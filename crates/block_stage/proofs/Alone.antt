@@ -1,22 +1,20 @@
 -- The run of a block on a view of its own is faithful.
-use Rattle.std.proofs.Common.{◌≡◌, ℕ, ◌<◌, ◌≤◌, ℤ, false, IsTrue, List, [], length, unwrap_or, refl, sym, ap, ◌∙◌, subst}
+use Rattle.std.proofs.Common.{◌≡◌, ℕ, ◌<◌, ◌≤◌, ℤ, false, [], unwrap_or, sym, ap, ◌∙◌, subst}
 use Rattle.std.proofs.Math.Path.{fun_ext}
 use Rattle.std.specs.Ordering.{nat_cmp}
-use Rattle.std.specs.FinSet as set
 use Rattle.std.specs.FinMap as map
 use Rattle.meaning.specs.declared.ending.Run.{Run}
 use Rattle.meaning.specs.Execution.{Ran}
 use Rattle.meaning.specs.Maps.{Map, put}
-use Rattle.meaning.specs.Stores.{Cells, known, overlay, Does}
+use Rattle.meaning.specs.Stores.{Cells, overlay}
 use Rattle.meaning.proofs.Stores.{does_then}
-use Rattle.array_store.specs.Whole.{world_of}
 use Rattle.checker.specs.Checked.{items_in}
 use Rattle.values.specs.Programs.{map_at}
 use Rattle.private_view.specs.Views.{Seen, new_view, world_seen}
 use Rattle.evaluator.specs.Over.{RunsOver, SetsOver, repeated_as, trips_as}
 use Rattle.evaluator.specs.Statements.{ran_by}
 use Rattle.block_stage.specs.Jobs.{JobParts, data_of, variable_in, start_of, count_of}
-use Rattle.block_stage.specs.Faithful.{RunData, base_of, trips_of, ran, IsFaithful}
+use Rattle.block_stage.specs.Faithful.{IsFaithful}
 use Rattle.block_stage.proofs.Putting.{put_twice}
 
 -- nothing was written

@@ -1,6 +1,6 @@
 -- The trips before the cut, one after another from the base, are the base with the written cells of the blocks put in.
-use Rattle.std.proofs.Common.{◌≡◌, ℕ, zero, suc, ℤ, pos, ◌+ℤ◌, ◌*ℤ◌, ◌+◌, ◌*◌, ◌-◌, ◌<◌, ◌≤◌, ◌==◌, ◌&&◌, ◌||◌, Bool, true, false, not, IsTrue, List, [], ◌∷◌, ◌++◌, length, refl, ap, sym, ◌∙◌, subst, arith, rules, take, Option, Some, None, is_some, is_none, unwrap_or, slice_get, get_or, length-take, get_or-take, inl, inr}
-use Rattle.std.specs.Prelude.{nat_lt, sum_by, min}
+use Rattle.std.proofs.Common.{◌≡◌, ℕ, zero, suc, ℤ, pos, ◌+ℤ◌, ◌*ℤ◌, ◌+◌, ◌*◌, ◌-◌, ◌<◌, ◌≤◌, ◌==◌, ◌&&◌, ◌||◌, Bool, true, false, IsTrue, List, [], ◌∷◌, ◌++◌, length, refl, ap, sym, ◌∙◌, subst, arith, rules, take, Option, Some, None, is_some, is_none, unwrap_or, slice_get, get_or, length-take, get_or-take, inl, inr}
+use Rattle.std.specs.Prelude.{nat_lt, sum_by}
 use Rattle.std.specs.List.{list_any}
 use Rattle.std.specs.Ordering.{nat_cmp, is_eq, eq_by_cmp}
 use Rattle.std.specs.Cmp.{Equal-is}
@@ -17,9 +17,8 @@ use Rattle.meaning.specs.declared.ending.Outcome.TheVariants.{Normal, Left, Stop
 use Rattle.meaning.specs.Maps.{Map, put}
 use Rattle.meaning.specs.Stores.{Cells, overlay}
 use Rattle.meaning.specs.Turns.{met_limit}
-use Rattle.meaning.specs.Execution.{Ran, normal, more, goes_on, exec, fold_trips}
+use Rattle.meaning.specs.Execution.{Ran, more, goes_on, exec, fold_trips}
 use Rattle.meaning.specs.LoopLaws.{NeverSets}
-use Rattle.meaning.specs.Turns.{Bounded}
 use Rattle.meaning.proofs.Limits.{fold_trips-append, fold_trips-bounded, exec-bounded}
 use Rattle.meaning.proofs.Advancing.{put_again, fold_trips-number, fold_trips-goes_on}
 use Rattle.evaluator.specs.Over.{values_by}

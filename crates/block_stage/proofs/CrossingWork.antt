@@ -1,7 +1,7 @@
 -- What a worker is lent may be read by several threads.
 use denote.RattleType.{RattleType}
 use denote.Ref.{NamedLft}
-use denote.Param.Send.{IsSend, IsSync, sendable}
+use denote.Param.Send.{IsSync, sendable}
 use Rattle.std.proofs.Crossing.{crosses}
 use Rattle.block_stage.proofs.Crossing.{Loop_field}
 use Rattle.block_stage.proofs.CrossingStores.{Whole_field}

@@ -1,11 +1,11 @@
 -- Where a stage is cut.
-use Rattle.std.proofs.Common.{◌≡◌, ℕ, ◌+◌, ◌-◌, ◌<◌, ◌≤◌, ◌==◌, ◌&&◌, ◌||◌, Bool, true, false, List, [], ◌∷◌, ◌++◌, length, refl, ap, sym, ◌∙◌, arith, get_or, take, Option, Some, None, is_some, is_none, slice_get}
-use Rattle.std.specs.Prelude.{nat_lt, sum_by}
+use Rattle.std.proofs.Common.{◌≡◌, ℕ, ◌+◌, ◌-◌, ◌<◌, ◌==◌, ◌&&◌, ◌||◌, Bool, true, false, length, ap, sym, ◌∙◌, arith, get_or, take, Option, Some, is_none, slice_get}
+use Rattle.std.specs.Prelude.{nat_lt}
 use Rattle.std.specs.List.{list_any}
 use Rattle.std.proofs.lemmas.Option.{slice_get-get_or}
 use Rattle.std.proofs.lemmas.Bool.{ne_eqb, lt-ltb, or_from, or_right, and_from}
 use Rattle.block_stage.specs.Faithful.{RunData}
-use Rattle.block_stage.specs.Cuts.{Places, at_place, place_at, reads_place, clashes_at, clashes, turns_in, outcome_in, turns_to, is_limit, is_early, stops_later, stops}
+use Rattle.block_stage.specs.Cuts.{Places, at_place, place_at, reads_place, clashes_at, outcome_in, turns_to, is_limit, is_early, stops_later, stops}
 use Rattle.block_stage.proofs.Commits.{turns_next}
 
 pub place_is : (places : Places) (i : ℕ) (p : Option RunData) → i < length places → p ≡ get_or places i p → slice_get places i ≡ Some p

@@ -1,5 +1,5 @@
 -- Values of variables that were put in.
-use Rattle.std.proofs.Common.{◌≡◌, ℕ, ℤ, ◌&&◌, true, if◌then◌else◌, List, [], ap, refl, ◌∙◌}
+use Rattle.std.proofs.Common.{◌≡◌, ℕ, ℤ, ◌&&◌, true, if◌then◌else◌, List, [], ap, refl}
 use Rattle.std.proofs.lemmas.Slice.Eq.{bytes_eq-Decides}
 use Rattle.meaning.specs.Maps.{Map, put}
 use Rattle.meaning.proofs.Advancing.{put_again}

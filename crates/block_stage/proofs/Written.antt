@@ -7,7 +7,7 @@ use Rattle.std.proofs.lemmas.List.{take_more}
 use Rattle.meaning.specs.Stores.{Cells, overlay}
 use Rattle.private_view.specs.Views.{is_among}
 use Rattle.block_stage.specs.Faithful.{RunData}
-use Rattle.block_stage.specs.Cuts.{Places, wrote, AddsWrittenBy, AddsWrittenIn, AreWritten, overlay_by, overlay_all}
+use Rattle.block_stage.specs.Cuts.{Places, wrote, AddsWrittenBy, AddsWrittenIn, overlay_by, overlay_all}
 
 or_assoc : (a b c : Bool) → ((a || b) || c) ≡ (a || (b || c))
 or_assoc true b c = refl

@@ -1,5 +1,5 @@
 -- A stage's job: the next trips of a DO statement, in blocks, over the values of a whole store (own; after Rauchwerger and Padua).
-use Rattle.std.specs.Prelude.{◌≡◌, ◌≢◌, ℕ, ◌*◌, ◌-◌, ◌<◌, min, ℤ, pos, ◌+ℤ◌, ◌*ℤ◌, FitsSigned, IsTrue, List, [], length, Option, None}
+use Rattle.std.specs.Prelude.{◌≡◌, ◌≢◌, ℕ, ◌*◌, ◌-◌, ◌<◌, min, ℤ, pos, ◌+ℤ◌, ◌*ℤ◌, FitsSigned, IsTrue, List, [], length, None}
 use Rattle.std.specs.Int.{w32}
 use Rattle.meaning.specs.declared.syntax.Loop.{Loop, out-Loop}
 use Rattle.meaning.specs.declared.syntax.Tree.{Tree}

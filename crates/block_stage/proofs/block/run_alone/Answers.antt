@@ -1,4 +1,4 @@
-use Rattle.std.proofs.Common.{rules, ◌≡◌, ◌≤◌, ◌*◌, ◌<◌, pos, ◌+ℤ◌, ◌*ℤ◌, sym, ap, subst, ◌∙◌, to_z, of_z, FitsSigned}
+use Rattle.std.proofs.Common.{rules, ◌≡◌, ◌≤◌, ◌<◌, pos, ◌+ℤ◌, ◌*ℤ◌, sym, subst, ◌∙◌, to_z, of_z, FitsSigned}
 use Rattle.std.specs.Int.{w32}
 use Rattle.std.proofs.lemmas.Int.{to_z-of_z}
 use Rattle.block_stage.specs.Jobs.{JobParts, data_of, start_of, count_of}

@@ -1,4 +1,4 @@
-use Rattle.std.proofs.Common.{◌≡◌, ◌≤◌, ◌<◌, Some, length, slice_get, sym, ap, ◌∙◌, arith}
+use Rattle.std.proofs.Common.{◌≡◌, ◌<◌, length, slice_get, sym, ap, ◌∙◌, arith}
 use Rattle.block_stage.specs.Cuts.{Places}
 use Rattle.block_stage.proofs.Boards.{one_run_more, place_there, numbered_run, both, length_runs}
 use Rattle.block_stage.proofs.Staging.{one_more}

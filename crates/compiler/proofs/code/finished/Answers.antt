@@ -1,4 +1,4 @@
-use Rattle.std.proofs.Common.{rules, ◌≡◌, ◌≤◌, refl}
+use Rattle.std.proofs.Common.{rules, ◌≡◌, ◌≤◌}
 use Rattle.postfix.specs.Operations.{instructions}
 use Rattle.compiler.proofs.Room.{fits_alone}
 use Rattle.compiler.proofs.code.finished.Goals as goal

@@ -1,4 +1,4 @@
-use Rattle.std.proofs.Common.{◌≡◌, ◌||◌, is_some, ap, ◌∙◌}
+use Rattle.std.proofs.Common.{◌||◌, is_some, ap, ◌∙◌}
 use Rattle.std.specs.FinMap as map
 use Rattle.private_view.specs.Views.{Seen, is_among}
 use Rattle.private_view.proofs.Listing.{adds_keys}
