@@ -8,14 +8,16 @@ ghost use Rattle.driver.specs.Status.{IsStatusOf, status_of, no_run_for};
 use command_line::asked::OptionsFault;
 use command_line::help::{HELP, VERSION};
 use command_line::options::options;
-use executor::Out;
-use executor::run::run_in_order;
+use executor::run::run;
+use executor::{Open, Out};
 use meaning::ending::Ending;
 use meaning::plan::Plan;
 use std::alloc::{AllocError, AllocFailed, Global};
 use std::env::Env;
 use std::io::{ErrorKind, Read, Write};
 use std::rt::Files;
+use std::sync::Wait;
+use std::thread::Threads;
 use std::{env, fs, io};
 
 /// So many bytes of a source are read at most: one more than a source may have.
@@ -78,8 +80,14 @@ impl From<OptionsFault> for NoRun {
 /// error, and answers its exit status: 0 where END was reached, a STOP statement was executed or a text was asked for,
 /// 1 for a fault, 2 for a refused source, 3 for a fault of the command line, 4 for want of memory, 5 where the source
 /// can't be read or a write is refused. What the command line asks for comes first, then the source, its run, and the
-/// flush of its output.
-pub fn engine<R: Files + AllocGlobal, V: Env, I: Read, O: Write + Drop, E: Write>(
+/// flush of its output. With two workers or more it waits for their threads.
+pub fn engine<
+    R: Files + AllocGlobal + Threads + Wait + Sync,
+    V: Env,
+    I: Read,
+    O: Write + Drop,
+    E: Write,
+>(
     rt: &R,
     words: &V,
     input: &mut I,
@@ -87,7 +95,7 @@ pub fn engine<R: Files + AllocGlobal, V: Env, I: Read, O: Write + Drop, E: Write
     err: &mut E,
 ) -> u8 {
     match job_asked(rt, words, input) {
-        Ok(job) => report(run_whole(rt.alloc(), &job, out), err),
+        Ok(job) => report(run_whole(rt, &job, out), err),
         Err(no_run) => report_no_run(no_run, out, err),
     }
 }
@@ -191,9 +199,13 @@ fn front_of<I: Read + Drop>(alloc: Global, reader: I) -> io::Result<Vec<u8>>
 }
 
 // Runs a source over a writer and flushes it; a flush that fails takes the place of the ending.
-fn run_whole<O: Write + Drop>(alloc: Global, job: &Job, out: O) -> Ending {
+fn run_whole<R: AllocGlobal + Threads + Wait + Sync, O: Write + Drop>(
+    rt: &R,
+    job: &Job,
+    out: O,
+) -> Ending {
     let mut sink = Out::new(out);
-    let ending = run_in_order(alloc, &job.source, &job.plan, &mut sink);
+    let ending = run(rt, rt.alloc(), &job.source, &job.plan, &mut sink, &Open);
     match sink.into_inner().flush() {
         Ok(()) => ending,
         Err(_) => Ending::WriteRefused,

@@ -22,4 +22,6 @@ mod sizes;
 #[cfg(test)]
 mod sources;
 #[cfg(test)]
+mod stages;
+#[cfg(test)]
 mod turns;

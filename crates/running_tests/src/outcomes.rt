@@ -1,7 +1,7 @@
 //! Sources over writers in memory, and what comes of them. Expected bytes come from the rules of docs/LANGUAGE.md.
 
-use executor::Out;
-use executor::run::run_in_order;
+use executor::run::{run, run_in_order};
+use executor::{Open, Out};
 use meaning::ending::{Ending, Fault, FaultKind, StopMessage};
 use meaning::plan::Plan;
 use meaning::refusal::Rule;
@@ -9,7 +9,9 @@ use std::alloc::Global;
 use std::io;
 use std::io::{ErrorKind, Write};
 use std::process::Abort;
+use std::sync::Wait;
 use std::test::*;
+use std::thread::Threads;
 
 /// A writer in memory that takes at most `step` bytes a call and `room` bytes in all; past that it answers 0, or an
 /// error.
@@ -69,6 +71,19 @@ pub fn plan_with(rt: &impl Abort, turns: u64) -> Plan {
 pub fn outcome_by(alloc: Global, source: &[u8], plan: &Plan) -> (Ending, Vec<u8>) {
     let mut sink = Out::new(make_meter(alloc, usize::MAX, usize::MAX, false));
     let ending = run_in_order(alloc, source, plan, &mut sink);
+    let Meter { bytes, .. } = sink.into_inner();
+    (ending, bytes)
+}
+
+/// The same by stages, where the plan has two workers or more.
+pub fn outcome_by_stages<R: Threads + Wait + Sync>(
+    rt: &R,
+    alloc: Global,
+    source: &[u8],
+    plan: &Plan,
+) -> (Ending, Vec<u8>) {
+    let mut sink = Out::new(make_meter(alloc, usize::MAX, usize::MAX, false));
+    let ending = run(rt, alloc, source, plan, &mut sink, &Open);
     let Meter { bytes, .. } = sink.into_inner();
     (ending, bytes)
 }

@@ -1,10 +1,12 @@
 //! Plans: whatever the workers, the blocks and the window, a source comes to what its statements do one after another.
 
-use crate::outcomes::{MANY, all_end, end_or_stop, outcome_by};
+use crate::outcomes::{MANY, all_end, end_or_stop, outcome_by_stages};
 use meaning::ending::{Ending, Fault, FaultKind};
 use meaning::plan::Plan;
 use std::alloc::Global;
 use std::process::Abort;
+use std::sync::Wait;
+use std::thread::Threads;
 
 /// How many workers, how many trips in a block, and how many blocks at a time.
 const WORKERS: &[u64] = &[1, 2, 3, 4, 8, 64];
@@ -14,8 +16,8 @@ const BLOCKS: &[u64] = &[1, 2, 7, 64, 1_000_000];
 const WINDOWS: &[u64] = &[1, 8, 16, 256];
 
 /// Compares the ending of a source by each of these plans, and the records that it writes.
-fn comes_to_by_all(
-    rt: &impl Abort,
+fn comes_to_by_all<R: Abort + Threads + Wait + Sync>(
+    rt: &R,
     alloc: Global,
     source: &str,
     turns: u64,
@@ -26,7 +28,7 @@ fn comes_to_by_all(
         for &block in BLOCKS {
             for &window in WINDOWS {
                 let plan = Plan::new(workers, block, window, turns).expect(rt, "a plan");
-                let (ending, bytes) = outcome_by(alloc, source.as_bytes(), &plan);
+                let (ending, bytes) = outcome_by_stages(rt, alloc, source.as_bytes(), &plan);
                 assert!(rt; ending == *want, "{plan:?}: {source}");
                 assert!(rt;
                     bytes.as_slice() == records.as_bytes(),

@@ -1,0 +1,104 @@
+//! Loops by stages: how many blocks enter a gate, and two of them at once.
+
+use crate::outcomes::MANY;
+use executor::run::run;
+use executor::{Gate, Out};
+use meaning::ending::Ending;
+use meaning::plan::Plan;
+use std::alloc::AllocError;
+use std::sync::atomic::{AtomicU64, Ordering};
+use std::test::*;
+
+/// Elements through an array of subscripts: no block needs what another one did.
+const PERMUTED: &str = "      INTEGER A(8),K(8)\n      DATA K/3,1,4,8,5,2,7,6/\n      DO 10 I=1,8\n   10 A(K(I))=I\n      WRITE (6,20) A\n   20 FORMAT (8I3)\n      END\n";
+
+/// Each element from the one before: one trip is committed in each stage, of 8, 7, .. and 1 blocks.
+const RECURRENCE: &str = "      INTEGER A(9)\n      DO 10 I=2,9\n   10 A(I)=A(I-1)+1\n      WRITE (6,20) A(9)\n   20 FORMAT (I3)\n      END\n";
+
+/// Each element from one four before: two blocks of two trips are committed in each stage, of 8, 6, 4 and 2 blocks.
+const FOUR_BEFORE: &str = "      INTEGER A(20)\n      DO 10 I=5,20\n   10 A(I)=A(I-4)+1\n      WRITE (6,20) A(20)\n   20 FORMAT (I3)\n      END\n";
+
+/// Counts the blocks that enter.
+#[derive(Drop)]
+struct Counting {
+    entries: AtomicU64,
+}
+
+impl Gate for Counting {
+    fn enter(&self, _block: u32) {
+        let _ = self.entries.fetch_add(1, Ordering::SeqCst);
+    }
+}
+
+/// Sources, how many trips a block has, how many blocks enter the gate, and the records.
+const ENTERED: &[(&str, u64, u64, &str)] = &[
+    (PERMUTED, 2, 4, "  2  6  1  3  5  8  7  4\n"),
+    (RECURRENCE, 1, 36, "  8\n"),
+    (FOUR_BEFORE, 2, 20, "  4\n"),
+];
+
+/// With memory as it is, as many blocks are run as the stages have: none is lost, none is run once more in order, and the next
+/// stage begins where the last one was cut.
+#[test]
+fn entries(rt: HostRuntime) -> Result<(), AllocError> {
+    for &(source, block, wanted, records) in ENTERED {
+        let gate = Counting {
+            entries: AtomicU64::new(0),
+        };
+        let plan = Plan::new(4, block, 8, MANY).expect(&rt, "a plan");
+        let mut sink = Out::new(Vec::new(rt.alloc()));
+        let ending = run(&rt, rt.alloc(), source.as_bytes(), &plan, &mut sink, &gate);
+        assert!(rt; ending == Ending::Ended, "{source}");
+        let written = sink.into_inner();
+        assert!(rt; written.as_slice() == records.as_bytes(), "{source}");
+        let entered = gate.entries.into_inner();
+        assert!(rt; entered == wanted, "{entered}: {source}");
+    }
+    Ok(())
+}
+
+/// Block 0 waits until block 1 has entered, for so many looks at most.
+#[derive(Drop)]
+struct Meeting {
+    begun: AtomicU64,
+    met: AtomicU64,
+}
+
+const LOOKS: u32 = 100_000_000;
+
+impl Meeting {
+    fn wait(&self) -> u64 {
+        for _ in 0..LOOKS {
+            if self.begun.load(Ordering::SeqCst) == 1 {
+                return 1;
+            }
+        }
+        0
+    }
+}
+
+impl Gate for Meeting {
+    fn enter(&self, block: u32) {
+        if block == 1 {
+            self.begun.store(1, Ordering::SeqCst);
+        }
+        if block == 0 {
+            let met = self.wait();
+            self.met.store(met, Ordering::SeqCst);
+        }
+    }
+}
+
+#[test]
+fn two_blocks_at_once(rt: HostRuntime) -> Result<(), AllocError> {
+    let gate = Meeting {
+        begun: AtomicU64::new(0),
+        met: AtomicU64::new(0),
+    };
+    let plan = Plan::new(4, 2, 8, MANY).expect(&rt, "a plan");
+    let mut sink = Out::new(Vec::new(rt.alloc()));
+    let ending = run(&rt, rt.alloc(), PERMUTED.as_bytes(), &plan, &mut sink, &gate);
+    assert!(rt; ending == Ending::Ended);
+    assert!(rt; gate.met.into_inner() == 1);
+    Ok(())
+}
