@@ -89,7 +89,7 @@ fn item_told(item: &ListCode) -> (&'static str, usize, usize) {
 
 const ITEMS: &[(&str, usize, usize)] = &[
     ("numbers", 0, 3),
-    ("value", 3, 0),
+    ("value", 2, 0),
     ("truths", 3, 4),
     ("loop", 7, 0),
     ("value", 6, 0),

@@ -13,13 +13,16 @@ fn value_at(program: &Program, line: u32) -> Option<&Code> {
     }
 }
 
-/// Constants and operators are an instruction each; a variable is one, with the operator before it or as a subscript too, and so is
-/// an element whose one or two subscripts are variables.
+/// Constants and operators are an instruction each, but for an operator with a constant or a variable behind it, which are one together
+/// unless it is `**` with a constant. A variable is one alone or as a subscript, and so is an element whose one or two subscripts are
+/// variables.
 const LENGTHS: &[(&[u8], usize)] = &[
     (b"I=1", 1),
     (b"I=J", 1),
     (b"I=J+K", 2),
-    (b"I=J+K*7", 5),
+    (b"I=J+K*7", 4),
+    (b"I=7*K+J", 3),
+    (b"I=J**7", 3),
     (b"I=-J", 2),
     (b"I=A(J)", 1),
     (b"I=B(J,K)", 1),

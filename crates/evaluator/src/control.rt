@@ -30,6 +30,7 @@ use std::alloc::AllocError;
 use values::value;
 
 /// Takes one of the turns that are left, if there is one.
+#[inline(always)]
 pub fn take_turn(turns: &mut u64) -> bool
     ensures { TakesTurn turns.old turns.new result }
 {
@@ -41,6 +42,7 @@ pub fn take_turn(turns: &mut u64) -> bool
 }
 
 // Executes an assignment.
+#[inline(always)]
 fn run_assignment<S: Store>(
     program: &Program,
     line: u32,
@@ -71,6 +73,7 @@ fn run_assignment<S: Store>(
 }
 
 // Executes a CONTINUE statement: it takes a turn.
+#[inline(always)]
 fn run_continue(line: u32, turns: &mut u64) -> Outcome
     ensures moves { (all : List ItemTree) (m : Map) →
         Moves (λ go. simple all continuing line m turns.old go) turns.old m turns.new result }
@@ -86,6 +89,7 @@ fn run_continue(line: u32, turns: &mut u64) -> Outcome
 }
 
 // Executes a GO TO statement.
+#[inline(always)]
 fn run_go_to(line: u32, label: u32, turns: &mut u64) -> Outcome
     ensures moves { (all : List ItemTree) (s : ShapeTree) (m : Map) → Goes label s →
         Moves (λ go. simple all s line m turns.old go) turns.old m turns.new result }
@@ -210,6 +214,7 @@ fn run_arithmetic_if<S: Store>(
 }
 
 // Executes a statement that is neither a logical IF nor WRITE or PRINT, or passes over one that isn't executable.
+#[inline(always)]
 fn run_simple<S: Store>(
     program: &Program,
     line: u32,
@@ -249,6 +254,7 @@ fn run_simple<S: Store>(
 }
 
 // Executes a logical IF over a statement that writes nothing.
+#[inline(always)]
 fn run_if<S: Store>(
     program: &Program,
     line: u32,
@@ -289,6 +295,7 @@ fn run_if<S: Store>(
 }
 
 // Executes a statement that writes nothing, by what it needs.
+#[inline(always)]
 fn run_action<S: Store>(
     program: &Program,
     item: &Item,
@@ -320,6 +327,7 @@ fn run_action<S: Store>(
 
 /// Executes one statement that stands by itself and writes nothing, or passes over one that isn't executable. The
 /// `AllocError` comes where the store refused a write.
+#[inline(always)]
 pub fn run_item<S: Store>(
     program: &Program,
     item: &Item,
@@ -343,6 +351,7 @@ pub fn run_item<S: Store>(
 }
 
 // The code of the condition of an arm of a block IF; none of ELSE.
+#[inline(always)]
 fn condition_in<'a>(program: &'a Program, head: &Item) -> Option<&'a Code>
     requires { IsStatement program.now (item_tree head.now) }
     ensures { ConditionIs program.now (shape_tree head.now.form.shape.value) result }

@@ -123,6 +123,7 @@ impl Program {
     }
 
     /// What the statement with this initial line needs.
+    #[inline(always)]
     pub fn action(&self, line: u32) -> Option<&Action>
         ensures { IsActionAt self.now line result }
     {
@@ -130,6 +131,7 @@ impl Program {
     }
 
     /// How many cells its variables and arrays have.
+    #[inline(always)]
     pub fn cells(&self) -> usize
         ensures { result ≡ count_in self.now }
     {
@@ -137,6 +139,7 @@ impl Program {
     }
 
     /// How many statement functions it has.
+    #[inline(always)]
     pub fn callable(&self) -> usize
         ensures { result ≡ length (names_in self.now).definitions }
     {
@@ -144,6 +147,7 @@ impl Program {
     }
 
     /// The codes of its statement functions, first to last.
+    #[inline(always)]
     pub fn functions(&self) -> &[Code]
         ensures { AreFunctions self.now result.now }
     {
