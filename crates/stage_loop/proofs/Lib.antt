@@ -1,5 +1,5 @@
 pub mod Copying
 pub mod Values
 pub mod Advances
-pub mod Statement
+pub mod QuietLoop
 pub mod Distances

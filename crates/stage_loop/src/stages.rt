@@ -115,7 +115,7 @@ fn run_in_order(
 }
 
 // Runs some first trips as a stage, or those of the next block in order.
-fn advance<R: Wait>(
+fn run_next<R: Wait>(
     rt: &R,
     alloc: Global,
     program: &Program,
@@ -194,7 +194,7 @@ pub(crate) fn run_stages<R: Wait>(
             done,
             outcome,
             copy: next,
-        } = advance(rt, alloc, program, repeated, rest, plan, copy, cells, turns);
+        } = run_next(rt, alloc, program, repeated, rest, plan, copy, cells, turns);
         match outcome {
             Outcome::Normal => {}
             Outcome::Left(label) => return Outcome::Left(label),

@@ -8,7 +8,7 @@ use Rattle.stage_loop.proofs.Advances.{on}
 use Rattle.stage_loop.proofs.stages.run_stages.Given as goal
 
 abbrev pub invariant-loop-rest : goal.invariant-loop-rest
-invariant-loop-rest l = record {
+invariant-loop-rest g l = record {
   so_far : Reaches
       (on (items_in l.program) l.repeated l.course.step l.course.value l.course.trips (map_of l.program l.initial.cells) l.initial.turns)
       (on (items_in l.program) l.repeated l.course.step l.rest.value l.rest.trips (map_of l.program l.cells) l.turns)
@@ -21,4 +21,4 @@ invariant-loop-rest l = record {
 }
 
 abbrev pub decreases-loop-rest : goal.decreases-loop-rest
-decreases-loop-rest l = l.rest.trips
+decreases-loop-rest g l = l.rest.trips
