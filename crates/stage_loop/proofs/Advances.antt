@@ -5,6 +5,7 @@ use Rattle.std.proofs.lemmas.List.{length-map, length-append}
 use Rattle.std.proofs.lemmas.List.FromFn.{length-range_with_len}
 use Rattle.meaning.specs.declared.ending.Outcome.{Outcome}
 use Rattle.meaning.specs.declared.ending.Outcome.TheVariants as outcomes
+use Rattle.meaning.specs.declared.ending.Run.{Run}
 use Rattle.meaning.specs.declared.syntax.Loop.{Loop, out-Loop}
 use Rattle.meaning.specs.Execution.{Ran, goes_on, more, exec, fold_trips}
 use Rattle.meaning.specs.LoopLaws.{NeverSets}
@@ -14,7 +15,7 @@ use Rattle.meaning.proofs.Advancing.{fold_trips-goes_on, fold_trips-number, put_
 use Rattle.meaning.proofs.Limits.{fold_trips-append}
 use Rattle.meaning.proofs.Running.{more-none}
 use Rattle.evaluator.specs.Over.{repeated_as, trips_as, values_by}
-use Rattle.evaluator.specs.Statements.{Leaves, Reaches}
+use Rattle.evaluator.specs.Statements.{Leaves, Reaches, Spends, ran_by}
 use Rattle.evaluator.proofs.Composed.{IsEnd, ends_there, leaves_along, leaves_behind, reaches_end, reaches_more}
 use Rattle.stage_loop.specs.Loops.{AreIntegers, range_in, variable_in}
 
@@ -74,3 +75,20 @@ module _ (all : List ItemTree) (l : Loop) (step : ℤ) where
 
 pub leaves_less : (r : Ran) (given : ℕ) (new : Map) (left : ℕ) (o : Outcome) → Leaves r given new left o → left ≤ given
 leaves_less r given new left o x = let e = x.turns in omega arith
+
+-- a run with the turns that it used
+pub leaves_of_run : (r : Ran) (given : ℕ) (m : Map) (run : Run) → r ≡ ran_by run m → run.turns_used ≤ given → Leaves r given m (given - run.turns_used) run.outcome
+leaves_of_run r given m run is le =
+    record {
+      outcome = ap (λ (x : Ran). x.outcome) is;
+      after = ap (λ (x : Ran). x.map) is;
+      nothing = ap (λ (x : Ran). x.pieces) is;
+      turns = (let e = ap (λ (x : Ran). x.used) is in omega arith);
+    }
+
+-- the turns that are left, by those that were used
+pub left_by_used : (o : Outcome) (t left : ℕ) → Spends o t left → left ≡ t - (t - left)
+left_by_used outcomes.Normal t left le = omega arith
+left_by_used (outcomes.Left s) t left lt = omega arith
+left_by_used (outcomes.Stopped line) t left le = omega arith
+left_by_used (outcomes.Fault f) t left le = omega arith

@@ -19,7 +19,7 @@ slice_get-slice_set (x ∷ xs) (suc c) v (suc d) h =
     slice_get-slice_set xs c v d (omega arith) ∙ sym (ap (λ b. if b then Some v else slice_get xs d) (eqb-suc-suc d c))
 
 -- the first of them has its value
-one_less : (n : ℕ) (ns : List ℕ) (old new : List ℤ) (v : ℤ) → n < length old → slice_get new n ≡ Some v → DifferIn (n ∷ ns) old new → DifferIn ns (slice_set old n v) new
+pub one_less : (n : ℕ) (ns : List ℕ) (old new : List ℤ) (v : ℤ) → n < length old → slice_get new n ≡ Some v → DifferIn (n ∷ ns) old new → DifferIn ns (slice_set old n v) new
 one_less n ns old new v lt is h c none = slice_get-slice_set old n v c lt ∙ by_test (c == n) refl
   where
     by_test : (b : Bool) → (c == n) ≡ b → (if b then Some v else slice_get old c) ≡ slice_get new c
@@ -27,7 +27,7 @@ one_less n ns old new v lt is h c none = slice_get-slice_set old n v c lt ∙ by
     by_test false e = h c (ap (λ b. b || list_any (λ d. c == d) ns) e ∙ none)
 
 -- the first of them isn't a cell
-one_past : (n : ℕ) (ns : List ℕ) (old new : List ℤ) → length old ≡ length new → length new ≤ n → DifferIn (n ∷ ns) old new → DifferIn ns old new
+pub one_past : (n : ℕ) (ns : List ℕ) (old new : List ℤ) → length old ≡ length new → length new ≤ n → DifferIn (n ∷ ns) old new → DifferIn ns old new
 one_past n ns old new e le h c none = by_test (c == n) refl
   where
     by_test : (b : Bool) → (c == n) ≡ b → slice_get old c ≡ slice_get new c
@@ -36,13 +36,8 @@ one_past n ns old new e le h c none = by_test (c == n) refl
         slice_get_past old c (omega arith) ∙ sym (slice_get_past new c (omega arith))
     by_test false is = h c (ap (λ b. b || list_any (λ d. c == d) ns) is ∙ none)
 
-pub next_cell : (cells : List ℕ) (i n : ℕ) (old new : List ℤ) (v : ℤ) → i < length cells → n ≡ get_or cells i n → n < length old → slice_get new n ≡ Some v → DifferIn (drop i cells) old new → DifferIn (drop (i + 1) cells) (slice_set old n v) new
-next_cell cells i n old new v lt at small is h =
-    one_less n (drop (i + 1) cells) old new v small is (subst (λ ns. DifferIn ns old new) (drop_more cells i n lt ∙ ap (λ k. k ∷ drop (i + 1) cells) (sym at)) h)
-
-pub no_such_cell : (cells : List ℕ) (i n : ℕ) (old new : List ℤ) → i < length cells → n ≡ get_or cells i n → length old ≡ length new → length new ≤ n → DifferIn (drop i cells) old new → DifferIn (drop (i + 1) cells) old new
-no_such_cell cells i n old new lt at e le h =
-    one_past n (drop (i + 1) cells) old new e le (subst (λ ns. DifferIn ns old new) (drop_more cells i n lt ∙ ap (λ k. k ∷ drop (i + 1) cells) (sym at)) h)
+pub next_number : (cells : List ℕ) (i : ℕ) (old new : List ℤ) → i < length cells → DifferIn (drop i cells) old new → DifferIn (get_or cells i 0 ∷ drop (i + 1) cells) old new
+next_number cells i old new lt h = subst (λ ns. DifferIn ns old new) (drop_more cells i 0 lt) h
 
 same_lists : (xs ys : List ℤ) → length xs ≡ length ys → ((c : ℕ) → slice_get xs c ≡ slice_get ys c) → xs ≡ ys
 same_lists [] [] e h = refl

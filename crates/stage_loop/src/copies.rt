@@ -1,6 +1,6 @@
 //! The copy of the cells on which the blocks of a stage stand.
 
-ghost use Rattle.std.specs.Prelude.{◌≡◌, IfSome, length};
+ghost use Rattle.std.specs.Prelude.{◌≡◌, ℕ, List, ◌∷◌, IfSome, length};
 ghost use Rattle.stage_loop.specs.Changes.{DifferIn};
 
 use array_store::Whole;
@@ -21,6 +21,19 @@ pub(crate) fn copy_of(alloc: Global, copy: Option<Whole>, cells: &Whole) -> Opti
     }
 }
 
+// Puts the value of a cell into the copy, if there is such a cell.
+fn bring(copy: &mut Whole, cells: &Whole, number: usize)
+    requires len { length copy.old ≡ length cells.now }
+    ensures differ { (others : List ℕ) → DifferIn (number ∷ others) copy.old cells.now →
+        DifferIn others copy.new cells.now }
+    ensures len { length copy.new ≡ length copy.old }
+{
+    if number >= cells.cells().len() {
+        return;
+    }
+    copy.write(Cell(number), cells.read(Cell(number)));
+}
+
 // Puts the values of the cells that may have changed into the copy.
 fn follow(copy: &mut Whole, cells: &Whole, changed: &[usize])
     requires changes { DifferIn changed.now copy.old cells.now }
@@ -28,9 +41,7 @@ fn follow(copy: &mut Whole, cells: &Whole, changed: &[usize])
     ensures { copy.new ≡ cells.now }
 {
     for number in changed {
-        if let Some(value) = cells.cells().get(*number) {
-            copy.write(Cell(*number), *value);
-        }
+        bring(copy, cells, *number);
     }
 }
 
