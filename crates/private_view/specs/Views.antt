@@ -1,5 +1,6 @@
 -- What a view of a whole store is among stores (own).
-use Rattle.std.specs.Prelude.{◌≡◌, ℕ, ℤ, ◌<◌, Bool, false, List, [], ◌∷◌, length, slice_set, is_some, IsSome, refl}
+use Rattle.std.specs.Prelude.{◌≡◌, ℕ, ℤ, ◌<◌, ◌==◌, ◌||◌, Bool, false, List, [], ◌∷◌, length, slice_set, is_some, IsSome, refl}
+use Rattle.std.specs.List.{list_any}
 use Rattle.std.specs.Ordering.{nat_cmp}
 use Rattle.std.specs.FinSet as set
 use Rattle.std.specs.FinMap as map
@@ -35,6 +36,14 @@ world_seen s = record {
   lost = s.lost;
   sure = false;
 }
+
+-- a number is one of these
+abbrev pub is_among : ℕ → List ℕ → Bool
+is_among c numbers = list_any (λ d. c == d) numbers
+
+-- the cells that were written, put behind others
+abbrev pub AddsWritten : Seen → List ℕ → List ℕ → Type 0
+AddsWritten s old new = (c : ℕ) → is_among c new ≡ (is_among c old || is_some (map.get s.written c))
 
 -- ---- how a view is kept
 

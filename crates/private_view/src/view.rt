@@ -1,6 +1,7 @@
 //! A view of a whole store.
 
-ghost use Rattle.std.specs.Prelude.{◌≡◌, ◌<◌, ℕ, length, is_some};
+ghost use Rattle.std.specs.Prelude.{◌≡◌, ◌<◌, ◌++◌, ℕ, length, is_some, IfOk};
+ghost use Rattle.std.specs.Map.{keys_of};
 ghost use Rattle.std.specs.List.{AllByRecursion};
 ghost use Rattle.std.specs.Ordering.{nat_cmp};
 ghost use Rattle.std.specs.BTreeMap.{IsOrdered};
@@ -8,7 +9,7 @@ ghost use Rattle.std.specs.FinSet as set;
 ghost use Rattle.std.specs.FinMap as map;
 ghost use Rattle.meaning.specs.Stores.{known, overlay};
 ghost use Rattle.array_store.specs.Whole.{world_of};
-ghost use Rattle.private_view.specs.Views.{Seen, coded_seen, new_view, world_seen, written_by, put_entries, IsKept};
+ghost use Rattle.private_view.specs.Views.{AddsWritten, Seen, coded_seen, new_view, world_seen, written_by, put_entries, IsKept};
 
 use array_store::{Store, Whole};
 use marks::Marks;
@@ -78,15 +79,44 @@ impl<'a> View<'a> {
         self.lost
     }
 
+    /// Puts the numbers of the cells that were written behind others. The `AllocError` comes where memory was refused; some of
+    /// them may have been put there then.
+    pub fn add_written(&self, numbers: &mut Vec<usize>) -> Result<(), AllocError>
+        ensures { IfOk result (λ _. AddsWritten self.now numbers.old.items numbers.new.items) }
+    {
+        add_keys(&self.values, numbers)?;
+        Ok(())
+    }
+
     /// Puts what was written into a whole store of as many cells. It takes no memory.
+    pub fn apply_to(&self, target: &mut Whole)
+        requires { length target.old ≡ length self.now.base }
+        ensures values { known (world_of target.new) ≡
+            overlay (known (world_of target.old)) (map.get self.now.written) }
+        ensures len { length target.new ≡ length target.old }
+    {
+        put_all(&self.values, target);
+    }
+
+    /// Puts what was written into a whole store of as many cells, and lets the view go. It takes no memory.
     pub fn apply(self, target: &mut Whole)
         requires { length target.old ≡ length self.base }
         ensures values { known (world_of target.new) ≡
             overlay (known (world_of target.old)) (map.get self.entry.written) }
         ensures len { length target.new ≡ length target.old }
     {
-        put_all(&self.values, target);
+        self.apply_to(target);
     }
+}
+
+// Puts the keys of values behind other numbers.
+fn add_keys(values: &BTreeMap<usize, i32>, numbers: &mut Vec<usize>) -> Result<(), AllocError>
+    ensures { IfOk result (λ _. numbers.new.items ≡ numbers.old.items ++ keys_of values.now.entries) }
+{
+    for (number, _) in values.iter() {
+        numbers.push(*number)?;
+    }
+    Ok(())
 }
 
 // Puts values into a whole store.

@@ -1,0 +1,4 @@
+pub mod Jobs
+pub mod Faithful
+pub mod Cuts
+pub mod Stages

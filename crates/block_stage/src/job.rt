@@ -1,0 +1,151 @@
+//! One stage of a loop.
+
+ghost use Rattle.std.specs.Prelude.{◌≡◌};
+ghost use Rattle.block_stage.specs.Jobs.{JobParts, IsJob};
+
+use array_store::Whole;
+use meaning::syntax::Loop;
+use programs::Program;
+use std::marker::{Brand, Model};
+
+/// One stage of a DO statement over a whole store: its next trips in blocks, and the turns that are left. Contracts see its parts.
+#[derive(Drop)]
+pub struct Job<'a> {
+    program: &'a Program,
+    repeated: &'a Loop,
+    base: &'a Whole,
+    first: i32,
+    step: i32,
+    trips: u64,
+    block: u64,
+    blocks: u32,
+    turns: u64,
+}
+
+impl<'a> Model for Job<'a> {
+    ghost use Rattle.block_stage.specs.Jobs.{JobParts, IsJob};
+    ghost use Rattle.std.specs.Coded.{codes};
+    ghost use Rattle.meaning.specs.contracts.syntax.Tree as trees;
+    ghost use Rattle.meaning.specs.contracts.syntax.Loop as loops;
+
+    ghost Value = { JobParts };
+
+    ghost coded = { Prim.hlevel (codes, trees.the_row.coded, loops.the_row.coded) };
+
+    ghost view = { λ j. record {
+      program = j.program.now;
+      repeated = j.repeated.now;
+      base = j.base.now;
+      first = j.first;
+      step = j.step;
+      trips = j.trips;
+      block = j.block;
+      blocks = j.blocks;
+      turns = j.turns;
+    } };
+
+    ghost invariant = { λ j. IsJob (record {
+      program = j.program.now;
+      repeated = j.repeated.now;
+      base = j.base.now;
+      first = j.first;
+      step = j.step;
+      trips = j.trips;
+      block = j.block;
+      blocks = j.blocks;
+      turns = j.turns;
+    }) };
+}
+
+/// The parts of a job.
+#[derive(Clone, Copy)]
+pub(crate) struct Parts<'a> {
+    pub program: &'a Program,
+    pub repeated: &'a Loop,
+    pub base: &'a Whole,
+    pub first: i32,
+    pub step: i32,
+    pub trips: u64,
+    pub block: u64,
+    pub blocks: u32,
+    pub turns: u64,
+}
+
+/// A type that stands for one job's data.
+pub trait JobKey {
+    ghost use Rattle.block_stage.specs.Jobs.{JobData};
+
+    ghost job: { JobData };
+}
+
+impl JobKey for Brand {
+    ghost use Rattle.block_stage.specs.Jobs.{no_job};
+
+    ghost job = { no_job };
+}
+
+impl<'a> Job<'a> {
+    /// The next trips of a DO statement in blocks, the last of which may be shorter, from a value of its variable on, with the
+    /// turns that are left.
+    pub fn new(
+        program: &'a Program,
+        repeated: &'a Loop,
+        base: &'a Whole,
+        first: i32,
+        step: i32,
+        trips: u64,
+        block: u64,
+        blocks: u32,
+        turns: u64,
+    ) -> Job<'a>
+        requires { IsJob (record { program = program.now; repeated = repeated.now; base = base.now; first = first; step = step; trips = trips; block = block; blocks = blocks; turns = turns }) }
+        ensures { result ≡ record { program = program.entry.now; repeated = repeated.entry.now; base = base.entry.now; first = first; step = step; trips = trips; block = block; blocks = blocks; turns = turns } }
+    {
+        Job {
+            program,
+            repeated,
+            base,
+            first,
+            step,
+            trips,
+            block,
+            blocks,
+            turns,
+        }
+    }
+
+    // Its parts, and what is true of them.
+    pub(crate) fn parts(&self) -> Parts<'a>
+        ensures parts { self.now ≡ record { program = result.program.now; repeated = result.repeated.now; base = result.base.now; first = result.first; step = result.step; trips = result.trips; block = result.block; blocks = result.blocks; turns = result.turns } }
+        ensures job { IsJob self.now }
+    {
+        Parts {
+            program: self.program,
+            repeated: self.repeated,
+            base: self.base,
+            first: self.first,
+            step: self.step,
+            trips: self.trips,
+            block: self.block,
+            blocks: self.blocks,
+            turns: self.turns,
+        }
+    }
+
+    // The same job.
+    pub(crate) fn again(&self) -> Job<'a>
+        ensures { result ≡ self.now }
+    {
+        Job {
+            program: self.program,
+            repeated: self.repeated,
+            base: self.base,
+            first: self.first,
+            step: self.step,
+            trips: self.trips,
+            block: self.block,
+            blocks: self.blocks,
+            turns: self.turns,
+        }
+    }
+}

@@ -1,0 +1,64 @@
+-- A program and what its statements need may be read by several threads.
+use denote.Param.Send.{IsSync, sendable}
+use Rattle.std.proofs.Crossing.{crosses}
+use Rattle.std.proofs.MapsCrossing as maps
+use Rattle.crossing_try.proofs.Crossing.{Tree_field, Exprs_field}
+use Rattle.crossing_try.proofs.CrossingStores.{Format_field, Landmarks_field}
+use Rattle.checker.specs.contracts.parts.Storage as Storage
+use Rattle.checker.specs.contracts.parts.Entry as Entry
+use Rattle.checker.specs.contracts.parts.FunctionAt as FunctionAt
+use Rattle.checker.specs.contracts.parts.Parts as Parts
+use Rattle.checker.specs.contracts.program.Program as Checked
+use Rattle.postfix.specs.contracts.instruction.Instruction as Instruction
+use Rattle.postfix.specs.contracts.code.Code as Code
+use Rattle.programs.specs.contracts.action.Target as Target
+use Rattle.programs.specs.contracts.action.Repeat as Repeat
+use Rattle.programs.specs.contracts.action.ListCodes as ListCodes
+use Rattle.programs.specs.contracts.action.Action as Action
+use Rattle.programs.specs.contracts.actions.Actions as Actions
+use Rattle.programs.specs.contracts.program.Parts as Whole
+use Rattle.programs.specs.contracts.program.Program as Program
+use Rattle.programs.proofs.action.ListCode.TheLaws.TheKnot as list_code
+use Rattle.programs.proofs.action.Action.TheLaws.TheKnot as action
+
+Storage_field : IsSync Storage.the_field.row
+Storage_field = search (crosses, sendable) depth 60 fits 20000
+
+Entry_field : IsSync Entry.the_field.row
+Entry_field = search (crosses, Storage_field, sendable) depth 60 fits 20000
+
+FunctionAt_field : IsSync FunctionAt.the_field.row
+FunctionAt_field = search (crosses, sendable) depth 60 fits 20000
+
+Parts_field : IsSync Parts.the_field.row
+Parts_field = search (crosses, maps.crosses, Tree_field, Exprs_field, Format_field, Landmarks_field, Entry_field, FunctionAt_field, sendable) depth 60 fits 20000
+
+Checked_field : IsSync Checked.the_field.row
+Checked_field = search (Parts_field, sendable) depth 60 fits 20000
+
+Instruction_field : IsSync Instruction.the_field.row
+Instruction_field = search (crosses, sendable) depth 60 fits 20000
+
+Code_field : IsSync Code.the_field.row
+Code_field = search (crosses, Instruction_field, sendable) depth 60 fits 20000
+
+Target_field : IsSync Target.the_field.row
+Target_field = search (Code_field, sendable) depth 60 fits 20000
+
+Repeat_field : IsSync Repeat.the_field.row
+Repeat_field = search (Code_field, sendable) depth 60 fits 20000
+
+ListCodes_field : IsSync ListCodes.the_field.row
+ListCodes_field = search (crosses, list_code.crosses, Code_field, Repeat_field, sendable) depth 60 fits 20000
+
+Action_field : IsSync Action.the_field.row
+Action_field = search (crosses, action.crosses, Code_field, Target_field, Repeat_field, ListCodes_field, sendable) depth 60 fits 20000
+
+Actions_field : IsSync Actions.the_field.row
+Actions_field = search (crosses, Action_field, sendable) depth 60 fits 20000
+
+Whole_field : IsSync Whole.the_field.row
+Whole_field = search (crosses, Checked_field, Actions_field, Code_field, sendable) depth 60 fits 20000
+
+pub Program_field : IsSync Program.the_field.row
+Program_field = search (Whole_field, sendable) depth 60 fits 20000

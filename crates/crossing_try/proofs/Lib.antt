@@ -1,0 +1,4 @@
+pub mod Crossing
+pub mod CrossingStores
+pub mod CrossingProgram
+pub mod CrossingWork
