@@ -17,7 +17,8 @@ use Rattle.meaning.proofs.Running.{more-none}
 use Rattle.evaluator.specs.Over.{repeated_as, trips_as, values_by}
 use Rattle.evaluator.specs.Statements.{Leaves, Reaches, Spends, ran_by}
 use Rattle.evaluator.proofs.Composed.{IsEnd, ends_there, leaves_along, leaves_behind, reaches_end, reaches_more}
-use Rattle.stage_loop.specs.Loops.{AreIntegers, range_in, variable_in}
+use Rattle.block_stage.specs.Jobs.{range_in, variable_in}
+use Rattle.stage_loop.specs.Loops.{AreIntegers}
 
 -- ---- values of the variable
 

@@ -2,4 +2,4 @@ pub mod Copying
 pub mod Values
 pub mod Advances
 pub mod QuietLoop
-pub mod Distances
+pub mod Committed

@@ -10,25 +10,15 @@ use Rattle.meaning.specs.Execution.{Ran}
 use Rattle.meaning.specs.LoopLaws.{NeverSets}
 use Rattle.meaning.specs.Maps.{Map}
 use Rattle.meaning.specs.Surroundings.{counted_by}
-use Rattle.meaning.specs.Syntax.{ShapeTree, shape_tree}
-use Rattle.meaning.specs.Trees.{Members, flat, item_tree, members_tree}
+use Rattle.meaning.specs.Trees.{flat, item_tree}
 use Rattle.landmarks.specs.Kept.{IsKept}
 use Rattle.landmarks.specs.Quiet.{WritesNothing}
 use Rattle.checker.specs.Starts.{map_of}
 use Rattle.programs.specs.Asked.{is_doing}
 use Rattle.programs.specs.Programs.{IsStatement}
 use Rattle.evaluator.specs.Known.{AreStatements}
-use Rattle.evaluator.specs.Quiet.{variable_of}
 use Rattle.evaluator.specs.Statements.{Leaves}
-
-abbrev pub shape_in : Loop → ShapeTree
-shape_in l = shape_tree (out-Loop l).head.form.shape.value
-
-abbrev pub variable_in : Loop → List ℕ
-variable_in l = variable_of (shape_in l)
-
-abbrev pub range_in : Loop → Members
-range_in l = members_tree (out-Loop l).range.items
+use Rattle.block_stage.specs.Jobs.{range_in, shape_in, variable_in}
 
 -- no statement of its range sets its variable (11.10.5)
 abbrev pub LeavesItsVariable : Loop → Type 0

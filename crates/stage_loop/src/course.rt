@@ -1,8 +1,9 @@
 //! The trips that are left of a DO statement.
 
-ghost use Rattle.std.specs.Prelude.{◌≡◌, ◌≢◌, ◌-◌, ◌<◌, ◌≤◌, pos, ◌+ℤ◌, ◌*ℤ◌, FitsSigned};
-ghost use Rattle.std.specs.Int.{w32};
+ghost use Rattle.std.specs.Prelude.{◌≡◌, ◌≢◌, ◌-◌, ◌<◌, ◌≤◌, pos, ◌+ℤ◌, ◌*ℤ◌};
 ghost use Rattle.stage_loop.specs.Loops.{AreIntegers};
+
+use block_stage::value_at;
 
 /// The trips that are left: the value of the variable in the first of them, the step, and how many there are.
 #[derive(Clone, Copy)]
@@ -10,16 +11,6 @@ pub(crate) struct Course {
     pub value: i32,
     pub step: i32,
     pub trips: u64,
-}
-
-// The value of the variable so many trips further on.
-fn value_at(first: i32, step: i32, place: u64) -> i32
-    requires moves { step ≢ pos 0 }
-    requires fits { FitsSigned w32 (first +ℤ pos place *ℤ step) }
-    ensures { result ≡ first +ℤ pos place *ℤ step }
-{
-    let distance = place as i64 * i64::from(step);
-    (i64::from(first) + distance) as i32
 }
 
 /// The trips that are left behind some first ones.

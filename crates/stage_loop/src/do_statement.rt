@@ -11,11 +11,13 @@ ghost use Rattle.programs.specs.Programs.{IsStatement};
 ghost use Rattle.evaluator.specs.Known.{AreStatements};
 ghost use Rattle.evaluator.specs.Over.{MovesIn, loop_as};
 ghost use Rattle.evaluator.specs.Statements.{Spends};
-ghost use Rattle.stage_loop.specs.Loops.{LeavesItsVariable, range_in, shape_in};
+ghost use Rattle.block_stage.specs.Jobs.{range_in, shape_in};
+ghost use Rattle.stage_loop.specs.Loops.{LeavesItsVariable};
 
 use crate::course::Course;
 use crate::stages::run_stages;
 use array_store::Whole;
+use block_stage::Gate;
 use evaluator::{count_of, limits_whole, repeat_in, set_whole, take_turn};
 use meaning::ending::{Fault, FaultKind, Outcome, Run};
 use meaning::plan::Plan;
@@ -23,9 +25,10 @@ use meaning::syntax::Loop;
 use programs::{Program, Repeat};
 use std::alloc::Global;
 use std::sync::Wait;
+use std::thread::Threads;
 
 // Executes a DO statement with its range.
-fn run_do<R: Wait>(
+fn run_do<R: Threads + Wait + Sync, G: Gate + Sync>(
     rt: &R,
     alloc: Global,
     program: &Program,
@@ -34,6 +37,7 @@ fn run_do<R: Wait>(
     plan: &Plan,
     cells: &mut Whole,
     turns: &mut u64,
+    gate: &G,
 ) -> Outcome
     requires named { AreStatements program.now (flat (range_in repeated.now)) }
     requires kept { IsKept program.now (range_in repeated.now) }
@@ -63,14 +67,16 @@ fn run_do<R: Wait>(
                 step: span.step,
                 trips: count_of(span),
             };
-            run_stages(rt, alloc, program, repeated, course, plan, cells, turns)
+            run_stages(
+                rt, alloc, program, repeated, course, plan, cells, turns, gate,
+            )
         }
         Err(kind) => Outcome::Fault(Fault { kind, line }),
     }
 }
 
 // Executes a DO statement with its range; what is no DO statement is passed over.
-fn run_any<R: Wait>(
+fn run_any<R: Threads + Wait + Sync, G: Gate + Sync>(
     rt: &R,
     alloc: Global,
     program: &Program,
@@ -78,6 +84,7 @@ fn run_any<R: Wait>(
     plan: &Plan,
     cells: &mut Whole,
     turns: &mut u64,
+    gate: &G,
 ) -> Outcome
     requires named { AreStatements program.now (flat (range_in repeated.now)) }
     requires kept { IsKept program.now (range_in repeated.now) }
@@ -92,7 +99,9 @@ fn run_any<R: Wait>(
     ensures len { length cells.new ≡ length cells.old }
 {
     match repeat_in(program, &repeated.head) {
-        Some(repeat) => run_do(rt, alloc, program, repeated, repeat, plan, cells, turns),
+        Some(repeat) => run_do(
+            rt, alloc, program, repeated, repeat, plan, cells, turns, gate,
+        ),
         None => Outcome::Normal,
     }
 }
@@ -100,7 +109,7 @@ fn run_any<R: Wait>(
 /// Executes a DO statement with its range, which writes nothing, its own turn and limits included, by the stages of a plan; what is
 /// no DO statement is passed over. Answers how it ended and the turns that it used, which are the same for each plan and gate. It
 /// has no refusal: where memory is refused, the trips of a block are run in order.
-pub fn run_loop<R: Wait>(
+pub fn run_loop<R: Threads + Wait + Sync, G: Gate + Sync>(
     rt: &R,
     alloc: Global,
     program: &Program,
@@ -108,6 +117,7 @@ pub fn run_loop<R: Wait>(
     cells: &mut Whole,
     turns: u64,
     plan: &Plan,
+    gate: &G,
 ) -> Run
     requires named { AreStatements program.now (flat (range_in repeated.now)) }
     requires kept { IsKept program.now (range_in repeated.now) }
@@ -123,7 +133,7 @@ pub fn run_loop<R: Wait>(
     ensures len { length cells.new ≡ length cells.old }
 {
     let mut left = turns;
-    let outcome = run_any(rt, alloc, program, repeated, plan, cells, &mut left);
+    let outcome = run_any(rt, alloc, program, repeated, plan, cells, &mut left, gate);
     let turns_used = turns - left;
     Run {
         outcome,

@@ -8,7 +8,7 @@ use Rattle.evaluator.specs.Over.{loop_as}
 use Rattle.evaluator.proofs.Composed.{moves_same}
 use Rattle.evaluator.proofs.Executed.{passes_over}
 use Rattle.evaluator.proofs.Looped.{unless_do}
-use Rattle.stage_loop.specs.Loops.{range_in, shape_in}
+use Rattle.block_stage.specs.Jobs.{range_in, shape_in}
 use Rattle.stage_loop.proofs.do_statement.run_any.Goals as goal
 
 pub returns-in-None-clause-moves : goal.returns-in-None-clause-moves

@@ -14,7 +14,7 @@ use Rattle.evaluator.specs.Over.{MovesIn, loop_as, trips_as}
 use Rattle.evaluator.specs.Statements.{Leaves, Moves}
 use Rattle.evaluator.proofs.Executed.{fault_at}
 use Rattle.evaluator.proofs.Looped.{counted_cell, do_faults, do_moves, do_unmoved, says}
-use Rattle.stage_loop.specs.Loops.{range_in, shape_in, variable_in}
+use Rattle.block_stage.specs.Jobs.{range_in, shape_in, variable_in}
 use Rattle.stage_loop.proofs.QuietLoop.{put_here}
 use Rattle.stage_loop.proofs.Values.{each_fits}
 use Rattle.stage_loop.proofs.do_statement.run_do.Goals as goal

@@ -1,7 +1,7 @@
 use Rattle.std.proofs.Common.{subst}
 use Rattle.checker.specs.Checked.{items_in}
 use Rattle.evaluator.specs.Over.{MovesIn, loop_as}
-use Rattle.stage_loop.specs.Loops.{shape_in}
+use Rattle.block_stage.specs.Jobs.{shape_in}
 use Rattle.stage_loop.proofs.Advances.{left_by_used}
 use Rattle.stage_loop.proofs.do_statement.run_loop.Goals as goal
 

@@ -5,7 +5,8 @@ use Rattle.checker.specs.Starts.{map_of}
 use Rattle.evaluator.specs.Over.{repeated_as}
 use Rattle.evaluator.specs.Statements.{Leaves, Reaches}
 use Rattle.evaluator.proofs.Composed.{reaches_none}
-use Rattle.stage_loop.specs.Loops.{AreIntegers, variable_in}
+use Rattle.block_stage.specs.Jobs.{variable_in}
+use Rattle.stage_loop.specs.Loops.{AreIntegers}
 use Rattle.stage_loop.proofs.Advances.{on, integers_further, leaves_less, next_value, no_trip, repeated_on, trips_end, trips_go}
 use Rattle.stage_loop.proofs.stages.run_stages.Goals as goal
 

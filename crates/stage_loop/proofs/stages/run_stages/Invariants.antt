@@ -3,7 +3,8 @@ use Rattle.std.specs.Prelude.{IfSome}
 use Rattle.checker.specs.Checked.{items_in}
 use Rattle.checker.specs.Starts.{map_of}
 use Rattle.evaluator.specs.Statements.{Reaches}
-use Rattle.stage_loop.specs.Loops.{AreIntegers, variable_in}
+use Rattle.block_stage.specs.Jobs.{variable_in}
+use Rattle.stage_loop.specs.Loops.{AreIntegers}
 use Rattle.stage_loop.proofs.Advances.{on}
 use Rattle.stage_loop.proofs.stages.run_stages.Given as goal
 
