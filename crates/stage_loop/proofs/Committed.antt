@@ -1,6 +1,6 @@
 -- A committed stage: the trips that it ran, and the cells that it may have changed.
 use Rattle.std.proofs.Common.{◌≡◌, ℕ, zero, suc, ◌+◌, ◌*◌, ◌-◌, ◌<◌, ◌≤◌, ◌==◌, ◌&&◌, ◌||◌, ℤ, pos, Bool, true, false, List, [], ◌∷◌, length, Option, Some, None, slice_get, unwrap_or, inl, inr, refl, sym, ap, ◌∙◌, subst, arith}
-use Rattle.std.specs.Prelude.{◌⊎◌, is_some, is_none, min, nat_lt}
+use Rattle.std.specs.Prelude.{◌⊎◌, IfSome, is_some, is_none, min, nat_lt}
 use Rattle.std.specs.List.{list_any}
 use Rattle.std.specs.FinMap as map
 use Rattle.std.proofs.lemmas.Bool.{cases_lt, eq-eqb, false≢true}
@@ -83,3 +83,7 @@ pub differ_by : (cells : List ℕ) (places : Places) (old new : List ℤ) → le
 unfolding known overlay
 differ_by cells places old new len is written c none =
     same_slice old new c (sym len) (sym (ap (λ (f : Cells). f c) is ∙ stays places (known (world_of old)) c (sym (written c) ∙ none)))
+
+pub if_some_so : {A : Type 0} (o : Option A) (P Q : A → Type 0) → ((x : A) → P x → Q x) → IfSome o P → IfSome o Q
+if_some_so (Some x) P Q so h = so x h
+if_some_so None P Q so h = h

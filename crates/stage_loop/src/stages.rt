@@ -1,10 +1,11 @@
 //! The stages of a DO statement without output.
 
-ghost use Rattle.std.specs.Prelude.{◌≡◌, ◌≢◌, ◌-◌, ◌<◌, ◌≤◌, [], pos, IfNone, IfSome, length};
+ghost use Rattle.std.specs.Prelude.{◌≡◌, ◌≢◌, ◌-◌, ◌<◌, ◌≤◌, [], pos, IfNone, IfSome, length, take};
 ghost use Rattle.checker.specs.Checked.{count_in, items_in};
 ghost use Rattle.checker.specs.Starts.{map_of};
 ghost use Rattle.evaluator.specs.Over.{repeated_as, trips_as};
 ghost use Rattle.stage_loop.specs.Changes.{DifferIn};
+ghost use Rattle.block_stage.specs.Cuts.{AreWritten};
 ghost use Rattle.block_stage.specs.Jobs.{variable_in};
 ghost use Rattle.stage_loop.specs.Loops.{AreIntegers, IsQuietLoop, LeavesIn};
 
@@ -39,6 +40,17 @@ struct Advance {
     copy: Option<Whole>,
 }
 
+// The cells that the first so many blocks wrote; none where a growth was refused.
+fn written_by(alloc: Global, posted: &Posted<'_>, count: usize) -> Option<Vec<usize>>
+    requires { count ≤ length posted.now.places }
+    ensures { IfSome result (λ v. AreWritten v.items (take count posted.now.places)) }
+{
+    match posted.changed(alloc, count) {
+        Ok(changed) => Some(changed),
+        Err(_) => None,
+    }
+}
+
 // Commits the blocks before the cut to the cells, on a copy of which they stand. None where the first block was lost, and nothing is
 // done then.
 fn commit_blocks(
@@ -69,10 +81,7 @@ fn commit_blocks(
     if committed == 0 {
         return None;
     }
-    let changed = match posted.changed(alloc, committed) {
-        Ok(changed) => Some(changed),
-        Err(_) => None,
-    };
+    let changed = written_by(alloc, &posted, committed);
     let run = posted.commit(committed, cells);
     Some(Stage {
         done: trips_in(committed as u64, size, trips),

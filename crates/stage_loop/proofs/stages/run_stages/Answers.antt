@@ -5,7 +5,6 @@ use Rattle.checker.specs.Starts.{map_of}
 use Rattle.evaluator.specs.Over.{repeated_as}
 use Rattle.evaluator.specs.Statements.{Leaves, Reaches}
 use Rattle.evaluator.proofs.Composed.{reaches_none}
-use Rattle.block_stage.specs.Jobs.{variable_in}
 use Rattle.stage_loop.specs.Loops.{AreIntegers}
 use Rattle.stage_loop.proofs.Advances.{on, integers_further, leaves_less, next_value, no_trip, repeated_on, trips_end, trips_go}
 use Rattle.stage_loop.proofs.stages.run_stages.Goals as goal
@@ -15,17 +14,17 @@ loop-rest-init g c =
     record { so_far = reaches_none _ c.args.turns.now; step = refl; has = λ some. c.requires.has; fits = c.requires.fits; alike = tt; len = refl }
 
 pub run_next-done-requires-clause-moves : goal.run_next-done-requires-clause-moves
-run_next-done-requires-clause-moves g c = λ none. c.requires.moves (sym c.loop-rest.invariant.step ∙ none)
+run_next-done-requires-clause-moves g c = λ κs h none. c.requires.moves (sym c.loop-rest.invariant.step ∙ none)
 
 pub run_next-done-requires-clause-fits : goal.run_next-done-requires-clause-fits
-run_next-done-requires-clause-fits g c =
+run_next-done-requires-clause-fits g c = λ κs h.
     subst (λ s. AreIntegers c.loop-rest.rest.value s c.loop-rest.rest.trips) (sym c.loop-rest.invariant.step) c.loop-rest.invariant.fits
 
 pub run_next-done-requires-clause-sized : goal.run_next-done-requires-clause-sized
-run_next-done-requires-clause-sized g c = c.loop-rest.invariant.len ∙ c.requires.sized
+run_next-done-requires-clause-sized g c = λ κs h. c.loop-rest.invariant.len ∙ c.requires.sized
 
 pub run_next-done-requires-clause-alike : goal.run_next-done-requires-clause-alike
-run_next-done-requires-clause-alike g c = c.loop-rest.invariant.alike
+run_next-done-requires-clause-alike g c = λ κs h. c.loop-rest.invariant.alike
 
 pub returns-in-Left-clause-leaves : goal.returns-in-Left-clause-leaves
 returns-in-Left-clause-leaves g c =
