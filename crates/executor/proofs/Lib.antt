@@ -6,3 +6,4 @@ pub mod Promised
 pub mod Unit
 pub mod Located
 pub mod Told
+pub mod Allowing

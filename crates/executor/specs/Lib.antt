@@ -4,3 +4,4 @@ pub mod Recorded
 pub mod Located
 pub mod Quiet
 pub mod Conditions
+pub mod Allowed

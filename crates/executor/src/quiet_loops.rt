@@ -11,6 +11,7 @@ ghost use Rattle.evaluator.specs.Over.{MovesIn, loop_as};
 ghost use Rattle.landmarks.specs.Kept.{IsKept};
 ghost use Rattle.landmarks.specs.Quiet.{WritesNothing};
 ghost use Rattle.evaluator.specs.Statements.{Spends};
+ghost use Rattle.stage_loop.specs.Loops.{LeavesItsVariable};
 
 use array_store::Whole;
 use evaluator::loop_whole;
@@ -39,6 +40,7 @@ pub trait QuietLoops {
             (flat (members_tree (out-Loop repeated.now).range.items)) }
         requires kept { IsKept program.now (members_tree (out-Loop repeated.now).range.items) }
         requires quiet { WritesNothing (members_tree (out-Loop repeated.now).range.items) }
+        requires leaves { LeavesItsVariable repeated.now }
         requires head { IsStatement program.now (item_tree (out-Loop repeated.now).head) }
         requires sized { length cells.old ≡ count_in program.now }
         ensures moves { IfOk result (MovesIn program.now cells.old cells.new

@@ -15,8 +15,6 @@ use Rattle.meaning.specs.Trips.{trip_count}
 use Rattle.meaning.specs.Maps.{put}
 use Rattle.meaning.specs.Execution.{onward, exec, looped, arms_from}
 use Rattle.meaning.specs.Promise.{Told}
-use Rattle.landmarks.specs.Kept.{IsKept, AreArmsKept}
-use Rattle.landmarks.proofs.Keeping.{kept_at, kept_range, kept_quiet, kept_arms, kept_body}
 use Rattle.checker.specs.Checked.{items_in}
 use Rattle.checker.specs.Starts.{map_of}
 use Rattle.values.specs.Programs.{scope_in}
@@ -33,7 +31,9 @@ use denote.Param.Weighed.{at_most, most}
 use Rattle.meaning.proofs.syntax.Member.TheLaws.{the_size}
 use Rattle.meaning.proofs.syntax.Arm.TheLaws.{the_size as arm_size}
 use Rattle.meaning.specs.declared.syntax.Member.TheViews.{sized-Loop, sized-Block, size_is-Arm, size_is-Block, weight-Arm-body, weight-Block-arms}
+use Rattle.executor.specs.Allowed.{IsAllowed, AreArmsAllowed}
 use Rattle.executor.specs.Walk.{Runs, Steps, Halts}
+use Rattle.executor.proofs.Allowing.{allowed_at, allowed_range, leaves_its_variable, quiet_unless_loud, allowed_arms, allowed_body}
 use Rattle.executor.proofs.Composed.{front_none, so_far_none, steps_same, steps_quietly, member_goes, member_jumps, member_leaves, member_ends, member_halts, last_member, last_trip, range_halts, range_ends, trip_goes, sum_faults, do_runs, arm_steps}
 use Rattle.executor.proofs.Told.{told_by}
 use Rattle.executor.proofs.walk.+members.Goals as goal
@@ -63,14 +63,14 @@ walk_arms-walk_list-requires g t c =
     let is = c.arm-item.is in
     let m = map_of p c.loop-arm.cells in
     let named = subst (λ xs. AreStatements p (flat (members_tree xs))) (sym c.deref.ensures.value) (body_known (IsStatement p) arms i a lt is c.requires.named) in
-    let kept = subst (λ xs. IsKept p (members_tree xs)) (sym c.deref.ensures.value) (kept_body p arms i a lt is c.requires.kept) in
+    let allowed = subst (λ xs. IsAllowed p (members_tree xs)) (sym c.deref.ensures.value) (allowed_body p arms i a lt is c.requires.allowed) in
     let size = at_most arm_size arms i a lt in
     let same = ap arm_size is in
     let inner = weight-Arm-body a.body in
     let outer = size_is-Arm a in
     let body = ap (λ xs. most the_size xs) c.deref.ensures.value in
     let given = c.decreases in
-    λ κs h. (omega arith, (search rules, (search rules, (c.requires.ready, ((named, (kept, (c.in-Ok-true.ensures.len ∙ inv.sized, ap (λ (x : Told). x.refused) inv.same ∙ c.requires.unrefused))))))))
+    λ κs h. (omega arith, (search rules, (search rules, (c.requires.ready, ((named, (allowed, (c.in-Ok-true.ensures.len ∙ inv.sized, ap (λ (x : Told). x.refused) inv.same ∙ c.requires.unrefused))))))))
 
 pub walk_arms-returns-in-Ok-true-clause-steps : goal.walk_arms-returns-in-Ok-true-clause-steps
 walk_arms-returns-in-Ok-true-clause-steps g t c =
@@ -231,7 +231,7 @@ walk_do-walk_trips-requires g t c =
     let some = (c.in-Ok.ensures.span (limits_tree c.args.limits.now) c.requires.limited).1 in
     let sized = c.set_whole.ensures.len ∙ c.in-Ok.ensures.len ∙ c.requires.sized in
     let given = c.decreases in
-    λ κs h. (omega arith, (search rules, (search rules, (c.requires.ready, (c.requires.named, (c.requires.kept, (c.requires.counted, (some, (sized, c.requires.unrefused)))))))))
+    λ κs h. (omega arith, (search rules, (search rules, (c.requires.ready, (c.requires.named, (c.requires.allowed, (c.requires.counted, (some, (sized, c.requires.unrefused)))))))))
 
 pub walk_do-returns-in-Ok-clause-steps : goal.walk_do-returns-in-Ok-clause-steps
 walk_do-returns-in-Ok-clause-steps g t c =
@@ -272,11 +272,11 @@ walk_list-walk_member-requires g t c =
     let lt = c.loop-place-test.true in
     let is = c.index-members-place.is in
     let named = known_at (IsStatement p) ms i x lt is c.requires.named in
-    let kept = kept_at p ms i x lt is c.requires.kept in
+    let allowed = allowed_at p ms i x lt is c.requires.allowed in
     let size = at_most the_size ms i x lt in
     let same = ap the_size is in
     let given = c.decreases in
-    λ κs h. (omega arith, (search rules, (search rules, (c.requires.ready, ((named, (kept, (inv.sized, inv.unrefused))))))))
+    λ κs h. (omega arith, (search rules, (search rules, (c.requires.ready, ((named, (allowed, (inv.sized, inv.unrefused))))))))
 
 pub walk_list-returns-in_err-walk_member-clause-runs : goal.walk_list-returns-in_err-walk_member-clause-runs
 walk_list-returns-in_err-walk_member-clause-runs g t c =
@@ -584,7 +584,7 @@ walk_loop-walk_do-requires g t c =
     let d = c.in-Some.ensures in
     let r = told_by c.args.program.now _ d.label d.comma _ _ d.is c.in-Some-repeat_in.repeat.now c.in-Some-repeat_in.ensures in
     let given = c.decreases in
-    λ κs h. (omega arith, (search rules, (search rules, (c.requires.ready, (c.requires.named, (c.requires.kept, (r.0, (r.1, (c.requires.sized, c.requires.unrefused)))))))))
+    λ κs h. (omega arith, (search rules, (search rules, (c.requires.ready, (c.requires.named, (c.requires.allowed, (r.0, (r.1, (c.requires.sized, c.requires.unrefused)))))))))
 
 pub walk_loop-returns-in-Some-repeat_in-clause-steps : goal.walk_loop-returns-in-Some-repeat_in-clause-steps
 walk_loop-returns-in-Some-repeat_in-clause-steps g t c =
@@ -613,25 +613,26 @@ walk_member-walk_loop-requires g t c =
     let p = c.args.program.now in
     let head = head_known (IsStatement p) c.args.member.now c.in-Loop.repeated c.in-Loop.is c.requires.named in
     let range = range_known (IsStatement p) c.args.member.now c.in-Loop.repeated c.in-Loop.is c.requires.named in
-    let kept = kept_range p c.args.member.now c.in-Loop.repeated c.in-Loop.is c.requires.kept in
-    let quiet = kept_quiet p c.args.member.now c.in-Loop.repeated c.in-Loop.is c.requires.kept in
+    let allowed = allowed_range p c.args.member.now c.in-Loop.repeated c.in-Loop.is c.requires.allowed in
+    let quiet = quiet_unless_loud p c.args.member.now c.in-Loop.repeated c.in-Loop.is c.requires.allowed in
+    let leaves = leaves_its_variable p c.args.member.now c.in-Loop.repeated c.in-Loop.is c.requires.allowed in
     let given = c.decreases in
     let same = ap the_size c.in-Loop.is in
     let size = sized-Loop c.in-Loop.repeated in
-    λ κs h. (omega arith, (search rules, (search rules, (c.requires.ready, ((range, (kept, (quiet, (head, (c.requires.sized, c.requires.unrefused))))))))))
+    λ κs h. (omega arith, (search rules, (search rules, (c.requires.ready, ((range, (allowed, (quiet, (leaves, (head, (c.requires.sized, c.requires.unrefused)))))))))))
 
 pub walk_member-walk_arms-requires : goal.walk_member-walk_arms-requires
 walk_member-walk_arms-requires g t c =
     let p = c.args.program.now in
     let named = subst (λ xs. AreStatements p (flat_arms (arms_tree xs))) (sym c.deref.ensures.value) (arms_known (IsStatement p) c.args.member.now c.in-Block.block c.in-Block.is c.requires.named) in
-    let kept = subst (λ xs. AreArmsKept p (arms_tree xs)) (sym c.deref.ensures.value) (kept_arms p c.args.member.now c.in-Block.block c.in-Block.is c.requires.kept) in
+    let allowed = subst (λ xs. AreArmsAllowed p (arms_tree xs)) (sym c.deref.ensures.value) (allowed_arms p c.args.member.now c.in-Block.block c.in-Block.is c.requires.allowed) in
     let given = c.decreases in
     let same = ap the_size c.in-Block.is in
     let size = sized-Block c.in-Block.block in
     let inner = weight-Block-arms (out-Block c.in-Block.block).arms in
     let outer = size_is-Block c.in-Block.block in
     let arms = ap (λ xs. most arm_size xs) c.deref.ensures.value in
-    λ κs h. (omega arith, (search rules, (search rules, (c.requires.ready, ((named, (kept, (c.requires.sized, c.requires.unrefused))))))))
+    λ κs h. (omega arith, (search rules, (search rules, (c.requires.ready, ((named, (allowed, (c.requires.sized, c.requires.unrefused))))))))
 
 pub walk_member-returns-in-Plain-clause-steps : goal.walk_member-returns-in-Plain-clause-steps
 walk_member-returns-in-Plain-clause-steps g t c =

@@ -1,11 +1,12 @@
 use Rattle.std.proofs.Common.{ap, sym, ◌∙◌, subst}
-use Rattle.meaning.specs.Trees.{flat, members_tree}
+use Rattle.meaning.specs.Trees.{flat, members_tree, nested}
 use Rattle.meaning.specs.Answers.{run_of}
 use Rattle.meaning.specs.Execution.{Ran, exec}
 use Rattle.checker.specs.Checked.{tree_of, items_in}
 use Rattle.checker.specs.Starts.{map_of}
-use Rattle.landmarks.specs.Kept.{IsKept}
+use Rattle.meaning.proofs.Lasting.{leave_variables}
 use Rattle.evaluator.specs.Known.{AreStatements}
+use Rattle.executor.specs.Allowed.{IsAllowed}
 use Rattle.executor.specs.Walk.{Ends}
 use Rattle.executor.proofs.Composed.{ends_as}
 use Rattle.executor.proofs.Unit.{all_statements, start_is}
@@ -17,11 +18,11 @@ walk_list-requires-clause-named g c =
     let is = c.deref.ensures.value ∙ ap (λ u. u.body.items) c.tree-tree.ensures.tree in
     subst (λ ms. AreStatements t (flat (members_tree ms))) (sym is) (all_statements t)
 
-pub walk_list-requires-clause-kept : goal.walk_list-requires-clause-kept
-walk_list-requires-clause-kept g c =
+pub walk_list-requires-clause-allowed : goal.walk_list-requires-clause-allowed
+walk_list-requires-clause-allowed g c =
     let t = c.args.program.now in
     let is = c.deref.ensures.value ∙ ap (λ u. u.body.items) c.tree-tree.ensures.tree in
-    subst (λ ms. IsKept t (members_tree ms)) (sym is) c.tree-tree.ensures.kept
+    subst (λ ms. IsAllowed t (members_tree ms)) (sym is) (record { kept = c.tree-tree.ensures.kept; leaves = leave_variables (nested t) (nested t) c.tree-tree.ensures.allowed })
 
 pub returns : goal.returns
 unfolding run_of

@@ -1,0 +1,5 @@
+pub mod Copying
+pub mod Values
+pub mod Advances
+pub mod QuietLoop
+pub mod Committed

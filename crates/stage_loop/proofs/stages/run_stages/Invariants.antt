@@ -1,0 +1,25 @@
+use Rattle.std.proofs.Common.{◌≡◌, ◌<◌, [], length}
+use Rattle.std.specs.Prelude.{IfSome}
+use Rattle.checker.specs.Checked.{items_in}
+use Rattle.checker.specs.Starts.{map_of}
+use Rattle.evaluator.specs.Statements.{Reaches}
+use Rattle.block_stage.specs.Jobs.{variable_in}
+use Rattle.stage_loop.specs.Loops.{AreIntegers}
+use Rattle.stage_loop.proofs.Advances.{on}
+use Rattle.stage_loop.proofs.stages.run_stages.Given as goal
+
+abbrev pub invariant-loop-rest : goal.invariant-loop-rest
+invariant-loop-rest g l = record {
+  so_far : Reaches
+      (on (items_in l.program) l.repeated l.fn.course.step l.fn.course.value l.fn.course.trips (map_of l.program l.initial.cells) l.initial.turns)
+      (on (items_in l.program) l.repeated l.fn.course.step l.rest.value l.rest.trips (map_of l.program l.cells) l.turns)
+      l.initial.turns l.turns;
+  step : l.rest.step ≡ l.fn.course.step;
+  has : 0 < l.rest.trips → map_of l.program l.cells (variable_in l.repeated) [] ≡ l.rest.value;
+  fits : AreIntegers l.rest.value l.fn.course.step l.rest.trips;
+  alike : IfSome l.copy (λ c. c ≡ l.cells);
+  len : length l.cells ≡ length l.initial.cells;
+}
+
+abbrev pub decreases-loop-rest : goal.decreases-loop-rest
+decreases-loop-rest g l = l.rest.trips

@@ -1,0 +1,11 @@
+//! The whole of a DO statement without output, its trips by stages: in each stage the next blocks of trips are run side by side
+//! (after Rauchwerger and Padua, and Dang, Yu and Rauchwerger).
+#![tactic(auto)]
+
+mod copies;
+mod course;
+mod do_statement;
+mod size;
+mod stages;
+
+pub use do_statement::run_loop;
