@@ -45,8 +45,8 @@ fn run_program<S: Sink, Q: QuietLoops>(
     }
 }
 
-// Runs a source, whose DO statements without output are executed as the caller wants it.
-fn run_by<S: Sink, Q: QuietLoops>(
+/// Runs a source, whose DO statements without output are executed as the caller wants it. Its promise is that of `run_in_order`.
+pub fn run_by<S: Sink, Q: QuietLoops>(
     alloc: Global,
     quiet_loops: &Q,
     source: &[u8],

@@ -133,7 +133,8 @@ fn run_blocks<R: Threads + Wait + Sync, G: Gate + Sync>(
         blocks,
         *turns,
     );
-    let posted = match run_stage(rt, alloc, &job, plan.workers() as u32, gate) {
+    let workers = (plan.workers() as u32).min(blocks);
+    let posted = match run_stage(rt, alloc, &job, workers, gate) {
         Some(posted) => posted,
         None => return None,
     };

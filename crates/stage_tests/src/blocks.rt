@@ -1,0 +1,390 @@
+//! Single blocks of DO statements, and where their first stages are cut. The figures are worked by hand.
+
+use crate::watching::{Seen, Watching};
+use executor::Out;
+use executor::run::run_by;
+use meaning::ending::{Ending, Fault, FaultKind, Outcome};
+use std::sync::atomic::AtomicU64;
+use std::test::*;
+
+/// A program, how its DO statement is cut into blocks, what comes of each, where the stage is cut, and how the program ends.
+struct Row {
+    source: &'static str,
+    turns: u64,
+    block: u64,
+    window: u32,
+    blocks: &'static [Seen],
+    cut: usize,
+    records: &'static str,
+    ending: Option<Fault>,
+}
+
+const fn normal(exposed: &'static [usize], written: &'static [(usize, i32)], turns: u64) -> Seen {
+    Seen {
+        exposed,
+        written,
+        outcome: Outcome::Normal,
+        turns,
+    }
+}
+
+const fn faulty(
+    exposed: &'static [usize],
+    written: &'static [(usize, i32)],
+    turns: u64,
+    kind: FaultKind,
+    line: u32,
+) -> Seen {
+    Seen {
+        exposed,
+        written,
+        outcome: Outcome::Fault(Fault { kind, line }),
+        turns,
+    }
+}
+
+/// A copy through an array of subscripts: A has cells 0 to 7, K 8 to 15, I 16.
+const PERMUTED: &[Seen] = &[
+    normal(&[8, 9], &[(16, 3), (2, 1), (0, 2)], 2),
+    normal(&[10, 11], &[(16, 5), (3, 3), (7, 4)], 2),
+    normal(&[12, 13], &[(16, 7), (4, 5), (1, 6)], 2),
+    normal(&[14, 15], &[(16, 9), (6, 7), (5, 8)], 2),
+];
+
+/// A recurrence: A has cells 0 to 8, I 9. Each trip adds 1 to the element before, which is 0 in the base.
+const RECURRENCE: &[Seen] = &[
+    normal(&[0], &[(9, 3), (1, 1)], 1),
+    normal(&[1], &[(9, 4), (2, 1)], 1),
+    normal(&[2], &[(9, 5), (3, 1)], 1),
+    normal(&[3], &[(9, 6), (4, 1)], 1),
+    normal(&[4], &[(9, 7), (5, 1)], 1),
+    normal(&[5], &[(9, 8), (6, 1)], 1),
+    normal(&[6], &[(9, 9), (7, 1)], 1),
+    normal(&[7], &[(9, 10), (8, 1)], 1),
+];
+
+/// D has cell 0, A 1 to 9, I 10. The last trip divides by what the first one sets.
+const DIVIDED: &[Seen] = &[
+    normal(&[], &[(10, 2), (0, 2)], 4),
+    normal(&[], &[(10, 3)], 3),
+    normal(&[], &[(10, 4)], 3),
+    normal(&[], &[(10, 5)], 3),
+    normal(&[], &[(10, 6)], 3),
+    normal(&[], &[(10, 7)], 3),
+    normal(&[], &[(10, 8)], 3),
+    normal(&[], &[(10, 9)], 3),
+    faulty(&[0], &[(10, 9)], 3, FaultKind::F1, 4),
+];
+
+/// Z has cell 0, I 1. Trips 3 and 6 fault.
+const TWO_FAULTS: &[Seen] = &[
+    normal(&[], &[(1, 3)], 6),
+    faulty(&[0], &[(1, 3)], 2, FaultKind::F1, 3),
+    faulty(&[0], &[(1, 6)], 6, FaultKind::F1, 4),
+    normal(&[], &[(1, 9)], 6),
+];
+
+/// K has cells 0 to 99, I 100. Each block looks complete by itself.
+const LIMITED: &[Seen] = &[
+    normal(
+        &[],
+        &[
+            (100, 8),
+            (0, 1),
+            (1, 2),
+            (2, 3),
+            (3, 4),
+            (4, 5),
+            (5, 6),
+            (6, 7),
+        ],
+        7,
+    ),
+    normal(
+        &[],
+        &[
+            (100, 15),
+            (7, 8),
+            (8, 9),
+            (9, 10),
+            (10, 11),
+            (11, 12),
+            (12, 13),
+            (13, 14),
+        ],
+        7,
+    ),
+    normal(
+        &[],
+        &[
+            (100, 22),
+            (14, 15),
+            (15, 16),
+            (16, 17),
+            (17, 18),
+            (18, 19),
+            (19, 20),
+            (20, 21),
+        ],
+        7,
+    ),
+    normal(
+        &[],
+        &[
+            (100, 29),
+            (21, 22),
+            (22, 23),
+            (23, 24),
+            (24, 25),
+            (25, 26),
+            (26, 27),
+            (27, 28),
+        ],
+        7,
+    ),
+    normal(
+        &[],
+        &[
+            (100, 36),
+            (28, 29),
+            (29, 30),
+            (30, 31),
+            (31, 32),
+            (32, 33),
+            (33, 34),
+            (34, 35),
+        ],
+        7,
+    ),
+    normal(
+        &[],
+        &[
+            (100, 43),
+            (35, 36),
+            (36, 37),
+            (37, 38),
+            (38, 39),
+            (39, 40),
+            (40, 41),
+            (41, 42),
+        ],
+        7,
+    ),
+    normal(
+        &[],
+        &[
+            (100, 50),
+            (42, 43),
+            (43, 44),
+            (44, 45),
+            (45, 46),
+            (46, 47),
+            (47, 48),
+            (48, 49),
+        ],
+        7,
+    ),
+    normal(
+        &[],
+        &[
+            (100, 57),
+            (49, 50),
+            (50, 51),
+            (51, 52),
+            (52, 53),
+            (53, 54),
+            (54, 55),
+            (55, 56),
+        ],
+        7,
+    ),
+];
+
+/// I has cell 0, J 1. The addition behind the second trip leaves INTEGER, and the variable stays.
+const LAST_ADDITION: &[Seen] = &[faulty(&[1], &[(0, 2_147_483_647), (1, 2)], 2, FaultKind::F2, 1)];
+
+/// A has cells 0 to 15, B 16 to 31, I 32. Trip 5 leaves the loop for label 20.
+const LEFT: &[Seen] = &[
+    normal(&[0, 1], &[(32, 3), (16, 1), (17, 1)], 4),
+    normal(&[2, 3], &[(32, 5), (18, 1), (19, 1)], 4),
+    Seen {
+        exposed: &[4],
+        written: &[(32, 5)],
+        outcome: Outcome::Left(20),
+        turns: 2,
+    },
+    normal(&[6, 7], &[(32, 9), (22, 1), (23, 1)], 4),
+    normal(&[8, 9], &[(32, 11), (24, 1), (25, 1)], 4),
+    normal(&[10, 11], &[(32, 13), (26, 1), (27, 1)], 4),
+    normal(&[12, 13], &[(32, 15), (28, 1), (29, 1)], 4),
+    normal(&[14, 15], &[(32, 17), (30, 1), (31, 1)], 4),
+];
+
+/// I has cell 0, J 1, K 2. A block sets the inner variable before it reads it.
+const NESTED: &[Seen] = &[
+    normal(&[2], &[(0, 2), (1, 3), (2, 3)], 3),
+    normal(&[2], &[(0, 3), (1, 3), (2, 6)], 3),
+];
+
+/// I has cell 0, J 1, K 2. K is read where the condition is true alone, and STOP ends the last block.
+const ONE_ARM: &[Seen] = &[
+    normal(&[], &[(0, 2)], 2),
+    normal(&[2], &[(0, 3), (1, 0)], 3),
+    Seen {
+        exposed: &[],
+        written: &[(0, 3)],
+        outcome: Outcome::Stopped(3),
+        turns: 3,
+    },
+];
+
+const ROWS: &[Row] = &[
+    Row {
+        source: "      INTEGER A(8),K(8)\n      DATA K/3,1,4,8,5,2,7,6/\n      DO 10 I=1,8\n   10 A(K(I))=I\n      WRITE (6,20) A\n   20 FORMAT (8I3)\n      END\n",
+        turns: 1_000_000_000,
+        block: 2,
+        window: 8,
+        blocks: PERMUTED,
+        cut: 4,
+        records: "  2  6  1  3  5  8  7  4\n",
+        ending: None,
+    },
+    Row {
+        source: "      INTEGER A(9)\n      DO 10 I=2,9\n   10 A(I)=A(I-1)+1\n      WRITE (6,20) A(9)\n   20 FORMAT (I3)\n      END\n",
+        turns: 1_000_000_000,
+        block: 1,
+        window: 8,
+        blocks: RECURRENCE,
+        cut: 1,
+        records: "  8\n",
+        ending: None,
+    },
+    Row {
+        source: "      INTEGER D,A(9)\n      DO 10 I=1,9\n      IF (I.EQ.1) D=2\n      IF (I.EQ.9) A(9)=8/D\n   10 CONTINUE\n      WRITE (6,20) A(9),D\n   20 FORMAT (2I3)\n      END\n",
+        turns: 1_000_000_000,
+        block: 1,
+        window: 16,
+        blocks: DIVIDED,
+        cut: 8,
+        records: "  4  2\n",
+        ending: None,
+    },
+    Row {
+        source: "      INTEGER Z\n      DO 10 I=1,8\n      IF (I.EQ.3) J=1/Z\n      IF (I.EQ.6) K=1/Z\n   10 CONTINUE\n      END\n",
+        turns: 1_000_000_000,
+        block: 2,
+        window: 8,
+        blocks: TWO_FAULTS,
+        cut: 2,
+        records: "",
+        ending: Some(Fault {
+            kind: FaultKind::F1,
+            line: 3,
+        }),
+    },
+    Row {
+        source: "      INTEGER K(100)\n      DO 10 I=1,100\n   10 K(I)=I\n      END\n",
+        turns: 50,
+        block: 7,
+        window: 8,
+        blocks: LIMITED,
+        cut: 7,
+        records: "",
+        ending: Some(Fault {
+            kind: FaultKind::F4,
+            line: 3,
+        }),
+    },
+    Row {
+        source: "      DO 10 I=2147483646,2147483647\n   10 J=J+1\n      END\n",
+        turns: 1_000_000_000,
+        block: 64,
+        window: 8,
+        blocks: LAST_ADDITION,
+        cut: 1,
+        records: "",
+        ending: Some(Fault {
+            kind: FaultKind::F2,
+            line: 1,
+        }),
+    },
+    Row {
+        source: "      INTEGER A(16),B(16)\n      DATA A/4*1,0,11*1/\n      DO 10 I=1,16\n      IF (A(I).EQ.0) GO TO 20\n   10 B(I)=1\n   20 WRITE (6,30) I,B(4),B(5),B(6),B(16)\n   30 FORMAT (5I4)\n      END\n",
+        turns: 1_000_000_000,
+        block: 2,
+        window: 8,
+        blocks: LEFT,
+        cut: 3,
+        records: "   5   1   0   0   0\n",
+        ending: None,
+    },
+    Row {
+        source: "      DO 10 I=1,2\n      DO 10 J=1,2\n   10 K=K+I*J\n      WRITE (6,20) I,J,K\n   20 FORMAT (3I4)\n      END\n",
+        turns: 1_000_000_000,
+        block: 1,
+        window: 8,
+        blocks: NESTED,
+        cut: 1,
+        records: "   3   3   9\n",
+        ending: None,
+    },
+];
+
+/// The run of a row's program in which its blocks are looked at.
+fn looked(rt: &HostRuntime, row: &Row) -> Result<(), Fail> {
+    let watching = Watching {
+        rt,
+        alloc: rt.alloc(),
+        block: row.block,
+        window: row.window,
+        blocks: row.blocks,
+        cut: row.cut,
+        looked: AtomicU64::new(0),
+    };
+    let mut sink = Out::new(Vec::new(rt.alloc()));
+    let ending = run_by(
+        rt.alloc(),
+        &watching,
+        row.source.as_bytes(),
+        row.turns,
+        &mut sink,
+    );
+    match (&ending, row.ending) {
+        (Ending::Ended, None) => {}
+        (Ending::Fault(fault), Some(wanted)) => assert!(rt; *fault == wanted, "{fault:?}"),
+        _ => assert!(rt; false, "{ending:?}"),
+    }
+    assert!(rt; watching.looked.into_inner() == 1);
+    let written = sink.into_inner();
+    assert!(rt; written.as_slice() == row.records.as_bytes());
+    Ok(())
+}
+
+#[test]
+fn blocks_and_cuts(rt: HostRuntime) -> Result<(), Fail> {
+    for row in ROWS {
+        looked(&rt, row)?;
+    }
+    Ok(())
+}
+
+/// STOP in a block: `IF (I.EQ.2) J=K` reads K in the second trip alone, and the third one stops.
+#[test]
+fn stopped(rt: HostRuntime) -> Result<(), Fail> {
+    let watching = Watching {
+        rt: &rt,
+        alloc: rt.alloc(),
+        block: 1,
+        window: 8,
+        blocks: ONE_ARM,
+        cut: 3,
+        looked: AtomicU64::new(0),
+    };
+    let source =
+        "      DO 10 I=1,3\n      IF (I.EQ.2) J=K\n   10 IF (I.EQ.3) STOP\n      END\n";
+    let mut sink = Out::new(Vec::new(rt.alloc()));
+    let ending = run_by(rt.alloc(), &watching, source.as_bytes(), 1000, &mut sink);
+    assert!(rt; matches!(&ending, Ending::Stopped(_)), "{ending:?}");
+    assert!(rt; watching.looked.into_inner() == 1);
+    Ok(())
+}
