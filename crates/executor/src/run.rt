@@ -9,13 +9,17 @@ use crate::halt::Halt;
 use crate::quiet_loops::{InOrder, QuietLoops};
 use crate::reading::program_in;
 use crate::sink::Sink;
+use crate::staged::Staged;
 use crate::stopping::message_in;
 use crate::walk::execute;
+use block_stage::Gate;
 use meaning::ending::{Ending, Outcome};
 use meaning::plan::Plan;
 use meaning::refusal::Refusal;
 use programs::Program;
 use std::alloc::Global;
+use std::sync::Wait;
+use std::thread::Threads;
 
 // Runs a program that keeps the rules.
 fn run_program<S: Sink, Q: QuietLoops>(
@@ -81,4 +85,32 @@ pub fn run_in_order<S: Sink>(alloc: Global, source: &[u8], plan: &Plan, sink: &m
     ensures refused { (result ≡ Ending.WriteRefused) ↔ ((S.told sink.new).refused ≡ true) }
 {
     run_by(alloc, &InOrder, source, plan.turns(), sink)
+}
+
+/// Runs a source with the plan: each DO statement without output that stands in no other such one by stages, whose blocks enter the
+/// gate, and all else in order. With one worker it is `run_in_order`. What it promises is the same for each plan and gate. It may
+/// wait for the workers, and what is promised holds if it returns.
+pub fn run<R: Threads + Wait + Sync, S: Sink, G: Gate + Sync>(
+    rt: &R,
+    alloc: Global,
+    source: &[u8],
+    plan: &Plan,
+    sink: &mut S,
+    gate: &G,
+) -> Ending
+    requires { (S.told sink.old).refused ≡ false }
+    ensures promise { Keeps (answer source.now plan.now.turns)
+        (S.told sink.old) (S.told sink.new) result }
+    ensures refused { (result ≡ Ending.WriteRefused) ↔ ((S.told sink.new).refused ≡ true) }
+{
+    if plan.workers() < 2 {
+        return run_in_order(alloc, source, plan, sink);
+    }
+    let staged = Staged {
+        rt,
+        alloc,
+        plan,
+        gate,
+    };
+    run_by(alloc, &staged, source, plan.turns(), sink)
 }
