@@ -4,6 +4,7 @@ ghost use Rattle.std.specs.Prelude.{◌≡◌, ◌↔◌, Ok, false, true};
 ghost use Rattle.meaning.specs.Answers.{answer, answer_of};
 ghost use Rattle.meaning.specs.Promise.{Keeps};
 ghost use Rattle.checker.specs.Checked.{tree_of};
+ghost use Rattle.executor.specs.Calls.{IsAsked, IsGiven};
 
 use crate::halt::Halt;
 use crate::quiet_loops::{InOrder, QuietLoops};
@@ -12,11 +13,14 @@ use crate::sink::Sink;
 use crate::staged::Staged;
 use crate::stopping::message_in;
 use crate::walk::execute;
+use array_store::Whole;
 use block_stage::Gate;
 use meaning::ending::{Ending, Outcome};
 use meaning::plan::Plan;
 use meaning::refusal::Refusal;
+use meaning::syntax::Loop;
 use programs::Program;
+use stage_loop::run_loop;
 use std::alloc::Global;
 use std::sync::Wait;
 use std::thread::Threads;
@@ -107,10 +111,14 @@ pub fn run<R: Threads + Wait + Sync, S: Sink, G: Gate + Sync>(
         return run_in_order(alloc, source, plan, sink);
     }
     let staged = Staged {
-        rt,
-        alloc,
-        plan,
-        gate,
+        call: |program: &Program, repeated: &Loop, cells: &mut Whole, turns: &mut u64| -> Outcome
+            requires { IsAsked program.now repeated.now cells.now }
+            ensures { IsGiven program.now repeated.now cells.old cells.new turns.old turns.new result }
+        {
+            let run = run_loop(rt, alloc, program, repeated, cells, *turns, plan, gate);
+            *turns -= run.turns_used;
+            run.outcome
+        },
     };
     run_by(alloc, &staged, source, plan.turns(), sink)
 }

@@ -1,29 +1,26 @@
-//! DO statements without output by stages.
+//! DO statements without output by calls, which may start threads.
 
-ghost use Rattle.std.specs.Prelude.{◌≤◌};
+ghost use Rattle.executor.specs.Calls.{IsAsked, IsGiven};
 
 use crate::quiet_loops::QuietLoops;
 use array_store::Whole;
-use block_stage::Gate;
 use meaning::ending::Outcome;
-use meaning::plan::Plan;
 use meaning::syntax::Loop;
 use programs::Program;
-use std::alloc::{AllocError, Global};
-use std::sync::Wait;
-use std::thread::Threads;
+use std::alloc::AllocError;
 
-/// By the stages of a plan with two workers or more, with a gate for their blocks.
+/// By calls of a closure, each of which executes a DO statement with its range.
 #[derive(Drop)]
-pub struct Staged<'a, R: Threads + Wait + Sync, G: Gate + Sync> {
-    pub rt: &'a R,
-    pub alloc: Global,
-    pub plan: &'a Plan,
-    pub gate: &'a G,
+pub struct Staged<F> {
+    /// What is called.
+    pub call: F,
 }
 
-impl<'a, R: Threads + Wait + Sync, G: Gate + Sync> QuietLoops for Staged<'a, R, G> {
-    ghost ready = { λ s. 2 ≤ s.plan.now.workers };
+impl<F: Fn(&Program, &Loop, &mut Whole, &mut u64) -> Outcome> QuietLoops for Staged<F> {
+    ghost ready = { λ s.
+        ((p : _) (l : _) (c : _) (t : _) → IsAsked p.now l.now c.now → F.pre s.call p l c t) ×
+        ((p : _) (l : _) (c : _) (t : _) (o : _) (d : _) (u : _) → IsAsked p.now l.now c.now →
+        F.post s.call p l c t o d u → IsGiven p.now l.now c.now d.now t.now u.now o) };
 
     fn run_loop(
         &self,
@@ -32,10 +29,6 @@ impl<'a, R: Threads + Wait + Sync, G: Gate + Sync> QuietLoops for Staged<'a, R, 
         cells: &mut Whole,
         turns: &mut u64,
     ) -> Result<Outcome, AllocError> {
-        let run = stage_loop::run_loop(
-            self.rt, self.alloc, program, repeated, cells, *turns, self.plan, self.gate,
-        );
-        *turns -= run.turns_used;
-        Ok(run.outcome)
+        Ok((self.call)(program, repeated, cells, turns))
     }
 }
