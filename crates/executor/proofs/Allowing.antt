@@ -15,7 +15,7 @@ use Rattle.executor.specs.Quiet.{IsQuietUnlessLoud}
 
 split : (x : Member) (ms : Members) → LeaveVariables (member_before x ms) → LeaveVariables (member_before x none) × LeaveVariables ms
 split (Plain x) ms h = (tt, h)
-split (Loop' head shape range) ms h = ((h.0, (h.1, tt)), h.2)
+split (Loop' head shape range) ms h = ((h.0, h.1, tt), h.2)
 split (Block (Block' shape arms end)) ms h = ((h.0, tt), h.1)
 
 leaves_at : (ms : List Member) (i : ℕ) (x : Member) → i < length ms → x ≡ get_or ms i x → LeaveVariables (members_tree ms) → LeaveVariables (member_before x none)

@@ -5,3 +5,4 @@ pub mod Located
 pub mod Quiet
 pub mod Conditions
 pub mod Allowed
+pub mod Calls

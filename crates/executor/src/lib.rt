@@ -6,9 +6,11 @@ mod quiet_loops;
 mod reading;
 pub mod run;
 mod sink;
+mod staged;
 mod statement;
 mod stopping;
 mod walk;
 
 pub use quiet_loops::{InOrder, QuietLoops};
 pub use sink::{Out, Refused, Sink, put_all};
+pub use staged::Staged;

@@ -4,18 +4,26 @@ ghost use Rattle.std.specs.Prelude.{◌≡◌, ◌↔◌, Ok, false, true};
 ghost use Rattle.meaning.specs.Answers.{answer, answer_of};
 ghost use Rattle.meaning.specs.Promise.{Keeps};
 ghost use Rattle.checker.specs.Checked.{tree_of};
+ghost use Rattle.executor.specs.Calls.{IsAsked, IsGiven};
 
 use crate::halt::Halt;
 use crate::quiet_loops::{InOrder, QuietLoops};
 use crate::reading::program_in;
 use crate::sink::Sink;
+use crate::staged::Staged;
 use crate::stopping::message_in;
 use crate::walk::execute;
+use array_store::Whole;
+use block_stage::Gate;
 use meaning::ending::{Ending, Outcome};
 use meaning::plan::Plan;
 use meaning::refusal::Refusal;
+use meaning::syntax::Loop;
 use programs::Program;
+use stage_loop::run_loop;
 use std::alloc::Global;
+use std::sync::Wait;
+use std::thread::Threads;
 
 // Runs a program that keeps the rules.
 fn run_program<S: Sink, Q: QuietLoops>(
@@ -81,4 +89,36 @@ pub fn run_in_order<S: Sink>(alloc: Global, source: &[u8], plan: &Plan, sink: &m
     ensures refused { (result ≡ Ending.WriteRefused) ↔ ((S.told sink.new).refused ≡ true) }
 {
     run_by(alloc, &InOrder, source, plan.turns(), sink)
+}
+
+/// Runs a source with the plan: each DO statement without output that stands in no other such one by stages, whose blocks enter the
+/// gate, and all else in order. With one worker it is `run_in_order`. What it promises is the same for each plan and gate. It may
+/// wait for the workers, and what is promised holds if it returns.
+pub fn run<R: Threads + Wait + Sync, S: Sink, G: Gate + Sync>(
+    rt: &R,
+    alloc: Global,
+    source: &[u8],
+    plan: &Plan,
+    sink: &mut S,
+    gate: &G,
+) -> Ending
+    requires { (S.told sink.old).refused ≡ false }
+    ensures promise { Keeps (answer source.now plan.now.turns)
+        (S.told sink.old) (S.told sink.new) result }
+    ensures refused { (result ≡ Ending.WriteRefused) ↔ ((S.told sink.new).refused ≡ true) }
+{
+    if plan.workers() < 2 {
+        return run_in_order(alloc, source, plan, sink);
+    }
+    let staged = Staged {
+        call: |program: &Program, repeated: &Loop, cells: &mut Whole, turns: &mut u64| -> Outcome
+            requires { IsAsked program.now repeated.now cells.now }
+            ensures { IsGiven program.now repeated.now cells.old cells.new turns.old turns.new result }
+        {
+            let run = run_loop(rt, alloc, program, repeated, cells, *turns, plan, gate);
+            *turns -= run.turns_used;
+            run.outcome
+        },
+    };
+    run_by(alloc, &staged, source, plan.turns(), sink)
 }
