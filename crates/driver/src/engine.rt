@@ -87,13 +87,7 @@ pub fn engine<
     I: Read,
     O: Write + Drop,
     E: Write,
->(
-    rt: &R,
-    words: &V,
-    input: &mut I,
-    out: O,
-    err: &mut E,
-) -> u8 {
+>(rt: &R, words: &V, input: &mut I, out: O, err: &mut E) -> u8 {
     match job_asked(rt, words, input) {
         Ok(job) => report(run_whole(rt, &job, out), err),
         Err(no_run) => report_no_run(no_run, out, err),

@@ -84,7 +84,11 @@ struct Run {
 }
 
 // Runs the program of some words over a reader.
-fn run_of<R: Files + AllocGlobal + Threads + Wait + Sync, I: Read>(rt: &R, words: &[&[u8]], input: &mut I) -> Run {
+fn run_of<R: Files + AllocGlobal + Threads + Wait + Sync, I: Read>(
+    rt: &R,
+    words: &[&[u8]],
+    input: &mut I,
+) -> Run {
     let mut out = Vec::new(rt.alloc());
     let mut err = Vec::new(rt.alloc());
     let status = engine(rt, &Words { words }, input, &mut out, &mut err);

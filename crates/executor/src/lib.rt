@@ -11,6 +11,7 @@ mod statement;
 mod stopping;
 mod walk;
 
+pub use block_stage::{Gate, Open};
 pub use quiet_loops::{InOrder, QuietLoops};
 pub use sink::{Out, Refused, Sink, put_all};
 pub use staged::Staged;

@@ -10,13 +10,16 @@ use std::sync::atomic::{AtomicU64, Ordering};
 use std::test::*;
 
 /// Elements through an array of subscripts: no block needs what another one did.
-const PERMUTED: &str = "      INTEGER A(8),K(8)\n      DATA K/3,1,4,8,5,2,7,6/\n      DO 10 I=1,8\n   10 A(K(I))=I\n      WRITE (6,20) A\n   20 FORMAT (8I3)\n      END\n";
+const PERMUTED: &str =
+    "      INTEGER A(8),K(8)\n      DATA K/3,1,4,8,5,2,7,6/\n      DO 10 I=1,8\n   10 A(K(I))=I\n      WRITE (6,20) A\n   20 FORMAT (8I3)\n      END\n";
 
 /// Each element from the one before: one trip is committed in each stage, of 8, 7, .. and 1 blocks.
-const RECURRENCE: &str = "      INTEGER A(9)\n      DO 10 I=2,9\n   10 A(I)=A(I-1)+1\n      WRITE (6,20) A(9)\n   20 FORMAT (I3)\n      END\n";
+const RECURRENCE: &str =
+    "      INTEGER A(9)\n      DO 10 I=2,9\n   10 A(I)=A(I-1)+1\n      WRITE (6,20) A(9)\n   20 FORMAT (I3)\n      END\n";
 
 /// Each element from one four before: two blocks of two trips are committed in each stage, of 8, 6, 4 and 2 blocks.
-const FOUR_BEFORE: &str = "      INTEGER A(20)\n      DO 10 I=5,20\n   10 A(I)=A(I-4)+1\n      WRITE (6,20) A(20)\n   20 FORMAT (I3)\n      END\n";
+const FOUR_BEFORE: &str =
+    "      INTEGER A(20)\n      DO 10 I=5,20\n   10 A(I)=A(I-4)+1\n      WRITE (6,20) A(20)\n   20 FORMAT (I3)\n      END\n";
 
 /// Counts the blocks that enter.
 #[derive(Drop)]
@@ -97,7 +100,14 @@ fn two_blocks_at_once(rt: HostRuntime) -> Result<(), AllocError> {
     };
     let plan = Plan::new(4, 2, 8, MANY).expect(&rt, "a plan");
     let mut sink = Out::new(Vec::new(rt.alloc()));
-    let ending = run(&rt, rt.alloc(), PERMUTED.as_bytes(), &plan, &mut sink, &gate);
+    let ending = run(
+        &rt,
+        rt.alloc(),
+        PERMUTED.as_bytes(),
+        &plan,
+        &mut sink,
+        &gate,
+    );
     assert!(rt; ending == Ending::Ended);
     assert!(rt; gate.met.into_inner() == 1);
     Ok(())

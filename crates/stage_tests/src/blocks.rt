@@ -380,8 +380,7 @@ fn stopped(rt: HostRuntime) -> Result<(), Fail> {
         cut: 3,
         looked: AtomicU64::new(0),
     };
-    let source =
-        "      DO 10 I=1,3\n      IF (I.EQ.2) J=K\n   10 IF (I.EQ.3) STOP\n      END\n";
+    let source = "      DO 10 I=1,3\n      IF (I.EQ.2) J=K\n   10 IF (I.EQ.3) STOP\n      END\n";
     let mut sink = Out::new(Vec::new(rt.alloc()));
     let ending = run_by(rt.alloc(), &watching, source.as_bytes(), 1000, &mut sink);
     assert!(rt; matches!(&ending, Ending::Stopped(_)), "{ending:?}");
