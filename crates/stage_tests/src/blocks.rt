@@ -4,8 +4,12 @@ use crate::watching::{Seen, Watching};
 use executor::Out;
 use executor::run::run_by;
 use meaning::ending::{Ending, Fault, FaultKind, Outcome};
+use std::alloc::Global;
+use std::process::Abort;
+use std::sync::Wait;
 use std::sync::atomic::AtomicU64;
 use std::test::*;
+use std::thread::Threads;
 
 /// A program, how its DO statement is cut into blocks, what comes of each, where the stage is cut, and how the program ends.
 struct Row {
@@ -331,19 +335,19 @@ const ROWS: &[Row] = &[
 ];
 
 /// The run of a row's program in which its blocks are looked at.
-fn looked(rt: &HostRuntime, row: &Row) -> Result<(), Fail> {
+fn looked<R: Abort + Threads + Wait + Sync>(rt: &R, alloc: Global, row: &Row) -> Result<(), Fail> {
     let watching = Watching {
         rt,
-        alloc: rt.alloc(),
+        alloc,
         block: row.block,
         window: row.window,
         blocks: row.blocks,
         cut: row.cut,
         looked: AtomicU64::new(0),
     };
-    let mut sink = Out::new(Vec::new(rt.alloc()));
+    let mut sink = Out::new(Vec::new(alloc));
     let ending = run_by(
-        rt.alloc(),
+        alloc,
         &watching,
         row.source.as_bytes(),
         row.turns,
@@ -363,7 +367,7 @@ fn looked(rt: &HostRuntime, row: &Row) -> Result<(), Fail> {
 #[test]
 fn blocks_and_cuts(rt: HostRuntime) -> Result<(), Fail> {
     for row in ROWS {
-        looked(&rt, row)?;
+        looked(&rt, rt.alloc(), row)?;
     }
     Ok(())
 }
