@@ -1,5 +1,5 @@
 -- The trips of a DO statement, some of them and then the rest.
-use Rattle.std.proofs.Common.{◌≡◌, ℕ, ◌+◌, ◌-◌, ◌<◌, ◌≤◌, ℤ, pos, ◌+ℤ◌, ◌*ℤ◌, ◌++◌, FitsSigned, List, [], length, refl, sym, ap, ◌∙◌, subst, arith, rules}
+use Rattle.std.proofs.Common.{◌≡◌, ℕ, ◌+◌, ◌-◌, ◌≤◌, ℤ, pos, ◌+ℤ◌, ◌*ℤ◌, ◌++◌, FitsSigned, List, [], length, sym, ap, ◌∙◌, subst, arith, rules}
 use Rattle.std.specs.Int.{w32}
 use Rattle.std.proofs.lemmas.List.{length-map, length-append}
 use Rattle.std.proofs.lemmas.List.FromFn.{length-range_with_len}
@@ -7,13 +7,12 @@ use Rattle.meaning.specs.declared.ending.Outcome.{Outcome}
 use Rattle.meaning.specs.declared.ending.Outcome.TheVariants as outcomes
 use Rattle.meaning.specs.declared.ending.Run.{Run}
 use Rattle.meaning.specs.declared.syntax.Loop.{Loop, out-Loop}
-use Rattle.meaning.specs.Execution.{Ran, goes_on, more, exec, fold_trips}
+use Rattle.meaning.specs.Execution.{Ran, goes_on, exec, fold_trips}
 use Rattle.meaning.specs.LoopLaws.{NeverSets}
-use Rattle.meaning.specs.Maps.{Map, put}
+use Rattle.meaning.specs.Maps.{Map}
 use Rattle.meaning.specs.Syntax.{ItemTree}
 use Rattle.meaning.proofs.Advancing.{fold_trips-goes_on, fold_trips-number, put_again}
 use Rattle.meaning.proofs.Limits.{fold_trips-append}
-use Rattle.meaning.proofs.Running.{more-none}
 use Rattle.evaluator.specs.Over.{repeated_as, trips_as, values_by}
 use Rattle.evaluator.specs.Statements.{Leaves, Reaches, Spends, ran_by}
 use Rattle.evaluator.proofs.Composed.{IsEnd, ends_there, leaves_along, leaves_behind, reaches_end, reaches_more}

@@ -18,7 +18,7 @@ use Rattle.programs.specs.Asked.{is_doing}
 use Rattle.programs.specs.Programs.{IsStatement}
 use Rattle.evaluator.specs.Known.{AreStatements}
 use Rattle.evaluator.specs.Quiet.{variable_of}
-use Rattle.block_stage.specs.Jobs.{range_in, shape_in, variable_in}
+use Rattle.block_stage.specs.Jobs.{range_in, shape_in}
 use Rattle.stage_loop.specs.Loops.{IsQuietLoop, LeavesItsVariable}
 
 -- what was put in is there

@@ -1,4 +1,4 @@
-use Rattle.std.proofs.Common.{◌≡◌, ◌<◌, ◌≤◌, ap, arith, length, rules, slice_get, slice_set, Some, subst, sym, to_z, of_z, FitsSigned, ◌∙◌}
+use Rattle.std.proofs.Common.{◌<◌, ◌≤◌, ap, length, rules, slice_set, subst, sym, FitsSigned, ◌∙◌}
 use Rattle.std.specs.Int.{w32}
 use Rattle.std.proofs.lemmas.Int.{to_z-of_z}
 use Rattle.stage_loop.specs.Changes.{DifferIn}

@@ -1,4 +1,4 @@
-use Rattle.std.proofs.Common.{drop, ◌+◌, ◌∙◌, length}
+use Rattle.std.proofs.Common.{drop, ◌+◌, ◌∙◌}
 use Rattle.stage_loop.proofs.Copying.{next_number, no_cell}
 use Rattle.stage_loop.proofs.copies.follow.Goals as goal
 

@@ -1,4 +1,4 @@
-use Rattle.std.proofs.Common.{◌≡◌, ◌<◌, [], pos, ◌+ℤ◌, ◌*ℤ◌, FitsSigned, rules, sym, ap, subst, ◌∙◌, to_z, of_z}
+use Rattle.std.proofs.Common.{◌<◌, [], pos, ◌+ℤ◌, ◌*ℤ◌, FitsSigned, rules, sym, ap, subst, ◌∙◌, to_z, of_z}
 use Rattle.std.specs.Int.{w32}
 use Rattle.std.proofs.lemmas.Int.{to_z-of_z}
 use Rattle.meaning.specs.declared.ending.FaultKind.TheVariants.{F4}
