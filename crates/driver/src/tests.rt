@@ -8,7 +8,9 @@ use std::io;
 use std::io::{ErrorKind, Read, Write};
 use std::process::Abort;
 use std::rt::Files;
+use std::sync::Wait;
 use std::test::*;
+use std::thread::Threads;
 
 /// The words of a command line.
 #[derive(Drop)]
@@ -96,7 +98,7 @@ fn run_of<R: Files + AllocGlobal + Threads + Wait + Sync, I: Read>(
 }
 
 // Runs the program over standard input, and expects a status and a line.
-fn expect_line<R: Files + AllocGlobal + Abort, I: Read>(
+fn expect_line<R: Files + AllocGlobal + Threads + Wait + Sync + Abort, I: Read>(
     rt: &R,
     input: &mut I,
     status: u8,

@@ -110,5 +110,7 @@ fn two_blocks_at_once(rt: HostRuntime) -> Result<(), AllocError> {
     );
     assert!(rt; ending == Ending::Ended);
     assert!(rt; gate.met.into_inner() == 1);
+    let written = sink.into_inner();
+    assert!(rt; written.as_slice() == b"  2  6  1  3  5  8  7  4\n".as_slice());
     Ok(())
 }

@@ -23,76 +23,186 @@ struct Row {
     ending: Option<Fault>,
 }
 
-const fn normal(exposed: &'static [usize], written: &'static [(usize, i32)], turns: u64) -> Seen {
-    Seen {
-        exposed,
-        written,
-        outcome: Outcome::Normal,
-        turns,
-    }
-}
-
-const fn faulty(
-    exposed: &'static [usize],
-    written: &'static [(usize, i32)],
-    turns: u64,
-    kind: FaultKind,
-    line: u32,
-) -> Seen {
-    Seen {
-        exposed,
-        written,
-        outcome: Outcome::Fault(Fault { kind, line }),
-        turns,
-    }
-}
-
 /// A copy through an array of subscripts: A has cells 0 to 7, K 8 to 15, I 16.
 const PERMUTED: &[Seen] = &[
-    normal(&[8, 9], &[(16, 3), (2, 1), (0, 2)], 2),
-    normal(&[10, 11], &[(16, 5), (3, 3), (7, 4)], 2),
-    normal(&[12, 13], &[(16, 7), (4, 5), (1, 6)], 2),
-    normal(&[14, 15], &[(16, 9), (6, 7), (5, 8)], 2),
+    Seen {
+        exposed: &[8, 9],
+        written: &[(16, 3), (2, 1), (0, 2)],
+        outcome: Outcome::Normal,
+        turns: 2,
+    },
+    Seen {
+        exposed: &[10, 11],
+        written: &[(16, 5), (3, 3), (7, 4)],
+        outcome: Outcome::Normal,
+        turns: 2,
+    },
+    Seen {
+        exposed: &[12, 13],
+        written: &[(16, 7), (4, 5), (1, 6)],
+        outcome: Outcome::Normal,
+        turns: 2,
+    },
+    Seen {
+        exposed: &[14, 15],
+        written: &[(16, 9), (6, 7), (5, 8)],
+        outcome: Outcome::Normal,
+        turns: 2,
+    },
 ];
 
 /// A recurrence: A has cells 0 to 8, I 9. Each trip adds 1 to the element before, which is 0 in the base.
 const RECURRENCE: &[Seen] = &[
-    normal(&[0], &[(9, 3), (1, 1)], 1),
-    normal(&[1], &[(9, 4), (2, 1)], 1),
-    normal(&[2], &[(9, 5), (3, 1)], 1),
-    normal(&[3], &[(9, 6), (4, 1)], 1),
-    normal(&[4], &[(9, 7), (5, 1)], 1),
-    normal(&[5], &[(9, 8), (6, 1)], 1),
-    normal(&[6], &[(9, 9), (7, 1)], 1),
-    normal(&[7], &[(9, 10), (8, 1)], 1),
+    Seen {
+        exposed: &[0],
+        written: &[(9, 3), (1, 1)],
+        outcome: Outcome::Normal,
+        turns: 1,
+    },
+    Seen {
+        exposed: &[1],
+        written: &[(9, 4), (2, 1)],
+        outcome: Outcome::Normal,
+        turns: 1,
+    },
+    Seen {
+        exposed: &[2],
+        written: &[(9, 5), (3, 1)],
+        outcome: Outcome::Normal,
+        turns: 1,
+    },
+    Seen {
+        exposed: &[3],
+        written: &[(9, 6), (4, 1)],
+        outcome: Outcome::Normal,
+        turns: 1,
+    },
+    Seen {
+        exposed: &[4],
+        written: &[(9, 7), (5, 1)],
+        outcome: Outcome::Normal,
+        turns: 1,
+    },
+    Seen {
+        exposed: &[5],
+        written: &[(9, 8), (6, 1)],
+        outcome: Outcome::Normal,
+        turns: 1,
+    },
+    Seen {
+        exposed: &[6],
+        written: &[(9, 9), (7, 1)],
+        outcome: Outcome::Normal,
+        turns: 1,
+    },
+    Seen {
+        exposed: &[7],
+        written: &[(9, 10), (8, 1)],
+        outcome: Outcome::Normal,
+        turns: 1,
+    },
 ];
 
 /// D has cell 0, A 1 to 9, I 10. The last trip divides by what the first one sets.
 const DIVIDED: &[Seen] = &[
-    normal(&[], &[(10, 2), (0, 2)], 4),
-    normal(&[], &[(10, 3)], 3),
-    normal(&[], &[(10, 4)], 3),
-    normal(&[], &[(10, 5)], 3),
-    normal(&[], &[(10, 6)], 3),
-    normal(&[], &[(10, 7)], 3),
-    normal(&[], &[(10, 8)], 3),
-    normal(&[], &[(10, 9)], 3),
-    faulty(&[0], &[(10, 9)], 3, FaultKind::F1, 4),
+    Seen {
+        exposed: &[],
+        written: &[(10, 2), (0, 2)],
+        outcome: Outcome::Normal,
+        turns: 4,
+    },
+    Seen {
+        exposed: &[],
+        written: &[(10, 3)],
+        outcome: Outcome::Normal,
+        turns: 3,
+    },
+    Seen {
+        exposed: &[],
+        written: &[(10, 4)],
+        outcome: Outcome::Normal,
+        turns: 3,
+    },
+    Seen {
+        exposed: &[],
+        written: &[(10, 5)],
+        outcome: Outcome::Normal,
+        turns: 3,
+    },
+    Seen {
+        exposed: &[],
+        written: &[(10, 6)],
+        outcome: Outcome::Normal,
+        turns: 3,
+    },
+    Seen {
+        exposed: &[],
+        written: &[(10, 7)],
+        outcome: Outcome::Normal,
+        turns: 3,
+    },
+    Seen {
+        exposed: &[],
+        written: &[(10, 8)],
+        outcome: Outcome::Normal,
+        turns: 3,
+    },
+    Seen {
+        exposed: &[],
+        written: &[(10, 9)],
+        outcome: Outcome::Normal,
+        turns: 3,
+    },
+    Seen {
+        exposed: &[0],
+        written: &[(10, 9)],
+        outcome: Outcome::Fault(Fault {
+            kind: FaultKind::F1,
+            line: 4,
+        }),
+        turns: 3,
+    },
 ];
 
 /// Z has cell 0, I 1. Trips 3 and 6 fault.
 const TWO_FAULTS: &[Seen] = &[
-    normal(&[], &[(1, 3)], 6),
-    faulty(&[0], &[(1, 3)], 2, FaultKind::F1, 3),
-    faulty(&[0], &[(1, 6)], 6, FaultKind::F1, 4),
-    normal(&[], &[(1, 9)], 6),
+    Seen {
+        exposed: &[],
+        written: &[(1, 3)],
+        outcome: Outcome::Normal,
+        turns: 6,
+    },
+    Seen {
+        exposed: &[0],
+        written: &[(1, 3)],
+        outcome: Outcome::Fault(Fault {
+            kind: FaultKind::F1,
+            line: 3,
+        }),
+        turns: 2,
+    },
+    Seen {
+        exposed: &[0],
+        written: &[(1, 6)],
+        outcome: Outcome::Fault(Fault {
+            kind: FaultKind::F1,
+            line: 4,
+        }),
+        turns: 6,
+    },
+    Seen {
+        exposed: &[],
+        written: &[(1, 9)],
+        outcome: Outcome::Normal,
+        turns: 6,
+    },
 ];
 
 /// K has cells 0 to 99, I 100. Each block looks complete by itself.
 const LIMITED: &[Seen] = &[
-    normal(
-        &[],
-        &[
+    Seen {
+        exposed: &[],
+        written: &[
             (100, 8),
             (0, 1),
             (1, 2),
@@ -102,11 +212,12 @@ const LIMITED: &[Seen] = &[
             (5, 6),
             (6, 7),
         ],
-        7,
-    ),
-    normal(
-        &[],
-        &[
+        outcome: Outcome::Normal,
+        turns: 7,
+    },
+    Seen {
+        exposed: &[],
+        written: &[
             (100, 15),
             (7, 8),
             (8, 9),
@@ -116,11 +227,12 @@ const LIMITED: &[Seen] = &[
             (12, 13),
             (13, 14),
         ],
-        7,
-    ),
-    normal(
-        &[],
-        &[
+        outcome: Outcome::Normal,
+        turns: 7,
+    },
+    Seen {
+        exposed: &[],
+        written: &[
             (100, 22),
             (14, 15),
             (15, 16),
@@ -130,11 +242,12 @@ const LIMITED: &[Seen] = &[
             (19, 20),
             (20, 21),
         ],
-        7,
-    ),
-    normal(
-        &[],
-        &[
+        outcome: Outcome::Normal,
+        turns: 7,
+    },
+    Seen {
+        exposed: &[],
+        written: &[
             (100, 29),
             (21, 22),
             (22, 23),
@@ -144,11 +257,12 @@ const LIMITED: &[Seen] = &[
             (26, 27),
             (27, 28),
         ],
-        7,
-    ),
-    normal(
-        &[],
-        &[
+        outcome: Outcome::Normal,
+        turns: 7,
+    },
+    Seen {
+        exposed: &[],
+        written: &[
             (100, 36),
             (28, 29),
             (29, 30),
@@ -158,11 +272,12 @@ const LIMITED: &[Seen] = &[
             (33, 34),
             (34, 35),
         ],
-        7,
-    ),
-    normal(
-        &[],
-        &[
+        outcome: Outcome::Normal,
+        turns: 7,
+    },
+    Seen {
+        exposed: &[],
+        written: &[
             (100, 43),
             (35, 36),
             (36, 37),
@@ -172,11 +287,12 @@ const LIMITED: &[Seen] = &[
             (40, 41),
             (41, 42),
         ],
-        7,
-    ),
-    normal(
-        &[],
-        &[
+        outcome: Outcome::Normal,
+        turns: 7,
+    },
+    Seen {
+        exposed: &[],
+        written: &[
             (100, 50),
             (42, 43),
             (43, 44),
@@ -186,11 +302,12 @@ const LIMITED: &[Seen] = &[
             (47, 48),
             (48, 49),
         ],
-        7,
-    ),
-    normal(
-        &[],
-        &[
+        outcome: Outcome::Normal,
+        turns: 7,
+    },
+    Seen {
+        exposed: &[],
+        written: &[
             (100, 57),
             (49, 50),
             (50, 51),
@@ -200,40 +317,104 @@ const LIMITED: &[Seen] = &[
             (54, 55),
             (55, 56),
         ],
-        7,
-    ),
+        outcome: Outcome::Normal,
+        turns: 7,
+    },
 ];
 
 /// I has cell 0, J 1. The addition behind the second trip leaves INTEGER, and the variable stays.
-const LAST_ADDITION: &[Seen] = &[faulty(&[1], &[(0, 2_147_483_647), (1, 2)], 2, FaultKind::F2, 1)];
+const LAST_ADDITION: &[Seen] = &[Seen {
+    exposed: &[1],
+    written: &[(0, 2_147_483_647), (1, 2)],
+    outcome: Outcome::Fault(Fault {
+        kind: FaultKind::F2,
+        line: 1,
+    }),
+    turns: 2,
+}];
 
 /// A has cells 0 to 15, B 16 to 31, I 32. Trip 5 leaves the loop for label 20.
 const LEFT: &[Seen] = &[
-    normal(&[0, 1], &[(32, 3), (16, 1), (17, 1)], 4),
-    normal(&[2, 3], &[(32, 5), (18, 1), (19, 1)], 4),
+    Seen {
+        exposed: &[0, 1],
+        written: &[(32, 3), (16, 1), (17, 1)],
+        outcome: Outcome::Normal,
+        turns: 4,
+    },
+    Seen {
+        exposed: &[2, 3],
+        written: &[(32, 5), (18, 1), (19, 1)],
+        outcome: Outcome::Normal,
+        turns: 4,
+    },
     Seen {
         exposed: &[4],
         written: &[(32, 5)],
         outcome: Outcome::Left(20),
         turns: 2,
     },
-    normal(&[6, 7], &[(32, 9), (22, 1), (23, 1)], 4),
-    normal(&[8, 9], &[(32, 11), (24, 1), (25, 1)], 4),
-    normal(&[10, 11], &[(32, 13), (26, 1), (27, 1)], 4),
-    normal(&[12, 13], &[(32, 15), (28, 1), (29, 1)], 4),
-    normal(&[14, 15], &[(32, 17), (30, 1), (31, 1)], 4),
+    Seen {
+        exposed: &[6, 7],
+        written: &[(32, 9), (22, 1), (23, 1)],
+        outcome: Outcome::Normal,
+        turns: 4,
+    },
+    Seen {
+        exposed: &[8, 9],
+        written: &[(32, 11), (24, 1), (25, 1)],
+        outcome: Outcome::Normal,
+        turns: 4,
+    },
+    Seen {
+        exposed: &[10, 11],
+        written: &[(32, 13), (26, 1), (27, 1)],
+        outcome: Outcome::Normal,
+        turns: 4,
+    },
+    Seen {
+        exposed: &[12, 13],
+        written: &[(32, 15), (28, 1), (29, 1)],
+        outcome: Outcome::Normal,
+        turns: 4,
+    },
+    Seen {
+        exposed: &[14, 15],
+        written: &[(32, 17), (30, 1), (31, 1)],
+        outcome: Outcome::Normal,
+        turns: 4,
+    },
 ];
 
 /// I has cell 0, J 1, K 2. A block sets the inner variable before it reads it.
 const NESTED: &[Seen] = &[
-    normal(&[2], &[(0, 2), (1, 3), (2, 3)], 3),
-    normal(&[2], &[(0, 3), (1, 3), (2, 6)], 3),
+    Seen {
+        exposed: &[2],
+        written: &[(0, 2), (1, 3), (2, 3)],
+        outcome: Outcome::Normal,
+        turns: 3,
+    },
+    Seen {
+        exposed: &[2],
+        written: &[(0, 3), (1, 3), (2, 6)],
+        outcome: Outcome::Normal,
+        turns: 3,
+    },
 ];
 
 /// I has cell 0, J 1, K 2. K is read where the condition is true alone, and STOP ends the last block.
 const ONE_ARM: &[Seen] = &[
-    normal(&[], &[(0, 2)], 2),
-    normal(&[2], &[(0, 3), (1, 0)], 3),
+    Seen {
+        exposed: &[],
+        written: &[(0, 2)],
+        outcome: Outcome::Normal,
+        turns: 2,
+    },
+    Seen {
+        exposed: &[2],
+        written: &[(0, 3), (1, 0)],
+        outcome: Outcome::Normal,
+        turns: 3,
+    },
     Seen {
         exposed: &[],
         written: &[(0, 3)],
@@ -389,5 +570,7 @@ fn stopped(rt: HostRuntime) -> Result<(), Fail> {
     let ending = run_by(rt.alloc(), &watching, source.as_bytes(), 1000, &mut sink);
     assert!(rt; matches!(&ending, Ending::Stopped(_)), "{ending:?}");
     assert!(rt; watching.looked.into_inner() == 1);
+    let written = sink.into_inner();
+    assert!(rt; written.is_empty());
     Ok(())
 }

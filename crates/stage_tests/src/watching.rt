@@ -32,6 +32,7 @@ pub struct Seen {
 }
 
 /// Looks at the first stage of each DO statement, and executes it in order.
+#[derive(Drop)]
 pub struct Watching<'a, R: Abort> {
     pub rt: &'a R,
     pub alloc: Global,
