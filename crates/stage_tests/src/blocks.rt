@@ -1,8 +1,6 @@
 //! Single blocks of DO statements, and where their first stages are cut. The figures are worked by hand.
 
-use crate::watching::{Seen, Watching};
-use executor::Out;
-use executor::run::run_by;
+use crate::watching::{Seen, Watching, run_watched};
 use meaning::ending::{Ending, Fault, FaultKind, Outcome};
 use std::alloc::Global;
 use std::process::Abort;
@@ -526,21 +524,13 @@ fn looked<R: Abort + Threads + Wait + Sync>(rt: &R, alloc: Global, row: &Row) ->
         cut: row.cut,
         looked: AtomicU64::new(0),
     };
-    let mut sink = Out::new(Vec::new(alloc));
-    let ending = run_by(
-        alloc,
-        &watching,
-        row.source.as_bytes(),
-        row.turns,
-        &mut sink,
-    );
+    let (ending, written) = run_watched(&watching, row.source.as_bytes(), row.turns);
     match (&ending, row.ending) {
         (Ending::Ended, None) => {}
         (Ending::Fault(fault), Some(wanted)) => assert!(rt; *fault == wanted, "{fault:?}"),
         _ => assert!(rt; false, "{ending:?}"),
     }
     assert!(rt; watching.looked.into_inner() == 1);
-    let written = sink.into_inner();
     assert!(rt; written.as_slice() == row.records.as_bytes());
     Ok(())
 }
@@ -566,11 +556,9 @@ fn stopped(rt: HostRuntime) -> Result<(), Fail> {
         looked: AtomicU64::new(0),
     };
     let source = "      DO 10 I=1,3\n      IF (I.EQ.2) J=K\n   10 IF (I.EQ.3) STOP\n      END\n";
-    let mut sink = Out::new(Vec::new(rt.alloc()));
-    let ending = run_by(rt.alloc(), &watching, source.as_bytes(), 1000, &mut sink);
+    let (ending, written) = run_watched(&watching, source.as_bytes(), 1000);
     assert!(rt; matches!(&ending, Ending::Stopped(_)), "{ending:?}");
     assert!(rt; watching.looked.into_inner() == 1);
-    let written = sink.into_inner();
     assert!(rt; written.is_empty());
     Ok(())
 }

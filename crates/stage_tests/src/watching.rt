@@ -1,21 +1,23 @@
 //! Runs of a program in which the blocks of a DO statement's first stage are looked at, before it is executed.
 
-ghost use Rattle.std.specs.Prelude.{◌≡◌, ◌≢◌, pos, length};
+ghost use Rattle.std.specs.Prelude.{◌≡◌, ◌≢◌, ◌-◌, ◌*◌, ◌<◌, pos, length};
 ghost use Rattle.checker.specs.Checked.{count_in};
 ghost use Rattle.programs.specs.Acts.{Repeats};
 ghost use Rattle.block_stage.specs.Jobs.{data_of, shape_in};
 ghost use Rattle.stage_loop.specs.Loops.{AreIntegers, IsQuietLoop};
+ghost use Rattle.executor.specs.Calls.{IsAsked, IsGiven};
 
 use array_store::Whole;
 use block_stage::{Job, JobKey, Lost, Open, cut, run_block, run_stage};
 use evaluator::{count_of, limits_whole, loop_whole, repeat_in};
-use executor::QuietLoops;
+use executor::run::run_by;
+use executor::{Out, Staged};
 use meaning::cell::Cell;
-use meaning::ending::{Outcome, Run};
+use meaning::ending::{Ending, Outcome, Run};
 use meaning::syntax::Loop;
 use private_view::View;
 use programs::{Program, Repeat};
-use std::alloc::{AllocError, Global};
+use std::alloc::Global;
 use std::marker::Brand;
 use std::process::Abort;
 use std::sync::Wait;
@@ -127,6 +129,21 @@ fn cut_of<R: Abort + Threads + Wait + Sync>(rt: &R, alloc: Global, job: &Job<'_>
     }
 }
 
+// How many blocks a stage has.
+fn blocks_of(left: u64, block: u64, window: u32) -> u32
+    requires left { 0 < left }
+    requires block { 0 < block }
+    requires window { 0 < window }
+    ensures some { 0 < result }
+    ensures last { (result - 1) * block < left }
+{
+    let whole = (left - 1) / block;
+    if whole < u64::from(window) {
+        return whole as u32 + 1;
+    }
+    window
+}
+
 // Looks at the first stage of a DO statement whose limits have these values.
 fn look_at<R: Abort + Threads + Wait + Sync>(
     watching: &Watching<'_, R>,
@@ -141,13 +158,10 @@ fn look_at<R: Abort + Threads + Wait + Sync>(
     requires fits { AreIntegers course.first course.step course.trips }
 {
     let rt = watching.rt;
-    assert!(rt; watching.block > 0 && watching.window > 0 && course.trips > 0);
-    let whole = (course.trips - 1) / watching.block;
-    let blocks = if whole < u64::from(watching.window) {
-        whole as u32 + 1
-    } else {
-        watching.window
-    };
+    assert!(rt; watching.block > 0);
+    assert!(rt; watching.window > 0);
+    assert!(rt; course.trips > 0);
+    let blocks = blocks_of(course.trips, watching.block, watching.window);
     let job = Job::new(
         program,
         repeated,
@@ -174,9 +188,8 @@ fn look<R: Abort + Threads + Wait + Sync>(
     cells: &Whole,
     turns: u64,
 )
-    requires quiet { IsQuietLoop program.now repeated.now }
+    requires asked { IsAsked program.now repeated.now cells.now }
     requires repeats { Repeats program.now repeat.now (shape_in repeated.now) }
-    requires sized { length cells.now ≡ count_in program.now }
 {
     let rt = watching.rt;
     assert!(rt; turns > 0);
@@ -195,20 +208,37 @@ fn look<R: Abort + Threads + Wait + Sync>(
     }
 }
 
-impl<'a, R: Abort + Threads + Wait + Sync> QuietLoops for Watching<'a, R> {
-    ghost ready = { λ _. Unit {0} };
-
-    fn run_loop(
-        &self,
-        program: &Program,
-        repeated: &Loop,
-        cells: &mut Whole,
-        turns: &mut u64,
-    ) -> Result<Outcome, AllocError> {
-        match repeat_in(program, &repeated.head) {
-            Some(repeat) => look(self, program, repeated, repeat, cells, *turns),
-            None => {}
-        }
-        Ok(loop_whole(program, repeated, cells, turns))
+// Looks at the first stage of a DO statement, and executes it in order.
+fn look_and_run<R: Abort + Threads + Wait + Sync>(
+    watching: &Watching<'_, R>,
+    program: &Program,
+    repeated: &Loop,
+    cells: &mut Whole,
+    turns: &mut u64,
+) -> Outcome
+    requires { IsAsked program.now repeated.now cells.old }
+    ensures { IsGiven program.now repeated.now cells.old cells.new turns.old turns.new result }
+{
+    match repeat_in(program, &repeated.head) {
+        Some(repeat) => look(watching, program, repeated, repeat, cells, *turns),
+        None => {}
     }
+    loop_whole(program, repeated, cells, turns)
+}
+
+/// The run of a source whose DO statements are looked at: its ending, and what it writes.
+pub fn run_watched<R: Abort + Threads + Wait + Sync>(
+    watching: &Watching<'_, R>,
+    source: &[u8],
+    turns: u64,
+) -> (Ending, Vec<u8>) {
+    let staged = Staged {
+        call: |program: &Program, repeated: &Loop, cells: &mut Whole, turns: &mut u64| -> Outcome
+            requires { IsAsked program.now repeated.now cells.now }
+            ensures { IsGiven program.now repeated.now cells.old cells.new turns.old turns.new result }
+        { look_and_run(watching, program, repeated, cells, turns) },
+    };
+    let mut sink = Out::new(Vec::new(watching.alloc));
+    let ending = run_by(watching.alloc, &staged, source, turns, &mut sink);
+    (ending, sink.into_inner())
 }
