@@ -3,11 +3,10 @@
 //! `gfortran -std=legacy -w -finit-local-zero`) where it takes the program and means the same by it; which rule is told and which
 //! fault comes from docs/LANGUAGE.md. A first line `C TURNS n` gives the program n turns; any other has 1,000,000,000.
 //! The examples, in the folder `examples` there, end without a fault; the files beside them hold their records alone.
-//! Each program is run in order and by stages; a third of them by each of 32 plans.
 #![tactic(auto)]
 
-use executor::run::run;
-use executor::{Open, Out};
+use executor::Out;
+use executor::run::run_in_order;
 use meaning::ending::{Ending, StopMessage};
 use meaning::plan::Plan;
 use std::alloc::Global;
@@ -15,13 +14,6 @@ use std::{fs, io, str};
 
 /// The turns that a program has which doesn't say them.
 const TURNS: u64 = 1_000_000_000;
-
-/// How many workers, how many trips in a block, and how many blocks at a time: 32 plans.
-const WORKERS: &[u64] = &[1, 2, 4, 8];
-
-const BLOCKS: &[u64] = &[1, 2, 7, 64];
-
-const WINDOWS: &[u64] = &[1, 8];
 
 // The number behind `C TURNS` in a source's first line, if that is what stands there.
 fn turns_said(source: &[u8]) -> Option<u64> {
@@ -54,10 +46,9 @@ fn line_of(alloc: Global, ending: Ending) -> io::Result<String> {
 }
 
 // How a source ends under a plan, and its records.
-fn outcome_of(rt: &HostRuntime, source: &[u8], plan: &Plan) -> io::Result<Vec<u8>> {
-    let alloc = rt.alloc();
+fn outcome_of(alloc: Global, source: &[u8], plan: &Plan) -> io::Result<Vec<u8>> {
     let mut sink = Out::new(Vec::new(alloc));
-    let ending = run(rt, alloc, source, plan, &mut sink, &Open);
+    let ending = run_in_order(alloc, source, plan, &mut sink);
     let records = sink.into_inner();
     let line = line_of(alloc, ending)?;
     let mut found = Vec::from_slice(alloc, line.as_bytes())?;
@@ -65,61 +56,24 @@ fn outcome_of(rt: &HostRuntime, source: &[u8], plan: &Plan) -> io::Result<Vec<u8
     Ok(found)
 }
 
-// Whether a source comes to what is wanted by a plan with these numbers of workers, trips in a block, and blocks at a time.
-fn comes_to(
-    rt: &HostRuntime,
-    source: &[u8],
-    wanted: &[u8],
-    numbers: (u64, u64, u64),
-) -> io::Result<bool> {
-    let (workers, block, window) = numbers;
-    match Plan::new(workers, block, window, turns_said(source).unwrap_or(TURNS)) {
+// Whether the program with a name comes to what the file beside it holds.
+fn agrees(rt: &HostRuntime, name: &str) -> io::Result<bool> {
+    let source = fs::read(rt, format!(in rt.alloc(); "{name}.f")?)?;
+    let wanted = fs::read(rt, format!(in rt.alloc(); "{name}.out")?)?;
+    match Plan::new(1, 1, 1, turns_said(&source).unwrap_or(TURNS)) {
         Some(plan) => {
-            let found = outcome_of(rt, source, &plan)?;
-            Ok(found.as_slice() == wanted)
+            let found = outcome_of(rt.alloc(), &source, &plan)?;
+            Ok(found.as_slice() == wanted.as_slice())
         }
         None => Ok(false),
     }
 }
 
-// Whether a source comes to what is wanted by each of 32 plans.
-fn comes_to_by_all(rt: &HostRuntime, source: &[u8], wanted: &[u8]) -> io::Result<bool> {
-    for &workers in WORKERS {
-        for &block in BLOCKS {
-            for &window in WINDOWS {
-                if !comes_to(rt, source, wanted, (workers, block, window))? {
-                    return Ok(false);
-                }
-            }
-        }
-    }
-    Ok(true)
-}
-
-// Whether a program is one of the third that is run by each plan, by the letters of its name.
-fn is_run_by_all(name: &str) -> bool {
-    let mut sum = 0u64;
-    for &byte in name.as_bytes() {
-        sum = sum.wrapping_add(u64::from(byte));
-    }
-    sum % 3 == 0
-}
-
-// Whether the program with a name comes to what the file beside it holds.
-fn agrees(rt: &HostRuntime, name: &str) -> io::Result<bool> {
-    let source = fs::read(rt, format!(in rt.alloc(); "{name}.f")?)?;
-    let wanted = fs::read(rt, format!(in rt.alloc(); "{name}.out")?)?;
-    if is_run_by_all(name) {
-        return comes_to_by_all(rt, &source, &wanted);
-    }
-    Ok(comes_to(rt, &source, &wanted, (1, 1, 1))? && comes_to(rt, &source, &wanted, (4, 2, 8))?)
-}
-
 // What a source writes, if it ends at END or by a STOP statement.
-fn records_of(rt: &HostRuntime, source: &[u8]) -> Option<Vec<u8>> {
-    let plan = Plan::new(4, 64, 8, TURNS)?;
-    let mut sink = Out::new(Vec::new(rt.alloc()));
-    let ending = run(rt, rt.alloc(), source, &plan, &mut sink, &Open);
+fn records_of(alloc: Global, source: &[u8]) -> Option<Vec<u8>> {
+    let plan = Plan::new(1, 1, 1, TURNS)?;
+    let mut sink = Out::new(Vec::new(alloc));
+    let ending = run_in_order(alloc, source, &plan, &mut sink);
     let records = sink.into_inner();
     match ending {
         Ending::Ended | Ending::Stopped(_) => Some(records),
@@ -131,7 +85,7 @@ fn records_of(rt: &HostRuntime, source: &[u8]) -> Option<Vec<u8>> {
 fn is_shown(rt: &HostRuntime, name: &str) -> io::Result<bool> {
     let source = fs::read(rt, format!(in rt.alloc(); "examples/{name}.f")?)?;
     let wanted = fs::read(rt, format!(in rt.alloc(); "examples/{name}.out")?)?;
-    match records_of(rt, &source) {
+    match records_of(rt.alloc(), &source) {
         Some(records) => Ok(records.as_slice() == wanted.as_slice()),
         None => Ok(false),
     }
