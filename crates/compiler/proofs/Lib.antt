@@ -1,5 +1,6 @@
 pub mod Words
 pub mod Operands
+pub mod Sums
 pub mod Single
 pub mod Calls
 pub mod Room

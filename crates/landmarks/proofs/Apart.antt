@@ -1,12 +1,11 @@
 -- Where no label stands twice, each label of a list leads to its place in it, whatever lists are around it and in it.
-use Rattle.std.proofs.Common.{◌≡◌, ℕ, zero, ◌+◌, Bool, true, false, ◌||◌, List, [], ◌∷◌, ◌++◌, append_assoc, Option, Some, None, Ok, refl, sym, ap, ap₂, subst, ◌∙◌}
-use Rattle.std.specs.Prelude.{if◌then◌else◌, ◌==◌, ◌&&◌, not, IsTrue}
+use Rattle.std.proofs.Common.{◌≡◌, ℕ, ◌+◌, Bool, true, false, ◌||◌, List, [], ◌∷◌, ◌++◌, append_assoc, Option, Some, None, refl, sym, ap, subst, ◌∙◌}
+use Rattle.std.specs.Prelude.{if◌then◌else◌, ◌==◌, ◌&&◌, not}
 use Rattle.std.specs.List.{list_any}
 use Rattle.std.specs.Option.{option_or}
 use Rattle.std.proofs.lemmas.Bool.{true≢false, eqb-true, eq-eqb}
 use Rattle.std.proofs.lemmas.List.Folds.{list_any-append}
 use Rattle.meaning.specs.declared.refusal.Broken.{Broken}
-use Rattle.meaning.specs.declared.refusal.Rule.{Rule}
 use Rattle.meaning.specs.declared.refusal.Rule.TheVariants.{K1}
 use Rattle.meaning.specs.declared.syntax.Tree.{Tree}
 use Rattle.meaning.specs.Execution.{heads}
@@ -18,7 +17,7 @@ use Rattle.meaning.specs.Trees.{Members, none, plain, loop, block, Arms, no_arms
 use Rattle.landmarks.specs.Quiet.{is_quiet}
 use Rattle.landmarks.specs.Places.{own_place, place_from, place_in, place_in_arms}
 use Rattle.landmarks.specs.Loud.{is_loud, is_loud_in, is_loud_in_arms}
-use Rattle.landmarks.specs.Kept.{AreKept, AreKeptInArms, HasPlaces, IsKept}
+use Rattle.landmarks.specs.Kept.{AreKept, AreKeptInArms, IsKept}
 
 -- ---- tests
 

@@ -1,11 +1,11 @@
 -- What is kept of a list is kept of its members, of their ranges and of their arms.
-use Rattle.std.proofs.Common.{◌≡◌, ℕ, zero, suc, ◌<◌, Bool, false, List, [], ◌∷◌, length, get_or, Option, sym, ap, ◌∙◌, arith, subst}
+use Rattle.std.proofs.Common.{◌≡◌, ℕ, zero, suc, ◌<◌, Bool, false, List, [], ◌∷◌, length, get_or, Option, sym, arith, subst}
 use Rattle.meaning.specs.declared.syntax.Arm.{Arm}
 use Rattle.meaning.specs.declared.syntax.Block.{Block', out-Block}
 use Rattle.meaning.specs.declared.syntax.Loop.{Loop as LoopOf, out-Loop}
 use Rattle.meaning.specs.declared.syntax.Member.{Member, Plain, Loop, Loop', Block}
 use Rattle.meaning.specs.declared.syntax.Tree.{Tree}
-use Rattle.meaning.specs.Trees.{Members, none, Arms, member_before, members_tree, arms_tree}
+use Rattle.meaning.specs.Trees.{Members, none, member_before, members_tree, arms_tree}
 use Rattle.meaning.proofs.Ranges.{member_before-loop, member_before-block}
 use Rattle.landmarks.specs.Quiet.{WritesNothing}
 use Rattle.landmarks.specs.Loud.{is_loud_in}

@@ -1,17 +1,17 @@
 -- Places and lines that are put one behind the other.
-use Rattle.std.proofs.Common.{◌≡◌, ℕ, ◌+◌, ◌<◌, Bool, true, false, ◌||◌, List, length, get_or, drop, Option, Some, None, Result, Ok, Err, OnOk, refl, sym, ap, subst, ◌∙◌}
+use Rattle.std.proofs.Common.{◌≡◌, ℕ, ◌+◌, Bool, true, false, ◌||◌, List, Option, Some, None, Result, Ok, Err, OnOk, refl, sym, ap, ◌∙◌}
 use Rattle.std.specs.Prelude.{if◌then◌else◌, ◌==◌, ◌&&◌, not}
-use Rattle.std.specs.BTreeMap.{BTreeMap, get}
+use Rattle.std.specs.BTreeMap.{BTreeMap}
 use Rattle.std.specs.BTreeSet.{BTreeSet, contains}
 use Rattle.std.specs.Option.{option_or}
 use Rattle.std.specs.Ordering.{nat_cmp}
 use Rattle.meaning.specs.declared.syntax.Arm.{Arm}
-use Rattle.meaning.specs.declared.syntax.Block.{Block', out-Block}
+use Rattle.meaning.specs.declared.syntax.Block.{out-Block}
 use Rattle.meaning.specs.declared.syntax.Loop.{Loop as LoopOf, out-Loop}
-use Rattle.meaning.specs.declared.syntax.Member.{Member, Plain, Loop, Loop', Block}
+use Rattle.meaning.specs.declared.syntax.Member.{Member, Loop, Block}
 use Rattle.meaning.specs.Execution.{heads}
 use Rattle.meaning.specs.LabelRules.{has_label, is_label_at}
-use Rattle.meaning.specs.Trees.{Members, none, arms_tree, item_tree, member_before, members_tree, row_arms, row_members}
+use Rattle.meaning.specs.Trees.{none, arms_tree, item_tree, member_before, members_tree}
 use Rattle.meaning.proofs.Ranges.{member_before-loop, member_before-block}
 use Rattle.landmarks.specs.Quiet.{is_quiet}
 use Rattle.landmarks.specs.Loud.{is_loud, is_loud_in_arms}

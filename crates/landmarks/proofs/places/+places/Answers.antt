@@ -1,7 +1,3 @@
-use Rattle.std.proofs.Common.{ℕ}
-use Rattle.meaning.specs.Trees.{members_tree}
-use Rattle.landmarks.specs.Places.{place_from}
-use Rattle.landmarks.specs.Puts.{Puts, member_places, place_if}
 use Rattle.landmarks.proofs.Putting.{on_ok_then, loop_places, block_places}
 use Rattle.landmarks.proofs.places.+places.Goals as goal
 
