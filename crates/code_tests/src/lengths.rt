@@ -15,7 +15,7 @@ fn value_at(program: &Program, line: u32) -> Option<&Code> {
 
 /// Constants and operators are an instruction each, but for an operator with a constant or a variable behind it, which are one together
 /// unless it is `**` with a constant. A variable is one alone or as a subscript, and so is an element whose one or two subscripts are
-/// variables.
+/// variables, or sums or differences of a variable and a constant behind it.
 const LENGTHS: &[(&[u8], usize)] = &[
     (b"I=1", 1),
     (b"I=J", 1),
@@ -26,6 +26,10 @@ const LENGTHS: &[(&[u8], usize)] = &[
     (b"I=-J", 2),
     (b"I=A(J)", 1),
     (b"I=B(J,K)", 1),
+    (b"I=A(J+1)", 1),
+    (b"I=B(J-1,K+2)", 1),
+    (b"I=A(2+J)", 5),
+    (b"I=A(J*2)", 5),
     (b"I=A(J)+B(I,J)*B(J,K)", 5),
 ];
 
