@@ -3,17 +3,65 @@
 //! `gfortran -std=legacy -w -finit-local-zero`) where it takes the program and means the same by it; which rule is told and which
 //! fault comes from docs/LANGUAGE.md. A first line `C TURNS n` gives the program n turns; any other has 1,000,000,000.
 //! The examples, in the folder `examples` there, end without a fault; the files beside them hold their records alone.
+//! A program whose name's bytes (without `.f`) sum up to a multiple of 3 is run by 32 plans, unless its name says that it has a
+//! million elements, which take long to fill; any other is run by two plans, and so is each example. By each plan it comes to the same.
 #![tactic(auto)]
 
-use executor::Out;
-use executor::run::run_in_order;
+use executor::run::run;
+use executor::{Open, Out};
 use meaning::ending::{Ending, StopMessage};
 use meaning::plan::Plan;
 use std::alloc::Global;
+use std::io::Print;
+use std::rt::Files;
+use std::sync::Wait;
+use std::thread::Threads;
 use std::{fs, io, str};
 
 /// The turns that a program has which doesn't say them.
 const TURNS: u64 = 1_000_000_000;
+
+/// How many workers, how many trips in a block, and how many blocks at a time.
+type Numbers = (u64, u64, u64);
+
+/// The plans of most programs.
+const FEW: &[Numbers] = &[(1, 1, 1), (4, 2, 8)];
+
+/// Workers 1, 2, 4, 8, each with blocks of 1, 2, 7, 64 trips, each with 1 and 8 blocks at a time.
+const ALL: &[Numbers] = &[
+    (1, 1, 1),
+    (1, 1, 8),
+    (1, 2, 1),
+    (1, 2, 8),
+    (1, 7, 1),
+    (1, 7, 8),
+    (1, 64, 1),
+    (1, 64, 8),
+    (2, 1, 1),
+    (2, 1, 8),
+    (2, 2, 1),
+    (2, 2, 8),
+    (2, 7, 1),
+    (2, 7, 8),
+    (2, 64, 1),
+    (2, 64, 8),
+    (4, 1, 1),
+    (4, 1, 8),
+    (4, 2, 1),
+    (4, 2, 8),
+    (4, 7, 1),
+    (4, 7, 8),
+    (4, 64, 1),
+    (4, 64, 8),
+    (8, 1, 1),
+    (8, 1, 8),
+    (8, 2, 1),
+    (8, 2, 8),
+    (8, 7, 1),
+    (8, 7, 8),
+    (8, 64, 1),
+    (8, 64, 8),
+];
 
 // The number behind `C TURNS` in a source's first line, if that is what stands there.
 fn turns_said(source: &[u8]) -> Option<u64> {
@@ -46,9 +94,14 @@ fn line_of(alloc: Global, ending: Ending) -> io::Result<String> {
 }
 
 // How a source ends under a plan, and its records.
-fn outcome_of(alloc: Global, source: &[u8], plan: &Plan) -> io::Result<Vec<u8>> {
+fn outcome_of<R: AllocGlobal + Threads + Wait + Sync>(
+    rt: &R,
+    source: &[u8],
+    plan: &Plan,
+) -> io::Result<Vec<u8>> {
+    let alloc = rt.alloc();
     let mut sink = Out::new(Vec::new(alloc));
-    let ending = run_in_order(alloc, source, plan, &mut sink);
+    let ending = run(rt, alloc, source, plan, &mut sink, &Open);
     let records = sink.into_inner();
     let line = line_of(alloc, ending)?;
     let mut found = Vec::from_slice(alloc, line.as_bytes())?;
@@ -56,67 +109,135 @@ fn outcome_of(alloc: Global, source: &[u8], plan: &Plan) -> io::Result<Vec<u8>> 
     Ok(found)
 }
 
-// Whether the program with a name comes to what the file beside it holds.
-fn agrees(rt: &HostRuntime, name: &str) -> io::Result<bool> {
-    let source = fs::read(rt, format!(in rt.alloc(); "{name}.f")?)?;
-    let wanted = fs::read(rt, format!(in rt.alloc(); "{name}.out")?)?;
-    match Plan::new(1, 1, 1, turns_said(&source).unwrap_or(TURNS)) {
+// Whether a source comes to what is wanted by the plan with these numbers.
+fn comes_to<R: AllocGlobal + Threads + Wait + Sync>(
+    rt: &R,
+    source: &[u8],
+    wanted: &[u8],
+    numbers: Numbers,
+) -> io::Result<bool> {
+    let (workers, block, window) = numbers;
+    match Plan::new(workers, block, window, turns_said(source).unwrap_or(TURNS)) {
         Some(plan) => {
-            let found = outcome_of(rt.alloc(), &source, &plan)?;
-            Ok(found.as_slice() == wanted.as_slice())
+            let found = outcome_of(rt, source, &plan)?;
+            Ok(found.as_slice() == wanted)
         }
         None => Ok(false),
     }
 }
 
-// What a source writes, if it ends at END or by a STOP statement.
-fn records_of(alloc: Global, source: &[u8]) -> Option<Vec<u8>> {
-    let plan = Plan::new(1, 1, 1, TURNS)?;
-    let mut sink = Out::new(Vec::new(alloc));
-    let ending = run_in_order(alloc, source, &plan, &mut sink);
+// The first of some plans by which the program with a name doesn't come to what the file beside it holds, if there is one.
+fn missed_by<R: Files + AllocGlobal + Threads + Wait + Sync>(
+    rt: &R,
+    name: &str,
+    plans: &[Numbers],
+) -> io::Result<Option<Numbers>> {
+    let source = fs::read(rt, format!(in rt.alloc(); "{name}.f")?)?;
+    let wanted = fs::read(rt, format!(in rt.alloc(); "{name}.out")?)?;
+    for &numbers in plans {
+        if !comes_to(rt, &source, &wanted, numbers)? {
+            return Ok(Some(numbers));
+        }
+    }
+    Ok(None)
+}
+
+// Whether a program is run by all plans, by its name.
+fn is_run_by_all(name: &str) -> bool {
+    if name.contains("_million_") {
+        return false;
+    }
+    let mut sum = 0u64;
+    for &byte in name.as_bytes() {
+        sum = sum.wrapping_add(u64::from(byte));
+    }
+    sum % 3 == 0
+}
+
+// Whether a source ends at END or by a STOP statement by the plan with these numbers, and writes what is wanted.
+fn writes<R: AllocGlobal + Threads + Wait + Sync>(
+    rt: &R,
+    source: &[u8],
+    wanted: &[u8],
+    numbers: Numbers,
+) -> bool {
+    let (workers, block, window) = numbers;
+    let Some(plan) = Plan::new(workers, block, window, TURNS) else {
+        return false;
+    };
+    let mut sink = Out::new(Vec::new(rt.alloc()));
+    let ending = run(rt, rt.alloc(), source, &plan, &mut sink, &Open);
     let records = sink.into_inner();
     match ending {
-        Ending::Ended | Ending::Stopped(_) => Some(records),
-        _ => None,
+        Ending::Ended | Ending::Stopped(_) => records.as_slice() == wanted,
+        _ => false,
     }
 }
 
-// Whether the example with a name writes what the file beside it holds.
-fn is_shown(rt: &HostRuntime, name: &str) -> io::Result<bool> {
+// The first of some plans by which the example with a name doesn't write what the file beside it holds, if there is one.
+fn not_shown_by<R: Files + AllocGlobal + Threads + Wait + Sync>(
+    rt: &R,
+    name: &str,
+    plans: &[Numbers],
+) -> io::Result<Option<Numbers>> {
     let source = fs::read(rt, format!(in rt.alloc(); "examples/{name}.f")?)?;
     let wanted = fs::read(rt, format!(in rt.alloc(); "examples/{name}.out")?)?;
-    match records_of(rt.alloc(), &source) {
-        Some(records) => Ok(records.as_slice() == wanted.as_slice()),
-        None => Ok(false),
+    for &numbers in plans {
+        if !writes(rt, &source, &wanted, numbers) {
+            return Ok(Some(numbers));
+        }
     }
+    Ok(None)
 }
 
-// How many programs of this folder come to what is wanted; the others are told.
-fn count_programs(rt: &HostRuntime) -> io::Result<u64> {
-    let mut count = 0u64;
+/// How many programs come to what is wanted by few plans, and how many by all.
+#[derive(Clone, Copy)]
+struct Counts {
+    by_few: u64,
+    by_all: u64,
+}
+
+// How many programs of this folder come to what is wanted; the others are told, with the plan.
+fn count_programs<R: Files + AllocGlobal + Threads + Wait + Sync + Print + Clone + Drop>(
+    rt: &R,
+) -> io::Result<Counts> {
+    let mut counts = Counts {
+        by_few: 0,
+        by_all: 0,
+    };
     for entry in fs::read_dir(rt, ".")? {
         let entry = entry?;
         if let Some(name) = entry.file_name().strip_suffix(".f") {
-            if agrees(rt, name)? {
-                count = count.saturating_add(1);
-            } else {
-                println!(rt; "{name}.f doesn't come to what stands in {name}.out")?;
+            let by_all = is_run_by_all(name);
+            match missed_by(rt, name, if by_all { ALL } else { FEW })? {
+                None if by_all => counts.by_all = counts.by_all.saturating_add(1),
+                None => counts.by_few = counts.by_few.saturating_add(1),
+                Some((workers, block, window)) => {
+                    println!(rt;
+                        "{name}.f doesn't come to what stands in {name}.out by the plan {workers} {block} {window}"
+                    )?;
+                }
             }
         }
     }
-    Ok(count)
+    Ok(counts)
 }
 
-// How many examples write what is wanted; the others are told.
-fn count_examples(rt: &HostRuntime) -> io::Result<u64> {
+// How many examples write what is wanted; the others are told, with the plan.
+fn count_examples<R: Files + AllocGlobal + Threads + Wait + Sync + Print + Clone + Drop>(
+    rt: &R,
+) -> io::Result<u64> {
     let mut count = 0u64;
     for entry in fs::read_dir(rt, "examples")? {
         let entry = entry?;
         if let Some(name) = entry.file_name().strip_suffix(".f") {
-            if is_shown(rt, name)? {
-                count = count.saturating_add(1);
-            } else {
-                println!(rt; "examples/{name}.f doesn't write what stands in {name}.out")?;
+            match not_shown_by(rt, name, FEW)? {
+                None => count = count.saturating_add(1),
+                Some((workers, block, window)) => {
+                    println!(rt;
+                        "examples/{name}.f doesn't write what stands in {name}.out by the plan {workers} {block} {window}"
+                    )?;
+                }
             }
         }
     }
@@ -124,8 +245,13 @@ fn count_examples(rt: &HostRuntime) -> io::Result<u64> {
 }
 
 fn main(rt: HostRuntime) -> io::Result<()> {
-    let count = count_programs(&rt)?;
-    println!(rt; "{count} programs come to what is wanted")?;
+    let counts = count_programs(&rt)?;
+    let both = counts.by_few.saturating_add(counts.by_all);
+    println!(rt; "{both} programs come to what is wanted")?;
+    println!(rt;
+        "{} of them by 32 plans each, {} by 2",
+        counts.by_all, counts.by_few
+    )?;
     let count = count_examples(&rt)?;
     println!(rt; "{count} examples write what another compiler's programs write")?;
     Ok(())
