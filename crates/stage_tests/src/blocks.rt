@@ -1,28 +1,11 @@
 //! Single blocks of DO statements, and where their first stages are cut. The figures are worked by hand.
 
-use crate::watching::{Seen, Watching, run_watched};
+use crate::row::{Row, check_row, run_row};
+use crate::seen::Seen;
 use meaning::ending::{Ending, Fault, FaultKind, Outcome};
-use std::alloc::Global;
-use std::process::Abort;
-use std::sync::Wait;
-use std::sync::atomic::AtomicU64;
-use std::test::*;
-use std::thread::Threads;
-
-/// A program, how its DO statement is cut into blocks, what comes of each, where the stage is cut, and how the program ends.
-struct Row {
-    source: &'static str,
-    turns: u64,
-    block: u64,
-    window: u32,
-    blocks: &'static [Seen],
-    cut: usize,
-    records: &'static str,
-    ending: Option<Fault>,
-}
 
 /// A copy through an array of subscripts: A has cells 0 to 7, K 8 to 15, I 16.
-const PERMUTED: &[Seen] = &[
+pub const PERMUTED: &[Seen] = &[
     Seen {
         exposed: &[8, 9],
         written: &[(16, 3), (2, 1), (0, 2)],
@@ -513,52 +496,27 @@ const ROWS: &[Row] = &[
     },
 ];
 
-/// The run of a row's program in which its blocks are looked at.
-fn looked<R: Abort + Threads + Wait + Sync>(rt: &R, alloc: Global, row: &Row) -> Result<(), Fail> {
-    let watching = Watching {
-        rt,
-        alloc,
-        block: row.block,
-        window: row.window,
-        blocks: row.blocks,
-        cut: row.cut,
-        looked: AtomicU64::new(0),
-    };
-    let (ending, written) = run_watched(&watching, row.source.as_bytes(), row.turns);
-    match (&ending, row.ending) {
-        (Ending::Ended, None) => {}
-        (Ending::Fault(fault), Some(wanted)) => assert!(rt; *fault == wanted, "{fault:?}"),
-        _ => assert!(rt; false, "{ending:?}"),
-    }
-    assert!(rt; watching.looked.into_inner() == 1);
-    assert!(rt; written.as_slice() == row.records.as_bytes());
-    Ok(())
-}
-
 #[test]
-fn blocks_and_cuts(rt: HostRuntime) -> Result<(), Fail> {
+fn blocks_and_cuts(rt: HostRuntime) {
     for row in ROWS {
-        looked(&rt, rt.alloc(), row)?;
+        check_row(&rt, rt.alloc(), row);
     }
-    Ok(())
 }
 
-/// STOP in a block: `IF (I.EQ.2) J=K` reads K in the second trip alone, and the third one stops.
+/// `IF (I.EQ.2) J=K` reads K in the second trip alone, and the third one stops.
+const STOPPED: Row = Row {
+    source: "      DO 10 I=1,3\n      IF (I.EQ.2) J=K\n   10 IF (I.EQ.3) STOP\n      END\n",
+    turns: 1000,
+    block: 1,
+    window: 8,
+    blocks: ONE_ARM,
+    cut: 3,
+    records: "",
+    ending: None,
+};
+
 #[test]
-fn stopped(rt: HostRuntime) -> Result<(), Fail> {
-    let watching = Watching {
-        rt: &rt,
-        alloc: rt.alloc(),
-        block: 1,
-        window: 8,
-        blocks: ONE_ARM,
-        cut: 3,
-        looked: AtomicU64::new(0),
-    };
-    let source = "      DO 10 I=1,3\n      IF (I.EQ.2) J=K\n   10 IF (I.EQ.3) STOP\n      END\n";
-    let (ending, written) = run_watched(&watching, source.as_bytes(), 1000);
+fn stopped(rt: HostRuntime) {
+    let ending = run_row(&rt, rt.alloc(), &STOPPED);
     assert!(rt; matches!(&ending, Ending::Stopped(_)), "{ending:?}");
-    assert!(rt; watching.looked.into_inner() == 1);
-    assert!(rt; written.is_empty());
-    Ok(())
 }

@@ -1,52 +1,47 @@
-//! Runs of a program in which the blocks of a DO statement's first stage are looked at, before it is executed.
+//! Runs of a program in which the first stage of each DO statement is looked at, before the statement is executed.
 
 ghost use Rattle.std.specs.Prelude.{◌≡◌, ◌≢◌, ◌-◌, ◌*◌, ◌<◌, pos, length};
 ghost use Rattle.checker.specs.Checked.{count_in};
 ghost use Rattle.programs.specs.Acts.{Repeats};
-ghost use Rattle.block_stage.specs.Jobs.{data_of, shape_in};
+ghost use Rattle.block_stage.specs.Jobs.{shape_in};
 ghost use Rattle.stage_loop.specs.Loops.{AreIntegers, IsQuietLoop};
 ghost use Rattle.executor.specs.Calls.{IsAsked, IsGiven};
 
+use crate::watch::{Watch, see};
 use array_store::Whole;
-use block_stage::{Job, JobKey, Lost, Open, cut, run_block, run_stage};
+use block_stage::Job;
 use evaluator::{count_of, limits_whole, loop_whole, repeat_in};
 use executor::run::run_by;
 use executor::{Out, Staged};
-use meaning::cell::Cell;
-use meaning::ending::{Ending, Outcome, Run};
+use meaning::ending::{Ending, Outcome};
 use meaning::syntax::Loop;
-use private_view::View;
 use programs::{Program, Repeat};
 use std::alloc::Global;
-use std::marker::Brand;
 use std::process::Abort;
 use std::sync::Wait;
 use std::sync::atomic::{AtomicU64, Ordering};
 use std::thread::Threads;
 
-/// What comes of a block by itself: the cells that it exposes, what it writes, how it ends and the turns that it uses.
-#[derive(Clone, Copy, Debug)]
-pub struct Seen {
-    pub exposed: &'static [usize],
-    pub written: &'static [(usize, i32)],
-    pub outcome: Outcome,
-    pub turns: u64,
+/// How a source ended whose DO statements were looked at, what it wrote, and how many of them were looked at.
+#[derive(Drop)]
+pub struct Watched {
+    pub ending: Ending,
+    pub written: Vec<u8>,
+    pub looked: u64,
 }
 
-/// Looks at the first stage of each DO statement, and executes it in order.
+// Looks at the first stage of each DO statement, and executes it in order.
 #[derive(Drop)]
-pub struct Watching<'a, R: Abort> {
-    pub rt: &'a R,
-    pub alloc: Global,
-    /// How many trips a block has, and how many blocks a stage at most.
-    pub block: u64,
-    pub window: u32,
-    /// What comes of each block.
-    pub blocks: &'a [Seen],
-    /// Where the stage is cut.
-    pub cut: usize,
-    /// How many DO statements were looked at.
-    pub looked: AtomicU64,
+struct Watching<'a, R: Abort> {
+    rt: &'a R,
+    alloc: Global,
+    // How many trips a block has, and how many blocks a stage at most.
+    block: u64,
+    window: u32,
+    // What is done with each stage.
+    watch: &'a Watch<'a>,
+    // How many DO statements were looked at.
+    looked: AtomicU64,
 }
 
 // The values of a DO statement's limits, how many trips it has, and the turns that are left for them.
@@ -56,77 +51,6 @@ struct Course {
     step: i32,
     trips: u64,
     turns: u64,
-}
-
-// Compares a view with what is wanted.
-fn compare<R: Abort>(rt: &R, view: &View<'_>, base: &Whole, target: &mut Whole, wanted: &Seen)
-    requires base { length view.now.base ≡ length base.now }
-    requires target { length target.old ≡ length base.now }
-{
-    view.apply_to(target);
-    for number in 0..base.cells().len() {
-        let is_exposed = wanted.exposed.contains(&number);
-        assert!(rt;
-            view.exposed().has(Cell(number)) == is_exposed,
-            "{number} {wanted:?}"
-        );
-        let mut value = None;
-        for &(cell, x) in wanted.written {
-            if cell == number {
-                value = Some(x);
-            }
-        }
-        assert!(rt;
-            view.written().has(Cell(number)) == value.is_some(),
-            "{number} {wanted:?}"
-        );
-        if let Some(x) = value {
-            assert!(rt;
-                target.cells().get(number) == Some(&x),
-                "{number} {wanted:?}"
-            );
-        }
-    }
-}
-
-// Runs each block of a job by itself, and compares it with what is wanted.
-fn inspect<J: JobKey, R: Abort>(
-    watching: &Watching<'_, R>,
-    job: &Job<'_>,
-    base: &Whole,
-    blocks: u32,
-)
-    requires key { data_of job.now ≡ J.job }
-    requires blocks { blocks ≡ job.now.blocks }
-    requires base { base.now ≡ job.now.base }
-{
-    let rt = watching.rt;
-    assert!(rt; watching.blocks.len() == blocks as usize, "{blocks}");
-    for block in 0..blocks {
-        let wanted = &watching.blocks[block as usize];
-        let mut target = Whole::new(watching.alloc, base.cells()).expect(rt, "memory");
-        match run_block::<J, Open>(watching.alloc, job, block, &Open) {
-            Ok(run) => {
-                assert!(rt; run.block() == block);
-                let Run {
-                    outcome,
-                    turns_used,
-                } = run.run();
-                assert!(rt; outcome == wanted.outcome, "{outcome:?} {wanted:?}");
-                assert!(rt; turns_used == wanted.turns, "{turns_used} {wanted:?}");
-                compare(rt, run.view(), base, &mut target, wanted);
-            }
-            Err(Lost) => assert!(rt; false, "lost {block}"),
-        }
-    }
-}
-
-// Where the stage of a job is cut, run by four workers.
-fn cut_of<R: Abort + Threads + Wait + Sync>(rt: &R, alloc: Global, job: &Job<'_>) -> usize {
-    match run_stage(rt, alloc, job, 4, &Open) {
-        Some(posted) => cut(&posted),
-        None => 0,
-    }
 }
 
 // How many blocks a stage has.
@@ -173,14 +97,40 @@ fn look_at<R: Abort + Threads + Wait + Sync>(
         blocks,
         course.turns,
     );
-    inspect::<Brand, R>(watching, &job, base, blocks);
-    let place = cut_of(rt, watching.alloc, &job);
-    assert!(rt; place == watching.cut, "{place}");
+    see(rt, watching.alloc, &job, blocks, base, watching.watch);
     let _ = watching.looked.fetch_add(1, Ordering::SeqCst);
 }
 
-// Looks at the first stage of a DO statement before it is executed.
+// Looks at the first stage of a DO statement over cells that may change.
 fn look<R: Abort + Threads + Wait + Sync>(
+    watching: &Watching<'_, R>,
+    program: &Program,
+    repeated: &Loop,
+    repeat: &Repeat,
+    base: &mut Whole,
+    turns: u64,
+)
+    requires asked { IsAsked program.now repeated.now base.old }
+    requires repeats { Repeats program.now repeat.now (shape_in repeated.now) }
+{
+    let rt = watching.rt;
+    assert!(rt; turns > 0);
+    match limits_whole(program, repeat, base) {
+        Ok(span) => {
+            let course = Course {
+                first: span.first,
+                step: span.step,
+                trips: count_of(span),
+                turns: turns - 1,
+            };
+            look_at(watching, program, repeated, base, course);
+        }
+        Err(_) => {}
+    }
+}
+
+// Looks at the first stage of a DO statement over a copy of the cells, if memory for it is granted.
+fn look_aside<R: Abort + Threads + Wait + Sync>(
     watching: &Watching<'_, R>,
     program: &Program,
     repeated: &Loop,
@@ -191,18 +141,10 @@ fn look<R: Abort + Threads + Wait + Sync>(
     requires asked { IsAsked program.now repeated.now cells.now }
     requires repeats { Repeats program.now repeat.now (shape_in repeated.now) }
 {
-    let rt = watching.rt;
-    assert!(rt; turns > 0);
-    let mut base = Whole::new(watching.alloc, cells.cells()).expect(rt, "memory");
-    match limits_whole(program, repeat, &mut base) {
-        Ok(span) => {
-            let course = Course {
-                first: span.first,
-                step: span.step,
-                trips: count_of(span),
-                turns: turns - 1,
-            };
-            look_at(watching, program, repeated, &base, course);
+    match Whole::new(watching.alloc, cells.cells()) {
+        Ok(base) => {
+            let mut base = base;
+            look(watching, program, repeated, repeat, &mut base, turns);
         }
         Err(_) => {}
     }
@@ -220,14 +162,14 @@ fn look_and_run<R: Abort + Threads + Wait + Sync>(
     ensures { IsGiven program.now repeated.now cells.old cells.new turns.old turns.new result }
 {
     match repeat_in(program, &repeated.head) {
-        Some(repeat) => look(watching, program, repeated, repeat, cells, *turns),
+        Some(repeat) => look_aside(watching, program, repeated, repeat, cells, *turns),
         None => {}
     }
     loop_whole(program, repeated, cells, turns)
 }
 
-/// The run of a source whose DO statements are looked at: its ending, and what it writes.
-pub fn run_watched<R: Abort + Threads + Wait + Sync>(
+// How a source ends whose DO statements are looked at, and what it writes.
+fn run<R: Abort + Threads + Wait + Sync>(
     watching: &Watching<'_, R>,
     source: &[u8],
     turns: u64,
@@ -241,4 +183,30 @@ pub fn run_watched<R: Abort + Threads + Wait + Sync>(
     let mut sink = Out::new(Vec::new(watching.alloc));
     let ending = run_by(watching.alloc, &staged, source, turns, &mut sink);
     (ending, sink.into_inner())
+}
+
+/// The run of a source whose DO statements are looked at, each in blocks of so many trips, of which a stage has so many at most.
+pub fn run_watched<R: Abort + Threads + Wait + Sync>(
+    rt: &R,
+    alloc: Global,
+    watch: &Watch<'_>,
+    block: u64,
+    window: u32,
+    source: &[u8],
+    turns: u64,
+) -> Watched {
+    let watching = Watching {
+        rt,
+        alloc,
+        block,
+        window,
+        watch,
+        looked: AtomicU64::new(0),
+    };
+    let (ending, written) = run(&watching, source, turns);
+    Watched {
+        ending,
+        written,
+        looked: watching.looked.load(Ordering::SeqCst),
+    }
 }

@@ -97,6 +97,32 @@ fn story(rt: HostRuntime) -> Result<(), Fail> {
     Ok(())
 }
 
+/// Cells 1 and 2 are written; the value that cell 1 has in the base is read before, and nothing is read of cell 0.
+const SHORT_STORY: &[Step] = &[
+    Reads(1, 6),
+    Writes(1, 9),
+    Reads(1, 9),
+    Writes(2, 4),
+    Reads(2, 4),
+];
+
+#[test]
+fn short_story(rt: HostRuntime) -> Result<(), Fail> {
+    let base = Whole::new(rt.alloc(), &[5, 6, 7])?;
+    let mut target = Whole::new(rt.alloc(), &[0, 0, 0])?;
+    let mut view = View::new(rt.alloc(), &base);
+    play(&rt, &mut view, 3, SHORT_STORY)?;
+    has_exactly(&rt, view.exposed(), 3, &[1]);
+    has_exactly(&rt, view.written(), 3, &[1, 2]);
+    let mut numbers = Vec::new(rt.alloc());
+    view.add_written(&mut numbers)?;
+    assert!(rt; numbers.as_slice() == [1_usize, 2].as_slice());
+    view.apply(&mut target);
+    assert!(rt; target.cells() == [0, 9, 4].as_slice());
+    assert!(rt; base.cells() == [5, 6, 7].as_slice());
+    Ok(())
+}
+
 // A whole store gives the same values.
 #[test]
 fn story_of_a_whole_store(rt: HostRuntime) -> Result<(), Fail> {
