@@ -6,7 +6,11 @@ mod arrays;
 #[cfg(test)]
 mod control;
 #[cfg(test)]
+mod exits;
+#[cfg(test)]
 mod grammar;
+#[cfg(test)]
+mod limits;
 #[cfg(test)]
 mod lists;
 #[cfg(test)]
@@ -23,5 +27,7 @@ mod sizes;
 mod sources;
 #[cfg(test)]
 mod stages;
+#[cfg(test)]
+mod stale;
 #[cfg(test)]
 mod turns;

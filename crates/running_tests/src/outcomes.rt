@@ -88,6 +88,51 @@ pub fn outcome_by_stages<R: Threads + Wait + Sync>(
     (ending, bytes)
 }
 
+/// Plans: each number of workers with each number of trips in a block and each number of blocks at a time.
+#[derive(Clone, Copy)]
+pub struct Plans {
+    pub workers: &'static [u64],
+    pub blocks: &'static [u64],
+    pub windows: &'static [u64],
+}
+
+/// Compares the ending of a source by a plan, and the records that it writes.
+fn comes_to_by_one<R: Abort + Threads + Wait + Sync>(
+    rt: &R,
+    alloc: Global,
+    plan: &Plan,
+    source: &str,
+    want: &Ending,
+    records: &str,
+) {
+    let (ending, bytes) = outcome_by_stages(rt, alloc, source.as_bytes(), plan);
+    assert!(rt; ending == *want, "{plan:?}: {source}");
+    assert!(rt;
+        bytes.as_slice() == records.as_bytes(),
+        "{plan:?}: {source}"
+    );
+}
+
+/// Compares the ending of a source by each of these plans with so many turns, and the records that it writes.
+pub fn comes_to_by<R: Abort + Threads + Wait + Sync>(
+    rt: &R,
+    alloc: Global,
+    plans: Plans,
+    source: &str,
+    turns: u64,
+    want: &Ending,
+    records: &str,
+) {
+    for &workers in plans.workers {
+        for &block in plans.blocks {
+            for &window in plans.windows {
+                let plan = Plan::new(workers, block, window, turns).expect(rt, "a plan");
+                comes_to_by_one(rt, alloc, &plan, source, want, records);
+            }
+        }
+    }
+}
+
 /// The ending of a source with so many turns, and the bytes that it writes into a writer with room.
 pub fn outcome(rt: &impl Abort, alloc: Global, source: &[u8], turns: u64) -> (Ending, Vec<u8>) {
     outcome_by(alloc, source, &plan_with(rt, turns))

@@ -1,43 +1,14 @@
 //! Plans: whatever the workers, the blocks and the window, a source comes to what its statements do one after another.
 
-use crate::outcomes::{MANY, all_end, end_or_stop, outcome_by_stages};
+use crate::outcomes::{MANY, Plans, all_end, comes_to_by, end_or_stop};
 use meaning::ending::{Ending, Fault, FaultKind};
 use meaning::plan::Plan;
-use std::alloc::Global;
-use std::process::Abort;
-use std::sync::Wait;
-use std::thread::Threads;
 
-/// How many workers, how many trips in a block, and how many blocks at a time.
-const WORKERS: &[u64] = &[1, 2, 3, 4, 8, 64];
-
-const BLOCKS: &[u64] = &[1, 2, 7, 64, 1_000_000];
-
-const WINDOWS: &[u64] = &[1, 8, 16, 256];
-
-/// Compares the ending of a source by each of these plans, and the records that it writes.
-fn comes_to_by_all<R: Abort + Threads + Wait + Sync>(
-    rt: &R,
-    alloc: Global,
-    source: &str,
-    turns: u64,
-    want: &Ending,
-    records: &str,
-) {
-    for &workers in WORKERS {
-        for &block in BLOCKS {
-            for &window in WINDOWS {
-                let plan = Plan::new(workers, block, window, turns).expect(rt, "a plan");
-                let (ending, bytes) = outcome_by_stages(rt, alloc, source.as_bytes(), &plan);
-                assert!(rt; ending == *want, "{plan:?}: {source}");
-                assert!(rt;
-                    bytes.as_slice() == records.as_bytes(),
-                    "{plan:?}: {source}"
-                );
-            }
-        }
-    }
-}
+const ALL: Plans = Plans {
+    workers: &[1, 2, 3, 4, 8, 64],
+    blocks: &[1, 2, 7, 64, 1_000_000],
+    windows: &[1, 8, 16, 256],
+};
 
 /// Sources that end, and their records.
 const RUN: &[(&str, &str)] = &[
@@ -130,14 +101,66 @@ const STOPPED: &str =
 fn answers_by_all_plans(rt: HostRuntime) {
     all_end(&rt, rt.alloc(), RUN);
     for &(source, records) in RUN {
-        comes_to_by_all(&rt, rt.alloc(), source, MANY, &Ending::Ended, records);
+        comes_to_by(&rt, rt.alloc(), ALL, source, MANY, &Ending::Ended, records);
     }
     for &(source, turns, kind, line, records) in FAULTY {
         let want = Ending::Fault(Fault { kind, line });
-        comes_to_by_all(&rt, rt.alloc(), source, turns, &want, records);
+        comes_to_by(&rt, rt.alloc(), ALL, source, turns, &want, records);
     }
     let told = end_or_stop(&rt, rt.alloc(), Some("FOURTH"));
-    comes_to_by_all(&rt, rt.alloc(), STOPPED, MANY, &told, "");
+    comes_to_by(&rt, rt.alloc(), ALL, STOPPED, MANY, &told, "");
+}
+
+/// Sources whose limits are evaluated once, whatever the range changes, and their records.
+const LIMITS_ONCE: &[(&str, &str)] = &[
+    // the first value, the last one and the step change in the range
+    (
+        "      M=1\n      N=9\n      L=2\n      DO 10 I=M,N,L\n      M=5\n      N=N+I\n   10 L=L+1\n      WRITE (6,20) I,M,N,L\n   20 FORMAT (4I3)\n      END\n",
+        " 11  5 34  7\n",
+    ),
+    // the limits have the DO variable
+    (
+        "      I=3\n      DO 10 I=I,I+4\n   10 K=K+I\n      WRITE (6,20) I,K\n   20 FORMAT (2I3)\n      END\n",
+        "  8 25\n",
+    ),
+    // elements that the range sets
+    (
+        "      INTEGER A(9)\n      DATA A/1,9,7*0/\n      DO 10 I=A(1),A(2)\n   10 A(I)=I+10\n      WRITE (6,20) I,A\n   20 FORMAT (10I3)\n      END\n",
+        " 10 11 12 13 14 15 16 17 18 19\n",
+    ),
+    // no trip
+    (
+        "      DO 10 I=7,3\n   10 K=1\n      WRITE (6,20) I,K\n   20 FORMAT (2I3)\n      END\n",
+        "  7  0\n",
+    ),
+    // limits of a range in the range change there
+    (
+        "      INTEGER A(7)\n      DO 20 I=1,7\n      N=I\n      DO 10 J=1,N\n      N=0\n   10 A(I)=A(I)+J\n   20 CONTINUE\n      WRITE (6,30) I,J,N,A\n   30 FORMAT (10I3)\n      END\n",
+        "  8  8  0  1  3  6 10 15 21 28\n",
+    ),
+    // the limit is the DO variable of a range in the range
+    (
+        "      N=4\n      DO 20 I=1,N\n      DO 10 N=1,I\n   10 K=K+1\n   20 CONTINUE\n      WRITE (6,30) I,K,N\n   30 FORMAT (3I3)\n      END\n",
+        "  5 10  5\n",
+    ),
+    // the variable of a range in the range is read before it is set in each trip
+    (
+        "      INTEGER A(6)\n      DO 20 I=1,6\n      A(I)=J\n      DO 10 J=1,I\n   10 CONTINUE\n   20 CONTINUE\n      WRITE (6,30) I,J,A\n   30 FORMAT (8I3)\n      END\n",
+        "  7  7  0  2  3  4  5  6\n",
+    ),
+];
+
+const SOME: Plans = Plans {
+    workers: &[1, 2, 4],
+    blocks: &[1, 2, 7, 64],
+    windows: &[1, 8],
+};
+
+#[test]
+fn limits_are_evaluated_once(rt: HostRuntime) {
+    for &(source, records) in LIMITS_ONCE {
+        comes_to_by(&rt, rt.alloc(), SOME, source, MANY, &Ending::Ended, records);
+    }
 }
 
 /// Numbers of a plan, and whether each is in its range.
