@@ -115,7 +115,7 @@ fn posted_by<'a, R: Abort>(
     posted_in::<Brand, R>(rt, alloc, job, blocks, steps)
 }
 
-/// The steps of a stage, what the board tells of them, where it is cut, and the states behind its blocks.
+/// The steps of a stage, what the board tells of them, and where it is cut.
 #[derive(Clone, Copy)]
 pub struct ByHand {
     steps: &'static [Step],

@@ -40,7 +40,7 @@ const NO_TURN_5: Fault = Fault {
     line: 5,
 };
 
-/// A has cells 0 to 2, I 3. The first trip, whose I is 0, misses A and has no second behind it; trips 3 and 4 set A(2) and A(3).
+/// A has cells 0 to 2, I 3. The first trip misses A by its I, which is 0, and ends its block; trips 3 and 4 set A(2) and A(3).
 const FIRST_TRIP: &[Seen] = &[
     Seen {
         exposed: &[],

@@ -1,4 +1,4 @@
-use Rattle.std.proofs.Common.{◌≡◌, ◌<◌, pos, ◌+ℤ◌, ◌*ℤ◌, FitsSigned, rules, sym, subst, to_z, of_z}
+use Rattle.std.proofs.Common.{◌<◌, pos, ◌+ℤ◌, ◌*ℤ◌, FitsSigned, rules, sym, subst}
 use Rattle.std.specs.Int.{w32}
 use Rattle.std.proofs.lemmas.Int.{to_z-of_z}
 use Rattle.stage_loop.proofs.Values.{each_fits}
