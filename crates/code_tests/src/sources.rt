@@ -1,12 +1,7 @@
 //! Programs from the texts of their statements.
 
-use lexer::bare;
-use meaning::statement::Statement;
-use meaning::syntax::Item;
-use nesting::tree;
-use parser::form;
-use programs::{Program, check};
-use source_columns::statements;
+use programs::Program;
+use reading::program_in;
 use std::alloc::{AllocError, Global};
 use std::process::Abort;
 
@@ -40,27 +35,8 @@ pub fn source_of(alloc: Global, texts: &[&[u8]]) -> Result<Vec<u8>, AllocError> 
     Ok(source)
 }
 
-/// What a statement says, in its place.
-fn item_of(rt: &impl Abort, alloc: Global, statement: &Statement) -> Item {
-    let text = bare(alloc, statement).expect(rt, "memory");
-    let form = form(alloc, &text).expect(rt, "a form");
-    Item {
-        line: statement.line,
-        label: statement.label,
-        form,
-    }
-}
-
 /// The program of statements, each of which begins on the line behind the one before.
 pub fn program_of(rt: &impl Abort, alloc: Global, texts: &[&[u8]]) -> Program {
     let source = source_of(alloc, texts).expect(rt, "memory");
-    let found = statements(alloc, &source).expect(rt, "statements");
-    let mut items = Vec::new(alloc);
-    for statement in &found {
-        items
-            .push(item_of(rt, alloc, statement))
-            .expect(rt, "memory");
-    }
-    let unit = tree(alloc, items).expect(rt, "a program unit");
-    check(alloc, unit).expect(rt, "no broken rule")
+    program_in(alloc, &source).expect(rt, "a program that breaks no rule")
 }

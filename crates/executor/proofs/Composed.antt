@@ -22,7 +22,7 @@ use Rattle.evaluator.proofs.Looped.{from_place, behind_place, at_place, at_end_o
 use Rattle.executor.specs.declared.halt.Halt.{Halt}
 use Rattle.executor.specs.declared.halt.Halt.TheVariants as halts
 use Rattle.executor.specs.Walk.{IsLeft, IsOver, Halts, Runs, Steps, SoFar, Ends}
-use Rattle.executor.proofs.Taken.{Took-none, Took-then, Took-refused}
+use Rattle.record_sinks.proofs.Taken.{Took-none, Took-then, Took-refused}
 
 pub concat-append : (xs ys : List (List ℕ)) → concat (xs ++ ys) ≡ concat xs ++ concat ys
 concat-append [] ys = refl

@@ -14,7 +14,7 @@ use Rattle.meaning.specs.Answers.{answer, answer_of, program_of, run_of, ending_
 use Rattle.meaning.specs.Promise.{Told, IsFront, IsBroken, Keeps, whole, cut_short, broken_off}
 use Rattle.executor.specs.Walk.{HasEnded}
 use Rattle.evaluator.specs.Statements.{outcome_of}
-use Rattle.executor.proofs.Taken.{Took-none}
+use Rattle.record_sinks.proofs.Taken.{Took-none}
 
 -- the answer of a source, once its program is known
 pub answer_is : (source : List ℕ) (limit : ℕ) (p : Result Nested Broken) → program_of source ≡ p → answer source limit ≡ answer_of p limit

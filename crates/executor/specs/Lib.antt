@@ -1,4 +1,3 @@
-pub mod Puts
 pub mod Walk
 pub mod Recorded
 pub mod Located

@@ -3,15 +3,13 @@
 
 mod halt;
 mod quiet_loops;
-mod reading;
 pub mod run;
-mod sink;
 mod staged;
 mod statement;
 mod stopping;
 mod walk;
 
-pub use block_stage::{Gate, Open};
 pub use quiet_loops::{InOrder, QuietLoops};
-pub use sink::{Out, Refused, Sink, put_all};
+pub use record_sinks::{Out, Refused, Sink, put_all};
+pub use stage_loop::{Gate, Open};
 pub use staged::Staged;

@@ -22,7 +22,6 @@ ghost use Rattle.executor.specs.Conditions.{AreSomeParts};
 ghost use Rattle.executor.specs.Recorded.{AreEdited, AreRecorded, recorded};
 
 use crate::halt::Halt;
-use crate::sink::{Sink, put_all};
 use array_store::Whole;
 use evaluator::{item_whole, list_whole, logical_if_of, take_turn};
 use expressions::as_logical;
@@ -32,6 +31,7 @@ use meaning::ending::{Fault, FaultKind, Outcome, Value};
 use meaning::syntax::{Expr, FormatSource, Item, ListItems, Shape};
 use postfix::Code;
 use programs::{Action, ListCodes, Program};
+use record_sinks::{Sink, put_all};
 use std::alloc::{AllocError, Global};
 use values::value;
 

@@ -1,8 +1,8 @@
 //! Loops by stages that a trip leaves: by a transfer of control, by STOP, or by a fault, wherever in its block the trip stands.
 
-use crate::outcomes::{MANY, Plans, comes_to_by, end_or_stop};
+use crate::outcomes::{MANY, Plans, all_end_by, comes_to_by, end_or_stop};
 use meaning::ending::{Ending, Fault, FaultKind};
-use std::alloc::Global;
+use std::alloc::{AllocError, Global};
 use std::process::Abort;
 use std::sync::Wait;
 use std::thread::Threads;
@@ -85,17 +85,7 @@ const LEFT: &[(&str, &str)] = &[
 
 #[test]
 fn left_in_a_trip(rt: HostRuntime) {
-    for &(source, records) in LEFT {
-        comes_to_by(
-            &rt,
-            rt.alloc(),
-            PLACES,
-            source,
-            MANY,
-            &Ending::Ended,
-            records,
-        );
-    }
+    all_end_by(&rt, rt.alloc(), PLACES, LEFT);
 }
 
 /// Sources with a range in a range or in an arm, which is left, and their records.
@@ -144,17 +134,7 @@ const NESTED: &[(&str, &str)] = &[
 
 #[test]
 fn left_from_within(rt: HostRuntime) {
-    for &(source, records) in NESTED {
-        comes_to_by(
-            &rt,
-            rt.alloc(),
-            PLACES,
-            source,
-            MANY,
-            &Ending::Ended,
-            records,
-        );
-    }
+    all_end_by(&rt, rt.alloc(), PLACES, NESTED);
 }
 
 /// Sources that stop in a trip, what is told, and the records before.
@@ -220,21 +200,23 @@ const WAYS: &[&str] = &[
 ];
 
 /// A loop of 12 trips that is left in one of them, if it has it, and then tells I and how many trips were executed.
-fn leaves_in<R: Abort + Threads + Wait + Sync>(rt: &R, alloc: Global, way: &str, trip: u32) {
-    let source = format!(in alloc;
+fn leaving_in(alloc: Global, way: &str, trip: u32) -> Result<String, AllocError> {
+    format!(in alloc;
         "      INTEGER A(12)\n      DATA N/{trip}/\n      DO 10 I=1,12\n      A(I)=1\n{way}\n   10 CONTINUE\n   20 DO 30 J=1,12\n   30 K=K+A(J)\n      WRITE (6,40) I,K\n   40 FORMAT (2I3)\n      END\n"
-    ).expect(rt, "memory");
+    )
+}
+
+/// The record of a loop that is left in this trip.
+fn left_in(alloc: Global, trip: u32) -> Result<String, AllocError> {
     let executed = trip.min(12);
-    let records = format!(in alloc; "{trip:3}{executed:3}\n").expect(rt, "memory");
-    comes_to_by(
-        rt,
-        alloc,
-        SOME,
-        source.as_str(),
-        MANY,
-        &Ending::Ended,
-        records.as_str(),
-    );
+    format!(in alloc; "{trip:3}{executed:3}\n")
+}
+
+/// Leaves the loop in a trip.
+fn leaves_in<R: Abort + Threads + Wait + Sync>(rt: &R, alloc: Global, way: &str, trip: u32) {
+    let source = leaving_in(alloc, way, trip).expect(rt, "memory");
+    let records = left_in(alloc, trip).expect(rt, "memory");
+    comes_to_by(rt, alloc, SOME, &source, MANY, &Ending::Ended, &records);
 }
 
 #[test]
@@ -246,27 +228,36 @@ fn left_in_each_trip(rt: HostRuntime) {
     }
 }
 
-/// Trip N tells 1; the next one would tell 2.
-#[test]
-fn stopped_in_each_trip(rt: HostRuntime) {
-    let told = end_or_stop(&rt, rt.alloc(), Some("1"));
+/// A loop behind the statement that gives N its value. Compares its ending for each trip as N; there are no records.
+fn ends_in_each_trip<R: Abort + Threads + Wait + Sync>(
+    rt: &R,
+    alloc: Global,
+    loop_by_n: &str,
+    want: &Ending,
+) {
     for trip in 1..13 {
-        let source = format!(in rt.alloc();
-            "      DATA N/{trip}/\n      DO 10 I=1,12\n      IF (I.EQ.N+1) STOP 2\n   10 IF (I.EQ.N) STOP 1\n      END\n"
-        ).expect(&rt, "memory");
-        comes_to_by(&rt, rt.alloc(), SOME, source.as_str(), MANY, &told, "");
+        let source = format!(in alloc; "      DATA N/{trip}/\n{loop_by_n}").expect(rt, "memory");
+        comes_to_by(rt, alloc, SOME, &source, MANY, want, "");
     }
 }
 
+/// Trip N tells 1; the next one would tell 2.
+const STOPS_IN_TRIP: &str =
+    "      DO 10 I=1,12\n      IF (I.EQ.N+1) STOP 2\n   10 IF (I.EQ.N) STOP 1\n      END\n";
+
+#[test]
+fn stopped_in_each_trip(rt: HostRuntime) {
+    let told = end_or_stop(&rt, rt.alloc(), Some("1"));
+    ends_in_each_trip(&rt, rt.alloc(), STOPS_IN_TRIP, &told);
+}
+
 /// Trip N divides by zero; the next one would raise zero to the power of zero, further up.
+const FAULTS_IN_TRIP: &str =
+    "      DO 10 I=1,12\n      IF (I.EQ.N+1) K=0**L\n   10 J=12/(N-I)\n      END\n";
+
 #[test]
 fn fault_in_each_trip(rt: HostRuntime) {
     let kind = FaultKind::F1;
     let want = Ending::Fault(Fault { kind, line: 4 });
-    for trip in 1..13 {
-        let source = format!(in rt.alloc();
-            "      DATA N/{trip}/\n      DO 10 I=1,12\n      IF (I.EQ.N+1) K=0**L\n   10 J=12/(N-I)\n      END\n"
-        ).expect(&rt, "memory");
-        comes_to_by(&rt, rt.alloc(), SOME, source.as_str(), MANY, &want, "");
-    }
+    ends_in_each_trip(&rt, rt.alloc(), FAULTS_IN_TRIP, &want);
 }

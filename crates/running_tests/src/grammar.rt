@@ -1,6 +1,6 @@
 //! The whole grammar, from source bytes: what is run, what is refused, and where a statement may be cut.
 
-use crate::outcomes::{MANY, end_or_stop, outcome};
+use crate::outcomes::{MANY, comes_to, end_or_stop, outcome};
 use meaning::ending::{Ending, Fault, FaultKind};
 use meaning::refusal::Rule;
 use std::alloc::{AllocError, Global};
@@ -8,21 +8,20 @@ use std::process::Abort;
 use std::test::*;
 
 /// The source of statements, each on a line of its own from column 1 on, and END.
-fn source_of(alloc: Global, lines: &[&str]) -> Result<Vec<u8>, AllocError> {
-    let mut source = Vec::new(alloc);
+fn source_of(alloc: Global, lines: &[&str]) -> Result<String, AllocError> {
+    let mut source = String::new(alloc);
     for line in lines {
-        source.extend_from_slice(line.as_bytes())?;
-        source.push(b'\n')?;
+        source.push_str(line)?;
+        source.push_str("\n")?;
     }
-    source.extend_from_slice(b"      END\n")?;
+    source.push_str("      END\n")?;
     Ok(source)
 }
 
-/// Runs statements and END, and compares the ending.
-fn ends(rt: &impl Abort, alloc: Global, lines: &[&str], want: Ending) {
+/// Runs statements and END, and compares the ending and the records.
+fn ends(rt: &impl Abort, alloc: Global, lines: &[&str], want: &Ending, records: &str) {
     let source = source_of(alloc, lines).expect(rt, "memory");
-    let (ending, _) = outcome(rt, alloc, &source, MANY);
-    assert!(rt; ending == want, "{lines:?}");
+    comes_to(rt, alloc, &source, want, records);
 }
 
 /// Statements that are run, and their records.
@@ -181,10 +180,7 @@ const RUN: &[(&[&str], &str)] = &[
 #[test]
 fn statements_that_are_run(rt: HostRuntime) {
     for &(lines, records) in RUN {
-        let source = source_of(rt.alloc(), lines).expect(&rt, "memory");
-        let (ending, bytes) = outcome(&rt, rt.alloc(), &source, MANY);
-        assert!(rt; ending == Ending::Ended, "{lines:?}");
-        assert!(rt; bytes.as_slice() == records.as_bytes(), "{lines:?}");
+        ends(&rt, rt.alloc(), lines, &Ending::Ended, records);
     }
 }
 
@@ -218,7 +214,8 @@ const FAULTY: &[(&[&str], FaultKind, u32)] = &[
 #[test]
 fn operators_and_formats_that_fault(rt: HostRuntime) {
     for &(lines, kind, line) in FAULTY {
-        ends(&rt, rt.alloc(), lines, Ending::Fault(Fault { kind, line }));
+        let want = Ending::Fault(Fault { kind, line });
+        ends(&rt, rt.alloc(), lines, &want, "");
     }
 }
 
@@ -243,7 +240,7 @@ fn statements_that_transfer_control(rt: HostRuntime) {
     for &(statement, message) in TRANSFERS {
         let lines = ["      I=1", statement, "   10 CONTINUE"];
         let want = end_or_stop(&rt, rt.alloc(), message);
-        ends(&rt, rt.alloc(), &lines, want);
+        ends(&rt, rt.alloc(), &lines, &want, "");
     }
 }
 
@@ -262,7 +259,7 @@ const MISSED: &[(&str, Rule)] = &[
 fn statements_that_miss_what_they_name(rt: HostRuntime) {
     for &(statement, rule) in MISSED {
         let lines = ["      I=1", statement, "   10 CONTINUE"];
-        ends(&rt, rt.alloc(), &lines, Ending::Refused(rule, 2));
+        ends(&rt, rt.alloc(), &lines, &Ending::Refused(rule, 2), "");
     }
 }
 
@@ -309,17 +306,12 @@ const REFUSED: &[(&[&str], Rule, u32)] = &[
 #[test]
 fn statements_that_are_refused(rt: HostRuntime) {
     for &(lines, rule, line) in REFUSED {
-        ends(&rt, rt.alloc(), lines, Ending::Refused(rule, line));
+        ends(&rt, rt.alloc(), lines, &Ending::Refused(rule, line), "");
     }
 }
 
-/// The ending of a statement that is cut in two, or whole where nothing is left behind the cut.
-fn cut_at(
-    rt: &impl Abort,
-    alloc: Global,
-    statement: &str,
-    place: usize,
-) -> Result<Ending, AllocError> {
+/// The source of a statement that is cut in two, or whole where nothing is left behind the cut.
+fn cut_at(alloc: Global, statement: &str, place: usize) -> Result<Vec<u8>, AllocError> {
     let text = statement.as_bytes();
     let mut source = Vec::from_slice(alloc, text.get(..place).unwrap_or(text))?;
     if let Some(rest) = text.get(place..) {
@@ -327,16 +319,22 @@ fn cut_at(
         source.extend_from_slice(rest)?;
     }
     source.extend_from_slice(b"\n   10 CONTINUE\n      END\n")?;
+    Ok(source)
+}
+
+/// The ending of a statement that is cut in two.
+fn ending_of_cut(rt: &impl Abort, alloc: Global, statement: &str, place: usize) -> Ending {
+    let source = cut_at(alloc, statement, place).expect(rt, "memory");
     let (ending, _) = outcome(rt, alloc, &source, MANY);
-    Ok(ending)
+    ending
 }
 
 /// Where a statement without apostrophes is cut into lines has no meaning.
 fn cut_everywhere(rt: &impl Abort, alloc: Global, statement: &str) {
-    let whole = cut_at(rt, alloc, statement, usize::MAX).expect(rt, "memory");
+    let whole = ending_of_cut(rt, alloc, statement, usize::MAX);
     for place in 7..statement.len() {
-        let cut = cut_at(rt, alloc, statement, place).expect(rt, "memory");
-        assert!(rt; cut == whole, "{statement} at {place}");
+        let same = ending_of_cut(rt, alloc, statement, place) == whole;
+        assert!(rt; same, "{statement} at {place}");
     }
 }
 
@@ -411,18 +409,21 @@ const WHOLE: &[&str] = &[
     "      IF (I.EQ.1) GO TO 10\n     1\n   10 PRINT '(''A'')', (I,I=1,2)\n      STOP\n      END\n",
 ];
 
-/// A source with one byte changed is refused or run, whatever it says then.
+/// Whether a source with one byte changed is refused or run, whatever it says then.
+fn is_answered(rt: &impl Abort, alloc: Global, text: &str, place: usize, byte: u8) -> bool {
+    let mut source = Vec::from_slice(alloc, text.as_bytes()).expect(rt, "memory");
+    if let Some(here) = source.get_mut(place) {
+        *here = byte;
+    }
+    let (ending, _) = outcome(rt, alloc, &source, 1000);
+    ending != Ending::Memory && ending != Ending::WriteRefused
+}
+
+/// Changes each byte of a source.
 fn changed_everywhere(rt: &impl Abort, alloc: Global, text: &str, byte: u8) {
     for place in 0..text.len() {
-        let mut source = Vec::from_slice(alloc, text.as_bytes()).expect(rt, "memory");
-        if let Some(here) = source.get_mut(place) {
-            *here = byte;
-        }
-        let (ending, _) = outcome(rt, alloc, &source, 1000);
-        assert!(rt;
-            ending != Ending::Memory && ending != Ending::WriteRefused,
-            "{place}"
-        );
+        let answered = is_answered(rt, alloc, text, place, byte);
+        assert!(rt; answered, "{place}");
     }
 }
 

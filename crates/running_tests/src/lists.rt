@@ -1,8 +1,10 @@
 //! Implied DO lists in WRITE and PRINT statements, from source bytes to written bytes.
 
-use crate::outcomes::{MANY, all_end, all_fault, all_refused, outcome};
+use crate::outcomes::{MANY, all_end, all_fault, all_refused, comes_to, outcome};
 use meaning::ending::{Ending, Fault, FaultKind};
 use meaning::refusal::Rule;
+use std::alloc::Global;
+use std::process::Abort;
 
 /// Sources that end, and their records.
 const RUN: &[(&str, &str)] = &[
@@ -241,16 +243,24 @@ fn lists(rt: HostRuntime) {
     all_refused(&rt, rt.alloc(), REFUSED);
 }
 
+/// Whether a source ends with so many bytes written.
+fn has_length(rt: &impl Abort, alloc: Global, source: &str, length: usize) -> bool {
+    let (ending, bytes) = outcome(rt, alloc, source.as_bytes(), MANY);
+    ending == Ending::Ended && bytes.len() == length
+}
+
 #[test]
 fn longest_lists(rt: HostRuntime) {
     for &(source, length) in FULL {
-        let (ending, bytes) = outcome(&rt, rt.alloc(), source.as_bytes(), MANY);
-        assert!(rt; ending == Ending::Ended, "{source}");
-        assert!(rt; bytes.len() == length, "{source}");
+        let same = has_length(&rt, rt.alloc(), source, length);
+        assert!(rt; same, "{source}");
     }
+}
+
+#[test]
+fn lists_that_are_too_long(rt: HostRuntime) {
     for &(source, kind, line) in OVERFULL {
-        let (ending, bytes) = outcome(&rt, rt.alloc(), source.as_bytes(), MANY);
-        assert!(rt; ending == Ending::Fault(Fault { kind, line }), "{source}");
-        assert!(rt; bytes.is_empty(), "{source}");
+        let want = Ending::Fault(Fault { kind, line });
+        comes_to(&rt, rt.alloc(), source, &want, "");
     }
 }

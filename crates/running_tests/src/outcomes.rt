@@ -1,7 +1,7 @@
 //! Sources over writers in memory, and what comes of them. Expected bytes come from the rules of docs/LANGUAGE.md.
 
 use executor::run::{run, run_in_order};
-use executor::{Open, Out};
+use executor::{Gate, Open, Out};
 use meaning::ending::{Ending, Fault, FaultKind, StopMessage};
 use meaning::plan::Plan;
 use meaning::refusal::Rule;
@@ -67,25 +67,41 @@ pub fn plan_with(rt: &impl Abort, turns: u64) -> Plan {
     Plan::new(4, 64, 8, turns).expect(rt, "a plan")
 }
 
-/// The ending of a source under a plan, and the bytes that it writes into a writer with room.
-pub fn outcome_by(alloc: Global, source: &[u8], plan: &Plan) -> (Ending, Vec<u8>) {
-    let mut sink = Out::new(make_meter(alloc, usize::MAX, usize::MAX, false));
-    let ending = run_in_order(alloc, source, plan, &mut sink);
-    let Meter { bytes, .. } = sink.into_inner();
-    (ending, bytes)
+/// The ending of a source with so many turns, and the bytes that it writes into a writer with room.
+pub fn outcome(rt: &impl Abort, alloc: Global, source: &[u8], turns: u64) -> (Ending, Vec<u8>) {
+    let plan = plan_with(rt, turns);
+    let mut sink = Out::new(Vec::new(alloc));
+    let ending = run_in_order(alloc, source, &plan, &mut sink);
+    (ending, sink.into_inner())
 }
 
-/// The same by stages, where the plan has two workers or more.
-pub fn outcome_by_stages<R: Threads + Wait + Sync>(
+/// Whether a source with so many turns comes to this ending and these records.
+pub fn agrees(
+    rt: &impl Abort,
+    alloc: Global,
+    source: &[u8],
+    turns: u64,
+    want: &Ending,
+    records: &[u8],
+) -> bool {
+    let (ending, bytes) = outcome(rt, alloc, source, turns);
+    ending == *want && bytes.as_slice() == records
+}
+
+/// The same by stages, where the plan has two workers or more, with a gate before each block.
+pub fn agrees_by_stages<R: Threads + Wait + Sync, G: Gate + Sync>(
     rt: &R,
     alloc: Global,
     source: &[u8],
     plan: &Plan,
-) -> (Ending, Vec<u8>) {
-    let mut sink = Out::new(make_meter(alloc, usize::MAX, usize::MAX, false));
-    let ending = run(rt, alloc, source, plan, &mut sink, &Open);
-    let Meter { bytes, .. } = sink.into_inner();
-    (ending, bytes)
+    gate: &G,
+    want: &Ending,
+    records: &[u8],
+) -> bool {
+    let mut sink = Out::new(Vec::new(alloc));
+    let ending = run(rt, alloc, source, plan, &mut sink, gate);
+    let bytes = sink.into_inner();
+    ending == *want && bytes.as_slice() == records
 }
 
 /// Plans: each number of workers with each number of trips in a block and each number of blocks at a time.
@@ -105,12 +121,9 @@ fn comes_to_by_one<R: Abort + Threads + Wait + Sync>(
     want: &Ending,
     records: &str,
 ) {
-    let (ending, bytes) = outcome_by_stages(rt, alloc, source.as_bytes(), plan);
-    assert!(rt; ending == *want, "{plan:?}: {source}");
-    assert!(rt;
-        bytes.as_slice() == records.as_bytes(),
-        "{plan:?}: {source}"
-    );
+    let text = source.as_bytes();
+    let same = agrees_by_stages(rt, alloc, text, plan, &Open, want, records.as_bytes());
+    assert!(rt; same, "{plan:?}: {source}");
 }
 
 /// Compares the ending of a source by each of these plans with so many turns, and the records that it writes.
@@ -133,11 +146,6 @@ pub fn comes_to_by<R: Abort + Threads + Wait + Sync>(
     }
 }
 
-/// The ending of a source with so many turns, and the bytes that it writes into a writer with room.
-pub fn outcome(rt: &impl Abort, alloc: Global, source: &[u8], turns: u64) -> (Ending, Vec<u8>) {
-    outcome_by(alloc, source, &plan_with(rt, turns))
-}
-
 /// Compares the ending of a source with so many turns, and the records that it writes.
 pub fn comes_to_in(
     rt: &impl Abort,
@@ -147,12 +155,9 @@ pub fn comes_to_in(
     want: &Ending,
     records: &str,
 ) {
-    let (ending, bytes) = outcome(rt, alloc, source.as_bytes(), turns);
-    assert!(rt; ending == *want, "{turns} turns: {source}");
-    assert!(rt;
-        bytes.as_slice() == records.as_bytes(),
-        "{turns} turns: {source}"
-    );
+    let text = source.as_bytes();
+    let same = agrees(rt, alloc, text, turns, want, records.as_bytes());
+    assert!(rt; same, "{turns} turns: {source}");
 }
 
 /// Compares the ending of a source and the records that it writes.
@@ -198,5 +203,17 @@ pub fn all_fault(rt: &impl Abort, alloc: Global, table: &[(&str, FaultKind, u32,
 pub fn all_refused(rt: &impl Abort, alloc: Global, table: &[(&str, Rule, u32)]) {
     for &(source, rule, line) in table {
         comes_to(rt, alloc, source, &Ending::Refused(rule, line), "");
+    }
+}
+
+/// Sources that end by each of these plans, and their records.
+pub fn all_end_by<R: Abort + Threads + Wait + Sync>(
+    rt: &R,
+    alloc: Global,
+    plans: Plans,
+    table: &[(&str, &str)],
+) {
+    for &(source, records) in table {
+        comes_to_by(rt, alloc, plans, source, MANY, &Ending::Ended, records);
     }
 }

@@ -1,6 +1,6 @@
 //! Plans: whatever the workers, the blocks and the window, a source comes to what its statements do one after another.
 
-use crate::outcomes::{MANY, Plans, all_end, comes_to_by, end_or_stop};
+use crate::outcomes::{MANY, Plans, all_end, all_end_by, comes_to_by, end_or_stop};
 use meaning::ending::{Ending, Fault, FaultKind};
 use meaning::plan::Plan;
 
@@ -100,13 +100,19 @@ const STOPPED: &str =
 #[test]
 fn answers_by_all_plans(rt: HostRuntime) {
     all_end(&rt, rt.alloc(), RUN);
-    for &(source, records) in RUN {
-        comes_to_by(&rt, rt.alloc(), ALL, source, MANY, &Ending::Ended, records);
-    }
+    all_end_by(&rt, rt.alloc(), ALL, RUN);
+}
+
+#[test]
+fn faults_by_all_plans(rt: HostRuntime) {
     for &(source, turns, kind, line, records) in FAULTY {
         let want = Ending::Fault(Fault { kind, line });
         comes_to_by(&rt, rt.alloc(), ALL, source, turns, &want, records);
     }
+}
+
+#[test]
+fn stop_by_all_plans(rt: HostRuntime) {
     let told = end_or_stop(&rt, rt.alloc(), Some("FOURTH"));
     comes_to_by(&rt, rt.alloc(), ALL, STOPPED, MANY, &told, "");
 }
@@ -158,9 +164,7 @@ const SOME: Plans = Plans {
 
 #[test]
 fn limits_are_evaluated_once(rt: HostRuntime) {
-    for &(source, records) in LIMITS_ONCE {
-        comes_to_by(&rt, rt.alloc(), SOME, source, MANY, &Ending::Ended, records);
-    }
+    all_end_by(&rt, rt.alloc(), SOME, LIMITS_ONCE);
 }
 
 /// Numbers of a plan, and whether each is in its range.
@@ -178,16 +182,21 @@ const NUMBERS: &[((u64, u64, u64, u64), bool)] = &[
     ((u64::MAX, u64::MAX, u64::MAX, u64::MAX), false),
 ];
 
+/// Whether numbers make a plan that has them, where one is wanted, and none otherwise.
+fn is_as_wanted(workers: u64, block: u64, window: u64, turns: u64, wanted: bool) -> bool {
+    match Plan::new(workers, block, window, turns) {
+        None => !wanted,
+        Some(plan) => {
+            let told = (plan.workers(), plan.block(), plan.window(), plan.turns());
+            wanted && told == (workers, block, window, turns)
+        }
+    }
+}
+
 #[test]
 fn numbers_of_plans(rt: HostRuntime) {
     for &((workers, block, window, turns), wanted) in NUMBERS {
-        match Plan::new(workers, block, window, turns) {
-            None => assert!(rt; !wanted, "{turns}"),
-            Some(plan) => {
-                assert!(rt; wanted, "{turns}");
-                let told = (plan.workers(), plan.block(), plan.window(), plan.turns());
-                assert!(rt; told == (workers, block, window, turns), "{turns}");
-            }
-        }
+        let same = is_as_wanted(workers, block, window, turns, wanted);
+        assert!(rt; same, "{turns}");
     }
 }

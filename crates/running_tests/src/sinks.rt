@@ -17,22 +17,41 @@ const BOTH: &str = "   123\n     45\n";
 /// How many bytes a writer takes at most of a piece: a byte, a few, all.
 const STEPS: &[usize] = &[1, 3, usize::MAX];
 
+/// Runs a source over a writer: its ending, whether the sink has refused, and the bytes that were taken.
+fn run_over(rt: &impl Abort, alloc: Global, source: &str, meter: Meter) -> (Ending, bool, Vec<u8>) {
+    let mut sink = Out::new(meter);
+    let plan = plan_with(rt, MANY);
+    let ending = run_in_order(alloc, source.as_bytes(), &plan, &mut sink);
+    let refused = sink.refused();
+    let Meter { bytes, .. } = sink.into_inner();
+    (ending, refused, bytes)
+}
+
+/// Whether a source over a writer comes to this ending, refused or not, and these bytes are taken.
+fn agrees_over(
+    rt: &impl Abort,
+    alloc: Global,
+    source: &str,
+    meter: Meter,
+    want: &Ending,
+    taken: &[u8],
+) -> bool {
+    let (ending, refused, bytes) = run_over(rt, alloc, source, meter);
+    ending == *want && refused == (*want == Ending::WriteRefused) && bytes.as_slice() == taken
+}
+
 /// Runs the two WRITEs over a writer with so much room.
 fn runs(rt: &impl Abort, alloc: Global, step: usize, room: usize, errs: bool) {
-    let mut sink = Out::new(make_meter(alloc, step, room, errs));
-    let plan = plan_with(rt, MANY);
-    let ending = run_in_order(alloc, TWO_WRITES.as_bytes(), &plan, &mut sink);
-    let fits = room >= 15;
-    let want = if fits {
+    let want = if room >= 15 {
         Ending::Ended
     } else {
         Ending::WriteRefused
     };
-    assert!(rt; ending == want, "room {room}");
-    assert!(rt; sink.refused() == !fits, "room {room}");
-    let Meter { bytes, .. } = sink.into_inner();
-    assert!(rt; bytes.len() == room.min(15), "room {room}");
-    assert!(rt; BOTH.as_bytes().starts_with(&bytes), "room {room}");
+    let meter = make_meter(alloc, step, room, errs);
+    let both = BOTH.as_bytes();
+    let taken = both.get(..room).unwrap_or(both);
+    let same = agrees_over(rt, alloc, TWO_WRITES, meter, &want, taken);
+    assert!(rt; same, "room {room}");
 }
 
 #[test]
@@ -47,37 +66,37 @@ fn refused_writes(rt: HostRuntime) {
 
 #[test]
 fn a_record_broken_off(rt: HostRuntime) {
-    let source = b"      WRITE (6,10)\n   10 FORMAT ('ABCDEFGHIJ')\n      END\n";
-    let mut sink = Out::new(make_meter(rt.alloc(), usize::MAX, 3, true));
-    let plan = plan_with(&rt, MANY);
-    let ending = run_in_order(rt.alloc(), source.as_slice(), &plan, &mut sink);
-    assert!(rt; ending == Ending::WriteRefused);
-    let Meter { bytes, .. } = sink.into_inner();
-    assert!(rt; bytes.as_slice() == b"ABC".as_slice());
+    let source = "      WRITE (6,10)\n   10 FORMAT ('ABCDEFGHIJ')\n      END\n";
+    let meter = make_meter(rt.alloc(), usize::MAX, 3, true);
+    let same = agrees_over(
+        &rt,
+        rt.alloc(),
+        source,
+        meter,
+        &Ending::WriteRefused,
+        b"ABC".as_slice(),
+    );
+    assert!(rt; same);
 }
 
 /// Three records, of 7 bytes each, and a statement behind them.
 const THREE_RECORDS: &str =
     "      DO 10 I=1,3\n   10 WRITE (6,20) I\n   20 FORMAT (I6)\n      STOP 'LATER'\n      END\n";
 
+/// Runs the three records over a writer with so much room.
+fn records_in(rt: &impl Abort, alloc: Global, room: usize, want: &Ending, taken: &str) {
+    let meter = make_meter(alloc, usize::MAX, room, true);
+    let same = agrees_over(rt, alloc, THREE_RECORDS, meter, want, taken.as_bytes());
+    assert!(rt; same, "room {room}");
+}
+
+/// Room for all records but one byte, and for all: what stands behind a refused write isn't executed.
 #[test]
 fn records_before_a_refused_write(rt: HostRuntime) {
-    // room for all records but one byte, and for all: what stands behind a refused write isn't executed
-    for &(room, refused) in [(20usize, true), (21, false)].as_slice() {
-        let mut sink = Out::new(make_meter(rt.alloc(), usize::MAX, room, true));
-        let plan = plan_with(&rt, MANY);
-        let ending = run_in_order(rt.alloc(), THREE_RECORDS.as_bytes(), &plan, &mut sink);
-        assert!(rt; sink.refused() == refused, "room {room}");
-        let stopped = end_or_stop(&rt, rt.alloc(), Some("LATER"));
-        assert!(rt; (ending == Ending::WriteRefused) == refused, "room {room}");
-        assert!(rt; (ending == stopped) == !refused, "room {room}");
-        let Meter { bytes, .. } = sink.into_inner();
-        assert!(rt;
-            b"     1\n     2\n     3\n".starts_with(&bytes),
-            "room {room}"
-        );
-        assert!(rt; bytes.len() == room, "room {room}");
-    }
+    let kept = "     1\n     2\n     3";
+    records_in(&rt, rt.alloc(), 20, &Ending::WriteRefused, kept);
+    let stopped = end_or_stop(&rt, rt.alloc(), Some("LATER"));
+    records_in(&rt, rt.alloc(), 21, &stopped, "     1\n     2\n     3\n");
 }
 
 /// How many bytes a piece has.
@@ -92,6 +111,13 @@ fn piece_of(alloc: Global, length: usize) -> Result<Vec<u8>, AllocError> {
     Ok(piece)
 }
 
+/// Whether a sink has refused or not, and its writer has exactly so many bytes of the front of a piece.
+fn has_front(sink: Out<Meter>, refuses: bool, piece: &[u8], count: usize) -> bool {
+    let refused = sink.refused();
+    let Meter { bytes, .. } = sink.into_inner();
+    refused == refuses && bytes.len() == count && piece.starts_with(&bytes)
+}
+
 /// Puts a piece once: what the writer takes of it is told, and the sink refuses where the writer takes nothing of a byte
 /// or more.
 fn puts_once(rt: &impl Abort, piece: &[u8], meter: Meter) {
@@ -100,11 +126,8 @@ fn puts_once(rt: &impl Abort, piece: &[u8], meter: Meter) {
     let mut sink = Out::new(meter);
     let told = sink.put(piece);
     let want = if refuses { Err(Refused) } else { Ok(taken) };
-    assert!(rt; told == want, "of {}", piece.len());
-    assert!(rt; sink.refused() == refuses, "of {}", piece.len());
-    let Meter { bytes, .. } = sink.into_inner();
-    assert!(rt; bytes.len() == taken, "of {}", piece.len());
-    assert!(rt; piece.starts_with(&bytes), "of {}", piece.len());
+    let same = has_front(sink, refuses, piece, taken);
+    assert!(rt; told == want && same, "of {}", piece.len());
 }
 
 /// Puts the whole of a piece: the writer has it, or as much as it has room for, and the sink has refused then.
@@ -113,11 +136,8 @@ fn puts_whole(rt: &impl Abort, piece: &[u8], meter: Meter) {
     let refuses = kept < piece.len();
     let mut sink = Out::new(meter);
     let told = put_all(&mut sink, piece);
-    assert!(rt; told.is_err() == refuses, "of {}", piece.len());
-    assert!(rt; sink.refused() == refuses, "of {}", piece.len());
-    let Meter { bytes, .. } = sink.into_inner();
-    assert!(rt; bytes.len() == kept, "of {}", piece.len());
-    assert!(rt; piece.starts_with(&bytes), "of {}", piece.len());
+    let same = has_front(sink, refuses, piece, kept);
+    assert!(rt; told.is_err() == refuses && same, "of {}", piece.len());
 }
 
 /// Puts a piece into writers with this room, that answer 0 or an error past it.

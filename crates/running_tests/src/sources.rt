@@ -1,11 +1,12 @@
 //! Sources and their records, refusals and faults.
 
 use crate::outcomes::{
-    ANSWER, FORTY_TWO, MANY, TWO_NUMBERS, all_end, all_fault, all_refused, outcome,
+    ANSWER, FORTY_TWO, MANY, TWO_NUMBERS, agrees, all_end, all_fault, all_refused, comes_to_in,
 };
 use meaning::ending::{Ending, Fault, FaultKind};
 use meaning::refusal::Rule;
-use std::test::*;
+use std::alloc::{AllocError, Global};
+use std::process::Abort;
 
 /// Sources that end, and their records.
 const WORKED: &[(&str, &str)] = &[
@@ -137,19 +138,28 @@ fn sources(rt: HostRuntime) {
     all_fault(&rt, rt.alloc(), FAULTY);
 }
 
-#[test]
-fn long_sources(rt: HostRuntime) -> Result<(), Fail> {
-    // comment lines up to 1,048,576 bytes are read, one byte more is not
-    let mut source = Vec::from_slice(rt.alloc(), ANSWER.as_bytes())?;
-    for place in source.len()..1_048_576 {
+/// A source with comment lines up to so many bytes.
+fn long_source(alloc: Global, length: usize) -> Result<Vec<u8>, AllocError> {
+    let mut source = Vec::from_slice(alloc, ANSWER.as_bytes())?;
+    for place in source.len()..length {
         source.push(if place % 64 == 63 { b'\n' } else { b'*' })?;
     }
-    let (ending, _) = outcome(&rt, rt.alloc(), &source, MANY);
-    assert!(rt; ending == Ending::Ended);
-    source.push(b'*')?;
-    let (ending, _) = outcome(&rt, rt.alloc(), &source, MANY);
-    assert!(rt; ending == Ending::Refused(Rule::C7, 1));
-    Ok(())
+    Ok(source)
+}
+
+/// Whether a source with comment lines up to so many bytes comes to this.
+fn is_read(rt: &impl Abort, alloc: Global, length: usize, want: &Ending, records: &str) -> bool {
+    let source = long_source(alloc, length).expect(rt, "memory");
+    agrees(rt, alloc, &source, MANY, want, records.as_bytes())
+}
+
+#[test]
+fn long_sources(rt: HostRuntime) {
+    // comment lines up to 1,048,576 bytes are read, one byte more is not
+    let read = is_read(&rt, rt.alloc(), 1_048_576, &Ending::Ended, FORTY_TWO);
+    let too_long = Ending::Refused(Rule::C7, 1);
+    let refused = is_read(&rt, rt.alloc(), 1_048_577, &too_long, "");
+    assert!(rt; read && refused, "{read} {refused}");
 }
 
 #[test]
@@ -158,12 +168,34 @@ fn turn_limit(rt: HostRuntime) {
         kind: FaultKind::F4,
         line: 3,
     });
-    let (ending, bytes) = outcome(&rt, rt.alloc(), TWO_NUMBERS.as_bytes(), 2);
-    assert!(rt; ending == fourth);
-    assert!(rt; bytes.is_empty());
-    let (ending, bytes) = outcome(&rt, rt.alloc(), TWO_NUMBERS.as_bytes(), 3);
-    assert!(rt; ending == Ending::Ended);
-    assert!(rt; bytes.as_slice() == b"   3 -10\n".as_slice());
+    comes_to_in(&rt, rt.alloc(), TWO_NUMBERS, 2, &fourth, "");
+    comes_to_in(
+        &rt,
+        rt.alloc(),
+        TWO_NUMBERS,
+        3,
+        &Ending::Ended,
+        "   3 -10\n",
+    );
+}
+
+/// What comes of the first bytes of a source.
+fn ending_of_front(kept: usize) -> Ending {
+    match kept {
+        0..=6 | 18..=25 => Ending::Refused(Rule::N2, 1),
+        7..=17 => Ending::Refused(Rule::G1, 1),
+        26..=41 => Ending::Refused(Rule::G1, 2),
+        42..=49 => Ending::Refused(Rule::N2, 2),
+        50 | 51 => Ending::Refused(Rule::G1, 3),
+        _ => Ending::Ended,
+    }
+}
+
+/// Whether the first bytes of a source come to what they should.
+fn front_agrees(rt: &impl Abort, alloc: Global, front: &[u8]) -> bool {
+    let expected = ending_of_front(front.len());
+    let records = if front.len() < 52 { "" } else { FORTY_TWO };
+    agrees(rt, alloc, front, MANY, &expected, records.as_bytes())
 }
 
 #[test]
@@ -171,17 +203,7 @@ fn fronts_of_a_source(rt: HostRuntime) {
     let source = ANSWER.as_bytes();
     assert!(rt; source.len() == 53);
     for kept in 0..54usize {
-        let expected = match kept {
-            0..=6 | 18..=25 => Ending::Refused(Rule::N2, 1),
-            7..=17 => Ending::Refused(Rule::G1, 1),
-            26..=41 => Ending::Refused(Rule::G1, 2),
-            42..=49 => Ending::Refused(Rule::N2, 2),
-            50 | 51 => Ending::Refused(Rule::G1, 3),
-            _ => Ending::Ended,
-        };
-        let (ending, bytes) = outcome(&rt, rt.alloc(), &source[..kept], MANY);
-        assert!(rt; ending == expected, "{kept} bytes");
-        let records: &[u8] = if kept < 52 { b"" } else { FORTY_TWO.as_bytes() };
-        assert!(rt; bytes.as_slice() == records, "{kept} bytes");
+        let same = front_agrees(&rt, rt.alloc(), &source[..kept]);
+        assert!(rt; same, "{kept} bytes");
     }
 }

@@ -1,13 +1,14 @@
 //! Loops by stages: how many blocks enter a gate, and two of them at once.
 
-use crate::outcomes::MANY;
-use executor::run::run;
-use executor::{Gate, Out};
+use crate::outcomes::{MANY, agrees_by_stages};
+use executor::Gate;
 use meaning::ending::Ending;
 use meaning::plan::Plan;
-use std::alloc::AllocError;
+use std::alloc::Global;
+use std::process::Abort;
+use std::sync::Wait;
 use std::sync::atomic::{AtomicU64, Ordering};
-use std::test::*;
+use std::thread::Threads;
 
 /// Elements through an array of subscripts: no block needs what another one did.
 const PERMUTED: &str =
@@ -40,24 +41,39 @@ const ENTERED: &[(&str, u64, u64, &str)] = &[
     (FOUR_BEFORE, 2, 20, "  4\n"),
 ];
 
+/// How many blocks of so many trips enter, if the source ends with these records.
+fn entered<R: Abort + Threads + Wait + Sync>(
+    rt: &R,
+    alloc: Global,
+    source: &[u8],
+    block: u64,
+    records: &[u8],
+) -> Option<u64> {
+    let gate = Counting {
+        entries: AtomicU64::new(0),
+    };
+    let plan = Plan::new(4, block, 8, MANY).expect(rt, "a plan");
+    if agrees_by_stages(rt, alloc, source, &plan, &gate, &Ending::Ended, records) {
+        Some(gate.entries.into_inner())
+    } else {
+        None
+    }
+}
+
 /// With memory as it is, as many blocks are run as the stages have: none is lost, none is run once more in order, and the next
 /// stage begins where the last one was cut.
 #[test]
-fn entries(rt: HostRuntime) -> Result<(), AllocError> {
+fn entries(rt: HostRuntime) {
     for &(source, block, wanted, records) in ENTERED {
-        let gate = Counting {
-            entries: AtomicU64::new(0),
-        };
-        let plan = Plan::new(4, block, 8, MANY).expect(&rt, "a plan");
-        let mut sink = Out::new(Vec::new(rt.alloc()));
-        let ending = run(&rt, rt.alloc(), source.as_bytes(), &plan, &mut sink, &gate);
-        assert!(rt; ending == Ending::Ended, "{source}");
-        let written = sink.into_inner();
-        assert!(rt; written.as_slice() == records.as_bytes(), "{source}");
-        let entered = gate.entries.into_inner();
-        assert!(rt; entered == wanted, "{entered}: {source}");
+        let told = entered(
+            &rt,
+            rt.alloc(),
+            source.as_bytes(),
+            block,
+            records.as_bytes(),
+        );
+        assert!(rt; told == Some(wanted), "{told:?}: {source}");
     }
-    Ok(())
 }
 
 /// Block 0 waits until block 1 has entered, for so many looks at most.
@@ -93,24 +109,23 @@ impl Gate for Meeting {
 }
 
 #[test]
-fn two_blocks_at_once(rt: HostRuntime) -> Result<(), AllocError> {
+fn two_blocks_at_once(rt: HostRuntime) {
     let gate = Meeting {
         begun: AtomicU64::new(0),
         met: AtomicU64::new(0),
     };
     let plan = Plan::new(4, 2, 8, MANY).expect(&rt, "a plan");
-    let mut sink = Out::new(Vec::new(rt.alloc()));
-    let ending = run(
+    let source = PERMUTED.as_bytes();
+    let records = b"  2  6  1  3  5  8  7  4\n".as_slice();
+    let same = agrees_by_stages(
         &rt,
         rt.alloc(),
-        PERMUTED.as_bytes(),
+        source,
         &plan,
-        &mut sink,
         &gate,
+        &Ending::Ended,
+        records,
     );
-    assert!(rt; ending == Ending::Ended);
-    assert!(rt; gate.met.into_inner() == 1);
-    let written = sink.into_inner();
-    assert!(rt; written.as_slice() == b"  2  6  1  3  5  8  7  4\n".as_slice());
-    Ok(())
+    let met = gate.met.into_inner();
+    assert!(rt; same && met == 1, "{same} {met}");
 }

@@ -1,7 +1,7 @@
 //! Loops by stages whose later trips read what earlier ones write: what a trip would do by the value from before the stage doesn't
 //! happen. Of several faults the earliest trip's is told.
 
-use crate::outcomes::{MANY, Plans, comes_to_by};
+use crate::outcomes::{MANY, Plans, all_end_by, comes_to_by};
 use meaning::ending::{Ending, Fault, FaultKind};
 
 const PLACES: Plans = Plans {
@@ -66,17 +66,7 @@ const STALE: &[(&str, &str)] = &[
 
 #[test]
 fn by_the_values_of_earlier_trips(rt: HostRuntime) {
-    for &(source, records) in STALE {
-        comes_to_by(
-            &rt,
-            rt.alloc(),
-            PLACES,
-            source,
-            MANY,
-            &Ending::Ended,
-            records,
-        );
-    }
+    all_end_by(&rt, rt.alloc(), PLACES, STALE);
 }
 
 /// Sources that fault, the fault, its line, and the records before.

@@ -8,4 +8,5 @@ mod do_statement;
 mod size;
 mod stages;
 
+pub use block_stage::{Gate, Open};
 pub use do_statement::run_loop;

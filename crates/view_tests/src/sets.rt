@@ -3,6 +3,7 @@
 use marks::Marks;
 use meaning::cell::Cell;
 use std::alloc::{AllocError, Global};
+use std::process::Abort;
 use std::test::*;
 
 /// The set of these cells.
@@ -17,17 +18,24 @@ fn set_of(alloc: Global, numbers: &[usize]) -> Result<Marks, AllocError> {
 /// The last cell of 1,048,576, beside those at the borders of words of 64.
 const BORDERS: &[usize] = &[0, 63, 64, 1_048_575];
 
+/// Cells that aren't among them.
+const BESIDE: &[usize] = &[1, 62, 65, 127, 128, 1_048_511, 1_048_574, 1_048_576];
+
+/// That a set has each of these cells, or none of them.
+fn check_has(rt: &impl Abort, marks: &Marks, numbers: &[usize], want: bool) {
+    for &number in numbers {
+        assert!(rt; marks.has(Cell(number)) == want, "{number}");
+    }
+}
+
 #[test]
 fn has(rt: HostRuntime) -> Result<(), Fail> {
     let empty = set_of(rt.alloc(), &[])?;
+    check_has(&rt, &empty, BORDERS, false);
+    drop(empty);
     let marks = set_of(rt.alloc(), BORDERS)?;
-    for &number in BORDERS {
-        assert!(rt; marks.has(Cell(number)), "{number}");
-        assert!(rt; !empty.has(Cell(number)), "{number}");
-    }
-    for number in [1, 62, 65, 127, 128, 1_048_511, 1_048_574, 1_048_576] {
-        assert!(rt; !marks.has(Cell(number)), "{number}");
-    }
+    check_has(&rt, &marks, BORDERS, true);
+    check_has(&rt, &marks, BESIDE, false);
     Ok(())
 }
 
@@ -45,13 +53,24 @@ const PAIRS: &[(&[usize], &[usize], bool)] = &[
     (&[1, 3, 5, 7, 9, 11], &[0, 2, 4, 6, 8, 9, 12], true),
 ];
 
+/// Whether the set of some cells meets that of others.
+fn do_meet(alloc: Global, one: &[usize], other: &[usize]) -> Result<bool, AllocError> {
+    let one_set = set_of(alloc, one)?;
+    let other_set = set_of(alloc, other)?;
+    Ok(one_set.meets(&other_set))
+}
+
 #[test]
 fn meets(rt: HostRuntime) -> Result<(), Fail> {
     for &(one, other, want) in PAIRS {
-        let one_set = set_of(rt.alloc(), one)?;
-        let other_set = set_of(rt.alloc(), other)?;
-        assert!(rt; one_set.meets(&other_set) == want, "{one:?} {other:?}");
-        assert!(rt; other_set.meets(&one_set) == want, "{other:?} {one:?}");
+        assert!(rt;
+            do_meet(rt.alloc(), one, other)? == want,
+            "{one:?} {other:?}"
+        );
+        assert!(rt;
+            do_meet(rt.alloc(), other, one)? == want,
+            "{other:?} {one:?}"
+        );
     }
     Ok(())
 }
@@ -59,20 +78,30 @@ fn meets(rt: HostRuntime) -> Result<(), Fail> {
 /// So many cells that a tree of them has inner nodes.
 const MANY: usize = 200;
 
+/// That a set has so many first cells, and none of those behind.
+fn check_first(rt: &impl Abort, marks: &Marks, count: usize) {
+    for number in 0..MANY {
+        assert!(rt;
+            marks.has(Cell(number)) == (number < count),
+            "{number} of {count}"
+        );
+    }
+}
+
+/// Sets the next cell of a set, which stays as it was where an allocation is refused; then the cell can be set.
+fn set_next(rt: &impl Abort, marks: &mut Marks, number: usize) {
+    if marks.set(Cell(number)).is_err() {
+        check_first(rt, marks, number);
+        assert!(rt; marks.set(Cell(number)).is_ok(), "{number}");
+    }
+    assert!(rt; marks.has(Cell(number)), "{number}");
+}
+
 // Where an allocation is refused, the set stays as it was, and the cell can be set later.
 #[test]
 fn refused(rt: HostRuntime) {
     let mut marks = Marks::new(rt.alloc());
     for number in 0..MANY {
-        if marks.set(Cell(number)).is_err() {
-            for earlier in 0..number {
-                assert!(rt; marks.has(Cell(earlier)), "{earlier} of {number}");
-            }
-            for later in number..MANY {
-                assert!(rt; !marks.has(Cell(later)), "{later} of {number}");
-            }
-            assert!(rt; marks.set(Cell(number)).is_ok(), "{number}");
-        }
-        assert!(rt; marks.has(Cell(number)), "{number}");
+        set_next(&rt, &mut marks, number);
     }
 }

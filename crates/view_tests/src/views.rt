@@ -6,7 +6,7 @@ use array_store::{Store, Whole};
 use marks::Marks;
 use meaning::cell::Cell;
 use private_view::View;
-use std::alloc::AllocError;
+use std::alloc::{AllocError, Global};
 use std::process::Abort;
 use std::test::*;
 
@@ -21,7 +21,24 @@ enum Step {
 
 use Step::{Reads, Writes};
 
+/// What a view is asked to do, and which cells it then exposes and has written.
+struct Course {
+    steps: &'static [Step],
+    exposed: &'static [usize],
+    written: &'static [usize],
+}
+
+/// A base, the course of a view of it, the values that the view is applied to, and those behind it.
+struct Story {
+    base: &'static [i32],
+    course: Course,
+    target: &'static [i32],
+    behind: &'static [i32],
+}
+
 const BASE: &[i32] = &[10, 11, 12, 13, 14, 15, 16, 17, 18, 19];
+
+const BEHIND: &[i32] = &[10, 100, 12, 13, 41, 15, 16, 17, 18, 2_147_483_647];
 
 /// Cell 1 is read twice and then written, cell 4 is written, read and written again, cell 9 is written and read, and cells
 /// 0 and 6 are read alone.
@@ -40,11 +57,58 @@ const STORY: &[Step] = &[
     Reads(9, 2_147_483_647),
 ];
 
-const EXPOSED: &[usize] = &[0, 1, 6];
+/// Cells 1 and 2 are written; the value that cell 1 has in the base is read before, and nothing is read of cell 0.
+const SHORT_STORY: &[Step] = &[
+    Reads(1, 6),
+    Writes(1, 9),
+    Reads(1, 9),
+    Writes(2, 4),
+    Reads(2, 4),
+];
 
-const WRITTEN: &[usize] = &[1, 4, 9];
-
-const BEHIND: &[i32] = &[10, 100, 12, 13, 41, 15, 16, 17, 18, 2_147_483_647];
+/// The last two are applied to other values than the base has: what a view didn't write stays.
+const STORIES: &[Story] = &[
+    Story {
+        base: BASE,
+        course: Course {
+            steps: STORY,
+            exposed: &[0, 1, 6],
+            written: &[1, 4, 9],
+        },
+        target: BASE,
+        behind: BEHIND,
+    },
+    Story {
+        base: &[5, 6, 7],
+        course: Course {
+            steps: SHORT_STORY,
+            exposed: &[1],
+            written: &[1, 2],
+        },
+        target: &[0, 0, 0],
+        behind: &[0, 9, 4],
+    },
+    Story {
+        base: &[1, 2, 3],
+        course: Course {
+            steps: &[Writes(2, 30)],
+            exposed: &[],
+            written: &[2],
+        },
+        target: &[-1, -2, -3],
+        behind: &[-1, -2, 30],
+    },
+    Story {
+        base: &[1, 2, 3],
+        course: Course {
+            steps: &[],
+            exposed: &[],
+            written: &[],
+        },
+        target: &[-1, -2, 30],
+        behind: &[-1, -2, 30],
+    },
+];
 
 /// Reads and writes, and compares what is read.
 fn play<S: Store>(
@@ -80,46 +144,67 @@ fn has_exactly(rt: &impl Abort, marks: &Marks, count: usize, wanted: &[usize]) {
     }
 }
 
-#[test]
-fn story(rt: HostRuntime) -> Result<(), Fail> {
-    let base = Whole::new(rt.alloc(), BASE)?;
-    let mut target = Whole::new(rt.alloc(), BASE)?;
-    let mut view = View::new(rt.alloc(), &base);
-    has_exactly(&rt, view.exposed(), BASE.len(), &[]);
-    has_exactly(&rt, view.written(), BASE.len(), &[]);
-    play(&rt, &mut view, BASE.len(), STORY)?;
-    has_exactly(&rt, view.exposed(), BASE.len(), EXPOSED);
-    has_exactly(&rt, view.written(), BASE.len(), WRITTEN);
+/// That cells have these values.
+fn check_values(rt: &impl Abort, cells: &[i32], wanted: &[i32]) {
+    assert!(rt; cells == wanted, "{wanted:?}");
+}
+
+/// That a view of so many cells exposed and wrote these and no other, and isn't lost.
+fn look(rt: &impl Abort, view: &View<'_>, count: usize, exposed: &[usize], written: &[usize]) {
+    has_exactly(rt, view.exposed(), count, exposed);
+    has_exactly(rt, view.written(), count, written);
     assert!(rt; !view.is_lost());
-    view.apply(&mut target);
-    assert!(rt; target.cells() == BEHIND);
-    assert!(rt; base.cells() == BASE);
+}
+
+/// That a view lists these cells as written, in order.
+fn list(
+    rt: &impl Abort,
+    alloc: Global,
+    view: &View<'_>,
+    written: &[usize],
+) -> Result<(), AllocError> {
+    let mut numbers = Vec::new(alloc);
+    view.add_written(&mut numbers)?;
+    assert!(rt; numbers.as_slice() == written, "{written:?}");
     Ok(())
 }
 
-/// Cells 1 and 2 are written; the value that cell 1 has in the base is read before, and nothing is read of cell 0.
-const SHORT_STORY: &[Step] = &[
-    Reads(1, 6),
-    Writes(1, 9),
-    Reads(1, 9),
-    Writes(2, 4),
-    Reads(2, 4),
-];
+/// Takes a course's steps with a view, looks at the view before and behind them, and applies it.
+fn tell(
+    rt: &impl Abort,
+    alloc: Global,
+    base: &Whole,
+    target: &mut Whole,
+    course: &Course,
+) -> Result<(), AllocError>
+    requires { length target.old ≡ length base.now }
+{
+    let count = base.cells().len();
+    let mut view = View::new(alloc, base);
+    look(rt, &view, count, &[], &[]);
+    play(rt, &mut view, count, course.steps)?;
+    look(rt, &view, count, course.exposed, course.written);
+    list(rt, alloc, &view, course.written)?;
+    view.apply(target);
+    Ok(())
+}
+
+/// Tells a story, and compares the values that it leaves: the base stays as it was.
+fn check_story(rt: &impl Abort, alloc: Global, story: &Story) -> Result<(), AllocError> {
+    let base = Whole::new(alloc, story.base)?;
+    let mut target = Whole::new(alloc, story.target)?;
+    assert!(rt; story.target.len() == story.base.len());
+    tell(rt, alloc, &base, &mut target, &story.course)?;
+    check_values(rt, target.cells(), story.behind);
+    check_values(rt, base.cells(), story.base);
+    Ok(())
+}
 
 #[test]
-fn short_story(rt: HostRuntime) -> Result<(), Fail> {
-    let base = Whole::new(rt.alloc(), &[5, 6, 7])?;
-    let mut target = Whole::new(rt.alloc(), &[0, 0, 0])?;
-    let mut view = View::new(rt.alloc(), &base);
-    play(&rt, &mut view, 3, SHORT_STORY)?;
-    has_exactly(&rt, view.exposed(), 3, &[1]);
-    has_exactly(&rt, view.written(), 3, &[1, 2]);
-    let mut numbers = Vec::new(rt.alloc());
-    view.add_written(&mut numbers)?;
-    assert!(rt; numbers.as_slice() == [1_usize, 2].as_slice());
-    view.apply(&mut target);
-    assert!(rt; target.cells() == [0, 9, 4].as_slice());
-    assert!(rt; base.cells() == [5, 6, 7].as_slice());
+fn stories(rt: HostRuntime) -> Result<(), Fail> {
+    for story in STORIES {
+        check_story(&rt, rt.alloc(), story)?;
+    }
     Ok(())
 }
 
@@ -128,72 +213,82 @@ fn short_story(rt: HostRuntime) -> Result<(), Fail> {
 fn story_of_a_whole_store(rt: HostRuntime) -> Result<(), Fail> {
     let mut whole = Whole::new(rt.alloc(), BASE)?;
     play(&rt, &mut whole, BASE.len(), STORY)?;
-    assert!(rt; whole.cells() == BEHIND);
+    check_values(&rt, whole.cells(), BEHIND);
     Ok(())
 }
 
-// What a view didn't write stays as the other store has it.
-#[test]
-fn applied_to_other_values(rt: HostRuntime) -> Result<(), Fail> {
-    let base = Whole::new(rt.alloc(), &[1, 2, 3])?;
-    let mut target = Whole::new(rt.alloc(), &[-1, -2, -3])?;
-    let mut view = View::new(rt.alloc(), &base);
-    view.write(Cell(2), 30)?;
-    view.apply(&mut target);
-    assert!(rt; target.cells() == [-1, -2, 30].as_slice());
-    let unused = View::new(rt.alloc(), &base);
-    unused.apply(&mut target);
-    assert!(rt; target.cells() == [-1, -2, 30].as_slice());
-    Ok(())
+/// What two blocks over the same three cells do, and whether the one behind exposes what the one before wrote. The block before
+/// writes cell 1, and the block behind writes it before it reads it, or only reads it.
+const MEETINGS: &[(&[Step], &[Step], bool)] = &[
+    (
+        &[Writes(1, 20)],
+        &[Reads(0, 1), Writes(1, 21), Reads(1, 21)],
+        false,
+    ),
+    (&[Writes(1, 20)], &[Reads(1, 2)], true),
+];
+
+/// Whether a view that takes these steps exposes one of these cells.
+fn exposes(
+    rt: &impl Abort,
+    alloc: Global,
+    base: &Whole,
+    steps: &[Step],
+    written: &Marks,
+) -> Result<bool, AllocError> {
+    let mut view = View::new(alloc, base);
+    play(rt, &mut view, base.cells().len(), steps)?;
+    Ok(view.exposed().meets(written))
 }
 
-// The block before wrote cell 1, which the block behind read.
+/// Whether a view that takes the steps behind exposes what one wrote that took the steps before.
+fn views_meet(
+    rt: &impl Abort,
+    alloc: Global,
+    base: &Whole,
+    before: &[Step],
+    behind: &[Step],
+) -> Result<bool, AllocError> {
+    let mut view = View::new(alloc, base);
+    play(rt, &mut view, base.cells().len(), before)?;
+    exposes(rt, alloc, base, behind, view.written())
+}
+
 #[test]
 fn views_that_meet(rt: HostRuntime) -> Result<(), Fail> {
     let base = Whole::new(rt.alloc(), &[1, 2, 3])?;
-    let mut before = View::new(rt.alloc(), &base);
-    let mut behind = View::new(rt.alloc(), &base);
-    before.write(Cell(1), 20)?;
-    assert!(rt; behind.read(Cell(0)) == 1);
-    behind.write(Cell(1), 21)?;
-    assert!(rt; behind.read(Cell(1)) == 21);
-    assert!(rt; !behind.exposed().meets(before.written()));
-    let mut third = View::new(rt.alloc(), &base);
-    assert!(rt; third.read(Cell(1)) == 2);
-    assert!(rt; third.exposed().meets(before.written()));
+    for &(before, behind, want) in MEETINGS {
+        let met = views_meet(&rt, rt.alloc(), &base, before, behind)?;
+        assert!(rt; met == want, "{behind:?}");
+    }
     Ok(())
 }
 
 /// The greatest number of cells, and those at the borders of words of 64.
 const MOST: usize = 1_048_576;
 
-const BORDERS: &[Step] = &[
-    Reads(0, 7),
-    Reads(63, 7),
-    Reads(MOST - 1, 7),
-    Writes(64, 1),
-    Writes(MOST - 1, 2),
-    Writes(0, 3),
-    Reads(64, 1),
-    Reads(MOST - 1, 2),
-    Reads(0, 3),
-    Reads(63, 7),
-    Reads(62, 7),
-    Reads(65, 7),
-];
+const BORDERS: Course = Course {
+    steps: &[
+        Reads(0, 7),
+        Reads(63, 7),
+        Reads(MOST - 1, 7),
+        Writes(64, 1),
+        Writes(MOST - 1, 2),
+        Writes(0, 3),
+        Reads(64, 1),
+        Reads(MOST - 1, 2),
+        Reads(0, 3),
+        Reads(63, 7),
+        Reads(62, 7),
+        Reads(65, 7),
+    ],
+    exposed: &[0, 62, 63, 65, MOST - 1],
+    written: &[0, 64, MOST - 1],
+};
 
-#[test]
-fn borders(rt: HostRuntime) -> Result<(), Fail> {
-    let values = vec![in rt.alloc(); 7; MOST]?;
-    let base = Whole::new(rt.alloc(), &values)?;
-    let mut target = Whole::new(rt.alloc(), &values)?;
-    let mut view = View::new(rt.alloc(), &base);
-    play(&rt, &mut view, values.len(), BORDERS)?;
-    has_exactly(&rt, view.exposed(), MOST, &[0, 62, 63, 65, MOST - 1]);
-    has_exactly(&rt, view.written(), MOST, &[0, 64, MOST - 1]);
-    assert!(rt; !view.is_lost());
-    view.apply(&mut target);
-    for (number, &value) in target.cells().iter().enumerate() {
+/// That the cells at the borders have what was written to them, and the other ones what they had.
+fn check_borders(rt: &impl Abort, cells: &[i32]) {
+    for (number, &value) in cells.iter().enumerate() {
         let want = match number {
             0 => 3,
             64 => 1,
@@ -202,6 +297,22 @@ fn borders(rt: HostRuntime) -> Result<(), Fail> {
         };
         assert!(rt; value == want, "{number}");
     }
+}
+
+/// Takes the course at the borders over these values.
+fn tell_borders(rt: &impl Abort, alloc: Global, values: &[i32]) -> Result<(), AllocError> {
+    let base = Whole::new(alloc, values)?;
+    let mut target = Whole::new(alloc, values)?;
+    tell(rt, alloc, &base, &mut target, &BORDERS)?;
+    drop(base);
+    check_borders(rt, target.cells());
+    Ok(())
+}
+
+#[test]
+fn borders(rt: HostRuntime) -> Result<(), Fail> {
+    let values = vec![in rt.alloc(); 7; MOST]?;
+    tell_borders(&rt, rt.alloc(), &values)?;
     Ok(())
 }
 
@@ -232,32 +343,66 @@ fn writes(rt: &impl Abort, view: &mut View<'_>, number: usize, value: i32)
     assert!(rt; view.written().has(Cell(number)), "{number}");
 }
 
+/// The value of each cell in the base.
+const FIVES: &[i32] = &[5; MANY];
+
+/// The value of a cell behind the writes: each third cell is written.
+fn third_or_five(number: usize) -> i32 {
+    if number % 3 == 0 { 6 } else { 5 }
+}
+
+/// Writes each third cell, and reads the other ones.
+fn mark_each(rt: &impl Abort, view: &mut View<'_>)
+    requires { length view.old.base ≡ 300 }
+    ensures { length view.new.base ≡ 300 }
+{
+    for number in 0..MANY {
+        if number % 3 == 0 {
+            writes(rt, view, number, 6);
+            assert!(rt; !view.exposed().has(Cell(number)), "{number}");
+        } else {
+            reads(rt, view, number, 5);
+        }
+    }
+}
+
+/// Reads each cell again: no other cell became written.
+fn read_each(rt: &impl Abort, view: &mut View<'_>)
+    requires { length view.old.base ≡ 300 }
+    ensures { length view.new.base ≡ 300 }
+{
+    for number in 0..MANY {
+        reads(rt, view, number, third_or_five(number));
+        let is_written = view.written().has(Cell(number));
+        assert!(rt; is_written == (number % 3 == 0), "{number}");
+    }
+}
+
+/// That each third cell has what was written, and the other ones what they had.
+fn check_thirds(rt: &impl Abort, cells: &[i32]) {
+    for (number, &value) in cells.iter().enumerate() {
+        assert!(rt; value == third_or_five(number), "{number}");
+    }
+}
+
+/// Marks and reads each cell of a view, and applies it.
+fn mark_and_apply(rt: &impl Abort, alloc: Global, base: &Whole, target: &mut Whole)
+    requires base { length base.now ≡ 300 }
+    requires target { length target.old ≡ 300 }
+{
+    let mut view = View::new(alloc, base);
+    mark_each(rt, &mut view);
+    read_each(rt, &mut view);
+    view.apply(target);
+}
+
 // Where an allocation is refused, a write leaves the view as it was, and a read answers its value and loses the view.
 #[test]
 fn refused(rt: HostRuntime) -> Result<(), Fail> {
-    let base = Whole::new(rt.alloc(), &[5; MANY])?;
-    let mut target = Whole::new(rt.alloc(), &[5; MANY])?;
-    let mut view = View::new(rt.alloc(), &base);
-    for number in 0..MANY {
-        if number % 3 == 0 {
-            writes(&rt, &mut view, number, 6);
-            assert!(rt; !view.exposed().has(Cell(number)), "{number}");
-        } else {
-            reads(&rt, &mut view, number, 5);
-        }
-    }
-    for number in 0..MANY {
-        let want = if number % 3 == 0 { 6 } else { 5 };
-        reads(&rt, &mut view, number, want);
-        assert!(rt;
-            view.written().has(Cell(number)) == (number % 3 == 0),
-            "{number}"
-        );
-    }
-    view.apply(&mut target);
-    for (number, &value) in target.cells().iter().enumerate() {
-        let want = if number % 3 == 0 { 6 } else { 5 };
-        assert!(rt; value == want, "{number}");
-    }
+    let base = Whole::new(rt.alloc(), FIVES)?;
+    let mut target = Whole::new(rt.alloc(), FIVES)?;
+    mark_and_apply(&rt, rt.alloc(), &base, &mut target);
+    drop(base);
+    check_thirds(&rt, target.cells());
     Ok(())
 }

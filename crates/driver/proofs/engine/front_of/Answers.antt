@@ -1,6 +1,0 @@
-use Rattle.driver.proofs.Front.{front_known}
-use Rattle.driver.proofs.engine.front_of.Goals as goal
-
-pub returns : goal.returns
-returns g c =
-    front_known g.I.Read.remaining _ _ _ _ c.take.ensures.limit c.take.ensures.inner c.new-source.ensures.items c.in_ok-read_to_end.ensures.bytes

@@ -1,0 +1,32 @@
+-- The exit status of the program.
+use Rattle.std.specs.Prelude.{◌≡◌, ◌⊎◌, ℕ}
+use Rattle.meaning.specs.declared.ending.Ending.{Ending}
+use Rattle.meaning.specs.declared.ending.Ending.TheVariants as endings
+use Rattle.command_line.specs.declared.asked.OptionsFault.{OptionsFault}
+use Rattle.command_line.specs.declared.asked.OptionsFault.TheVariants as faults
+use Rattle.engine.specs.declared.running.NoRun.{NoRun}
+use Rattle.engine.specs.declared.running.NoRun.TheVariants as no_runs
+
+-- of a source that was run
+abbrev pub status_of : Ending → ℕ
+status_of endings.Ended = 0
+status_of (endings.Stopped message) = 0
+status_of (endings.Fault fault) = 1
+status_of (endings.Refused rule line) = 2
+status_of endings.Memory = 4
+status_of endings.WriteRefused = 5
+
+-- of none; a text that is asked for is written, or the write is refused
+abbrev pub IsStatusOf : NoRun → ℕ → Type 0
+IsStatusOf no_runs.Help status = (status ≡ 0) ⊎ (status ≡ 5)
+IsStatusOf no_runs.Version status = (status ≡ 0) ⊎ (status ≡ 5)
+IsStatusOf (no_runs.Faulty fault) status = status ≡ 3
+IsStatusOf no_runs.Memory status = status ≡ 4
+IsStatusOf no_runs.FileRefused status = status ≡ 5
+
+-- why no source is run, by what the command line asks for instead
+abbrev pub no_run_for : OptionsFault → NoRun
+no_run_for faults.Help = no_runs.Help
+no_run_for faults.Version = no_runs.Version
+no_run_for faults.Memory = no_runs.Memory
+no_run_for fault = no_runs.Faulty fault

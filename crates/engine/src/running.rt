@@ -1,0 +1,280 @@
+//! From the words of a command line to the exit status.
+
+ghost use Rattle.std.specs.Prelude.{◌≡◌, ◌⊎◌, IfOk, IfSome};
+ghost use Rattle.engine.specs.declared.running.NoRun.TheVariants.{Memory};
+ghost use Rattle.engine.specs.Source.{AnswersAs};
+ghost use Rattle.engine.specs.Status.{IsStatusOf, status_of, no_run_for};
+
+use command_line::asked::OptionsFault;
+use command_line::help::{HELP, VERSION};
+use command_line::options::options;
+use executor::run::run;
+use executor::{Open, Out};
+use meaning::ending::Ending;
+use meaning::plan::Plan;
+use std::alloc::{AllocError, AllocFailed, Global};
+use std::env::Env;
+use std::io::{ErrorKind, Read, Write};
+use std::rt::Files;
+use std::sync::Wait;
+use std::thread::Threads;
+use std::{env, fs, io};
+
+/// So many bytes of a source are read at most: one more than a source may have.
+const BYTES_READ: u64 = 1_048_577;
+
+/// What a command line names.
+#[derive(Drop)]
+struct Job {
+    /// How the program is run.
+    plan: Plan,
+    /// The bytes of its source.
+    source: Vec<u8>,
+}
+
+/// Why no source is run.
+#[derive(Clone, Copy, Debug, PartialEq, Eq)]
+enum NoRun {
+    /// The help is asked for instead.
+    Help,
+    /// The version is asked for instead.
+    Version,
+    /// The command line is at fault.
+    Faulty(OptionsFault),
+    /// Memory was refused before the source was run.
+    Memory,
+    /// The file or standard input can't be read.
+    FileRefused,
+}
+
+impl From<AllocError> for NoRun {
+    ghost from_gives = { λ _ no_run. no_run ≡ Memory };
+
+    fn from(_error: AllocError) -> NoRun {
+        NoRun::Memory
+    }
+}
+
+impl<T: Drop> From<AllocFailed<T>> for NoRun {
+    ghost from_gives = { λ _ no_run. no_run ≡ Memory };
+
+    fn from(_error: AllocFailed<T>) -> NoRun {
+        NoRun::Memory
+    }
+}
+
+impl From<OptionsFault> for NoRun {
+    ghost from_gives = { λ fault no_run. no_run ≡ no_run_for fault };
+
+    fn from(fault: OptionsFault) -> NoRun {
+        match fault {
+            OptionsFault::Help => NoRun::Help,
+            OptionsFault::Version => NoRun::Version,
+            OptionsFault::Memory => NoRun::Memory,
+            _ => NoRun::Faulty(fault),
+        }
+    }
+}
+
+/// Runs the program of a command line over a reader for standard input and writers for standard output and standard
+/// error, and answers its exit status: 0 where END was reached, a STOP statement was executed or a text was asked for,
+/// 1 for a fault, 2 for a refused source, 3 for a fault of the command line, 4 for want of memory, 5 where the source
+/// can't be read or a write is refused. What the command line asks for comes first, then the source, its run, and the
+/// flush of its output. With two workers or more it waits for their threads.
+pub fn engine<
+    R: Files + AllocGlobal + Threads + Wait + Sync,
+    V: Env,
+    I: Read,
+    O: Write + Drop,
+    E: Write,
+>(rt: &R, words: &V, input: &mut I, out: O, err: &mut E) -> u8 {
+    match job_asked(rt, words, input) {
+        Ok(job) => report(run_whole(rt, &job, out), err),
+        Err(no_run) => report_no_run(no_run, out, err),
+    }
+}
+
+// What a command line names.
+fn job_asked<R: Files + AllocGlobal, V: Env, I: Read>(
+    rt: &R,
+    words: &V,
+    input: &mut I,
+) -> Result<Job, NoRun> {
+    let words = words_of(words, rt.alloc())?;
+    let job = job_named(rt, &words, input);
+    drop(words);
+    job
+}
+
+// What the words of a command line name.
+fn job_named<R: Files + AllocGlobal, I: Read>(
+    rt: &R,
+    words: &[String],
+    input: &mut I,
+) -> Result<Job, NoRun> {
+    let texts = texts_of(rt.alloc(), words)?;
+    let job = job_of(rt, &texts, input);
+    drop(texts);
+    job
+}
+
+// What texts name.
+fn job_of<'a, R: Files + AllocGlobal, I: Read>(
+    rt: &R,
+    texts: &'a [&'a str],
+    input: &mut I,
+) -> Result<Job, NoRun> {
+    match options(rt.alloc(), texts) {
+        Ok(asked) => match source_of(rt, asked.file, input) {
+            Ok(source) => Ok(Job {
+                plan: asked.plan,
+                source,
+            }),
+            Err(error) => Err(unread(&error)),
+        },
+        Err(fault) => Err(NoRun::from(fault)),
+    }
+}
+
+// The texts of words.
+fn texts_of(alloc: Global, words: &[String]) -> Result<Vec<&str>, AllocError> {
+    let mut texts = Vec::new(alloc);
+    for word in words {
+        texts.push(word.as_str())?;
+    }
+    Ok(texts)
+}
+
+// The words of a command line.
+fn words_of<V: Env>(words: &V, alloc: Global) -> Result<Vec<String>, NoRun> {
+    let found = match env::args(&(words, alloc)) {
+        Ok(found) => found,
+        Err(error) => {
+            return Err(match error.kind() {
+                ErrorKind::InvalidData => NoRun::Faulty(OptionsFault::NotUtf8),
+                _ => NoRun::Memory,
+            });
+        }
+    };
+    let mut texts = Vec::new(alloc);
+    for word in found {
+        texts.push(word)?;
+    }
+    Ok(texts)
+}
+
+// Why a source couldn't be read.
+fn unread(error: &io::Error) -> NoRun {
+    match error.kind() {
+        ErrorKind::OutOfMemory => NoRun::Memory,
+        _ => NoRun::FileRefused,
+    }
+}
+
+// The bytes of the source.
+fn source_of<R: Files + AllocGlobal, I: Read>(
+    rt: &R,
+    file: Option<&str>,
+    input: &mut I,
+) -> io::Result<Vec<u8>> {
+    match file {
+        Some(path) => front_of(rt.alloc(), fs::open(rt, path)?),
+        None => front_of(rt.alloc(), input),
+    }
+}
+
+// The bytes that are read of a source. They have its answer, however long it is.
+fn front_of<I: Read + Drop>(alloc: Global, reader: I) -> io::Result<Vec<u8>>
+    ensures { IfOk result (λ v. IfSome (I.remaining reader) (AnswersAs v.items)) }
+{
+    let mut source = Vec::new(alloc);
+    reader.take(BYTES_READ).read_to_end(&mut source)?;
+    Ok(source)
+}
+
+// Runs a source over a writer and flushes it; a flush that fails takes the place of the ending.
+fn run_whole<R: AllocGlobal + Threads + Wait + Sync, O: Write + Drop>(
+    rt: &R,
+    job: &Job,
+    out: O,
+) -> Ending {
+    let mut sink = Out::new(out);
+    let ending = run(rt, rt.alloc(), &job.source, &job.plan, &mut sink, &Open);
+    match sink.into_inner().flush() {
+        Ok(()) => ending,
+        Err(_) => Ending::WriteRefused,
+    }
+}
+
+// Writes the line of an ending, if it has one, and answers the exit status. A line that can't be written changes
+// nothing.
+fn report<E: Write>(ending: Ending, err: &mut E) -> u8
+    ensures { result ≡ status_of ending }
+{
+    match ending {
+        Ending::Ended => 0,
+        Ending::Stopped(message) => {
+            let _ = write_stop(message.text(), err);
+            0
+        }
+        Ending::Fault(fault) => {
+            let _ = writeln!(err, "FAULT {} LINE {}", fault.kind, fault.line);
+            1
+        }
+        Ending::Refused(rule, line) => {
+            let _ = writeln!(err, "REFUSED {rule} LINE {line}");
+            2
+        }
+        Ending::Memory => {
+            let _ = writeln!(err, "NO MEMORY");
+            4
+        }
+        Ending::WriteRefused => {
+            let _ = writeln!(err, "WRITE REFUSED");
+            5
+        }
+    }
+}
+
+// Writes the line of a STOP statement: STOP, and what it tells if that isn't empty.
+fn write_stop<E: Write>(message: &[u8], err: &mut E) -> io::Result<()> {
+    err.write_all(b"STOP")?;
+    if !message.is_empty() {
+        err.write_all(b" ")?;
+        err.write_all(message)?;
+    }
+    err.write_all(b"\n")
+}
+
+// Writes why no source is run, or the text that is asked for, and answers the exit status.
+fn report_no_run<O: Write + Drop, E: Write>(no_run: NoRun, out: O, err: &mut E) -> u8
+    ensures { IsStatusOf no_run result }
+{
+    match no_run {
+        NoRun::Help => report(show(HELP, out), err),
+        NoRun::Version => report(show(VERSION, out), err),
+        NoRun::Faulty(fault) => {
+            let _ = writeln!(err, "{fault}");
+            3
+        }
+        NoRun::Memory => report(Ending::Memory, err),
+        NoRun::FileRefused => {
+            let _ = writeln!(err, "FILE REFUSED");
+            5
+        }
+    }
+}
+
+// Writes a text and flushes it, and answers the ending that this is.
+fn show<O: Write + Drop>(text: &str, out: O) -> Ending
+    ensures { (result ≡ Ending.Ended) ⊎ (result ≡ Ending.WriteRefused) }
+{
+    let mut out = out;
+    if out.write_all(text.as_bytes()).is_err() {
+        return Ending::WriteRefused;
+    }
+    match out.flush() {
+        Ok(()) => Ending::Ended,
+        Err(_) => Ending::WriteRefused,
+    }
+}

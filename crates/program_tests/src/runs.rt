@@ -1,0 +1,527 @@
+//! The whole program over words, readers and writers in memory: its exit status and its line on standard error. The
+//! expected lines are worked from docs/LANGUAGE.md.
+
+use command_line::help::{HELP, VERSION};
+use engine::engine;
+use std::env::{Env, FillError};
+use std::io;
+use std::io::{ErrorKind, Read, Write};
+use std::process::Abort;
+use std::rt::Files;
+use std::sync::Wait;
+use std::test::*;
+use std::thread::Threads;
+
+/// The words of a command line.
+#[derive(Drop)]
+struct Words<'a> {
+    words: &'a [&'a [u8]],
+}
+
+impl Env for Words<'_> {
+    fn arg(&self, i: usize, buf: &mut [u8]) -> Result<usize, FillError> {
+        match self.words.get(i) {
+            None => Err(FillError::NotPresent),
+            Some(word) => {
+                if word.len() > buf.len() {
+                    return Err(FillError::TooLong);
+                }
+                buf[..word.len()].copy_from_slice(word);
+                Ok(word.len())
+            }
+        }
+    }
+
+    fn var(&self, _name: &str, _buf: &mut [u8]) -> Result<usize, FillError> {
+        Err(FillError::NotPresent)
+    }
+
+    fn var_at(&self, _i: usize, _buf: &mut [u8]) -> Result<usize, FillError> {
+        Err(FillError::NotPresent)
+    }
+}
+
+/// A reader that fails.
+#[derive(Drop)]
+struct Broken {
+    kind: ErrorKind,
+}
+
+impl Read for Broken {
+    fn read(&mut self, _buf: &mut [u8]) -> io::Result<usize> {
+        Err(io::Error::from(self.kind))
+    }
+}
+
+/// A writer that takes `room` bytes in all and then fails, at a flush too.
+#[derive(Drop)]
+struct Narrow {
+    room: usize,
+}
+
+impl Write for Narrow {
+    fn write(&mut self, buf: &[u8]) -> io::Result<usize> {
+        if self.room == 0 {
+            return Err(io::Error::from(ErrorKind::BrokenPipe));
+        }
+        let count = buf.len().min(self.room);
+        self.room -= count;
+        Ok(count)
+    }
+
+    fn flush(&mut self) -> io::Result<()> {
+        if self.room == 0 {
+            return Err(io::Error::from(ErrorKind::BrokenPipe));
+        }
+        Ok(())
+    }
+}
+
+/// What a run of the program left: its exit status, and what stands on standard output and standard error.
+#[derive(Drop)]
+struct Run {
+    status: u8,
+    out: Vec<u8>,
+    err: Vec<u8>,
+}
+
+// Runs the program of some words over a reader.
+fn run_of<R: Files + AllocGlobal + Threads + Wait + Sync, I: Read>(
+    rt: &R,
+    words: &[&[u8]],
+    input: &mut I,
+) -> Run {
+    let mut out = Vec::new(rt.alloc());
+    let mut err = Vec::new(rt.alloc());
+    let status = engine(rt, &Words { words }, input, &mut out, &mut err);
+    Run { status, out, err }
+}
+
+// Runs the program over standard input, and expects a status and a line.
+fn expect_line<R: Files + AllocGlobal + Threads + Wait + Sync + Abort, I: Read>(
+    rt: &R,
+    input: &mut I,
+    status: u8,
+    line: &str,
+) {
+    let run = run_of(rt, &[b"f77run", b"--turns", b"1000"], input);
+    assert!(rt; run.err.as_slice() == line.as_bytes(), "{line}");
+    assert!(rt; run.status == status, "{line}");
+    assert!(rt; run.out.is_empty(), "{line}");
+}
+
+const ANSWER: &str = "      WRITE (6,10) 42\n   10 FORMAT (1X,I5)\n      END\n";
+
+// A source that breaks one rule, and the line of the program.
+const REFUSALS: &[(&str, &str)] = &[
+    ("      I=\t1\n      END\n", "REFUSED C1 LINE 1\n"),
+    ("  00  I=1\n      END\n", "REFUSED C2 LINE 1\n"),
+    ("      I=1\n10   1+2\n      END\n", "REFUSED C3 LINE 2\n"),
+    ("     1+2\n      END\n", "REFUSED C4 LINE 1\n"),
+    // the 20th continuation line
+    (
+        "      I=1\n     1+1\n     1+1\n     1+1\n     1+1\n     1+1\n     1+1\n     1+1\n     1+1\n     1+1\n     1+1\n     1+1\n     1+1\n     1+1\n     1+1\n     1+1\n     1+1\n     1+1\n     1+1\n     1+1\n     1+1\n      END\n",
+        "REFUSED C5 LINE 21\n",
+    ),
+    ("      I='A\n      END\n", "REFUSED C6 LINE 1\n"),
+    ("      I=2*-3\n      END\n", "REFUSED G1 LINE 1\n"),
+    ("      READ (5,*) N\n      END\n", "REFUSED G2 LINE 1\n"),
+    // 65 parentheses open at once
+    (
+        "      (((((((((((((((((((((((((((((((((((((((((((((((((((((((((((((((((\n",
+        "REFUSED G3 LINE 1\n",
+    ),
+    (
+        "      I=1\n      INTEGER A(2)\n      END\n",
+        "REFUSED N1 LINE 2\n",
+    ),
+    ("      I=1\n", "REFUSED N2 LINE 1\n"),
+    ("      I=1\n      ELSE\n      END\n", "REFUSED N3 LINE 2\n"),
+    ("      DO 10 I=1,2\n      END\n", "REFUSED N4 LINE 2\n"),
+    ("   10 I=1\n   10 J=1\n      END\n", "REFUSED K1 LINE 2\n"),
+    // a transfer into a range
+    (
+        "      GO TO 10\n      DO 10 I=1,3\n   10 J=J+1\n      END\n",
+        "REFUSED K2 LINE 1\n",
+    ),
+    ("      X=1\n      END\n", "REFUSED K3 LINE 1\n"),
+    ("      INTEGER A,A\n      END\n", "REFUSED K4 LINE 1\n"),
+    ("      I=1.EQ.1\n      END\n", "REFUSED K5 LINE 1\n"),
+    ("      I=2147483648\n      END\n", "REFUSED K6 LINE 1\n"),
+    ("      INTEGER A(3:2)\n      END\n", "REFUSED K7 LINE 1\n"),
+    (
+        "      INTEGER A(2)\n      I=A\n      END\n",
+        "REFUSED K8 LINE 2\n",
+    ),
+    (
+        "      DO 10 I=1,2\n   10 I=3\n      END\n",
+        "REFUSED K9 LINE 2\n",
+    ),
+    (
+        "      DATA I/1/\n      DATA I/2/\n      END\n",
+        "REFUSED K10 LINE 2\n",
+    ),
+    (
+        "      WRITE (5,10)\n   10 FORMAT ()\n      END\n",
+        "REFUSED K11 LINE 1\n",
+    ),
+    ("      N(1)=0\n      END\n", "REFUSED K12 LINE 1\n"),
+    (
+        "      J=1\n      I=N(1)\n      END\n",
+        "REFUSED K13 LINE 2\n",
+    ),
+];
+
+// A source that faults before it writes anything, and the line of the program.
+const FAULTS: &[(&str, &str)] = &[
+    (
+        "      J=5\n      I=1/(J-J)\n      END\n",
+        "FAULT F1 LINE 2\n",
+    ),
+    (
+        "      I=2147483647\n      I=I+1\n      END\n",
+        "FAULT F2 LINE 2\n",
+    ),
+    (
+        "      INTEGER A(2)\n      A(3)=1\n      END\n",
+        "FAULT F3 LINE 2\n",
+    ),
+    // turn 1001: the DO statement takes one, and each assignment
+    (
+        "      DO 10 I=1,1000\n   10 J=I\n      END\n",
+        "FAULT F4 LINE 2\n",
+    ),
+    (
+        "      DO 10 I=1,3,0\n   10 CONTINUE\n      END\n",
+        "FAULT F5 LINE 1\n",
+    ),
+    ("      I=0**0\n      END\n", "FAULT F6 LINE 1\n"),
+    (
+        "      WRITE (6,10) 1\n   10 FORMAT (3X)\n      END\n",
+        "FAULT F7 LINE 1\n",
+    ),
+    // three records of 499,952 bytes
+    (
+        "      WRITE (6,10) 1,1,1\n   10 FORMAT (50(9999X),I1)\n      END\n",
+        "FAULT F8 LINE 1\n",
+    ),
+];
+
+#[test]
+fn refusals(rt: HostRuntime) {
+    for &(source, line) in REFUSALS {
+        let mut input = source.as_bytes();
+        expect_line(&rt, &mut input, 2, line);
+    }
+}
+
+#[test]
+fn deepest_ranges(rt: HostRuntime) -> Result<(), Fail> {
+    let mut source = Vec::new(rt.alloc());
+    for _ in 0..33 {
+        source.extend_from_slice(b"      DO 10 I=1,2\n")?;
+    }
+    source.extend_from_slice(b"   10 CONTINUE\n      END\n")?;
+    let mut input = source.as_slice();
+    expect_line(&rt, &mut input, 2, "REFUSED N5 LINE 33\n");
+    Ok(())
+}
+
+#[test]
+fn faults(rt: HostRuntime) {
+    for &(source, line) in FAULTS {
+        let mut input = source.as_bytes();
+        expect_line(&rt, &mut input, 1, line);
+    }
+}
+
+#[test]
+fn runs_to_its_end(rt: HostRuntime) {
+    let mut input = ANSWER.as_bytes();
+    let run = run_of(&rt, &[b"f77run"], &mut input);
+    assert!(rt; run.status == 0);
+    assert!(rt; run.err.is_empty());
+    assert!(rt; run.out.as_slice() == b"    42\n".as_slice());
+}
+
+// A source that a STOP statement ends before it writes anything, and the line of the program.
+const STOPS: &[(&str, &str)] = &[
+    ("      STOP\n      END\n", "STOP\n"),
+    // digits as they are written, without blanks
+    ("      STOP 7\n      END\n", "STOP 7\n"),
+    ("      STOP 0 0 0 7 7\n      END\n", "STOP 00077\n"),
+    ("      s t o p 99999\n      END\n", "STOP 99999\n"),
+    // a character constant, in which blanks and case have a meaning and two apostrophes are one
+    ("      STOP 'It''s done'\n      END\n", "STOP It's done\n"),
+    ("      STOP ''''\n      END\n", "STOP '\n"),
+    ("      STOP ' a  B '\n      END\n", "STOP  a  B \n"),
+    ("      STOP ' '\n      END\n", "STOP  \n"),
+    // one that is empty
+    ("      STOP ''\n      END\n", "STOP\n"),
+    // under a logical IF, and in an arm
+    (
+        "      IF (I.EQ.0) STOP 5\n      STOP 6\n      END\n",
+        "STOP 5\n",
+    ),
+    (
+        "      IF (I.EQ.1) THEN\n      STOP 1\n      ELSE\n      STOP 'TWO'\n      END IF\n      STOP 3\n      END\n",
+        "STOP TWO\n",
+    ),
+    // in a range, at its second trip
+    (
+        "      DO 10 I=1,3\n      IF (I.EQ.2) STOP 'SECOND'\n   10 CONTINUE\n      END\n",
+        "STOP SECOND\n",
+    ),
+];
+
+#[test]
+fn stops(rt: HostRuntime) {
+    for &(source, line) in STOPS {
+        let mut input = source.as_bytes();
+        expect_line(&rt, &mut input, 0, line);
+    }
+}
+
+// A value past the labels of a computed GO TO, a record, an arithmetic IF that goes past a STOP statement, and another.
+const NEXT_AND_STOP: &str =
+    "      GO TO (30,40),3\n      WRITE (6,10)\n   10 FORMAT ('NEXT')\n   30 IF (0) 40,50,40\n   40 STOP 'WRONG'\n   50 STOP 7\n      END\n";
+
+#[test]
+fn a_record_and_then_a_stop(rt: HostRuntime) {
+    let run = run_of(&rt, &[b"f77run"], &mut NEXT_AND_STOP.as_bytes());
+    assert!(rt; run.status == 0);
+    assert!(rt; run.err.as_slice() == b"STOP 7\n".as_slice());
+    assert!(rt; run.out.as_slice() == b"NEXT\n".as_slice());
+    // a line that can't be written, in part or at all, changes no status and no record
+    for &room in [0usize, 4, 6].as_slice() {
+        let words = Words {
+            words: &[b"f77run"],
+        };
+        let mut input = NEXT_AND_STOP.as_bytes();
+        let mut out = Vec::new(rt.alloc());
+        let status = engine(&rt, &words, &mut input, &mut out, &mut Narrow { room });
+        assert!(rt; status == 0);
+        assert!(rt; out.as_slice() == b"NEXT\n".as_slice());
+    }
+}
+
+#[test]
+fn longest_sources(rt: HostRuntime) {
+    // a comment line up to 1,048,576 bytes, and one byte more
+    let mut input = ANSWER.as_bytes().chain(io::repeat(b'*')).take(1_048_576);
+    let longest = run_of(&rt, &[b"f77run"], &mut input);
+    assert!(rt; longest.status == 0);
+    assert!(rt; longest.err.is_empty());
+    let mut input = ANSWER.as_bytes().chain(io::repeat(b'*')).take(1_048_577);
+    expect_line(&rt, &mut input, 2, "REFUSED C7 LINE 1\n");
+    // readers that never end
+    expect_line(&rt, &mut io::repeat(b'*'), 2, "REFUSED C7 LINE 1\n");
+    let endless = run_of(&rt, &[b"f77run", b"/dev/zero"], &mut io::empty());
+    assert!(rt; endless.status == 2);
+    assert!(rt; endless.err.as_slice() == b"REFUSED C7 LINE 1\n".as_slice());
+}
+
+// A command line that names no run, and the line of the program.
+const FAULTY: &[(&[&[u8]], &str)] = &[
+    (
+        &[b"f77run", b"a.f", b"b.f"],
+        "more than one file is named\n",
+    ),
+    (
+        &[b"f77run", b"--turn", b"5"],
+        "there is no such option; f77run --help lists the options\n",
+    ),
+    (
+        &[b"f77run", b"--turns"],
+        "an option stands without its number; f77run --help lists the options\n",
+    ),
+    (
+        &[b"f77run", b"--help=yes"],
+        "--help and --version take no value\n",
+    ),
+    (
+        &[b"f77run", b"--turns", b"5", b"--turns=5"],
+        "an option is given twice\n",
+    ),
+    (
+        &[b"f77run", b"--workers", b"0", b"x.f"],
+        "a number is wanted, from 1 to 64 for --workers, 1000000 for --block, 256 for --window, 1000000000000 for --turns\n",
+    ),
+    // a byte that stands in no UTF-8
+    (&[b"f77run", b"a\xff.f"], "an argument is not UTF-8\n"),
+    (&[b"f77run", b"a.f", b"\xff"], "an argument is not UTF-8\n"),
+];
+
+#[test]
+fn command_lines(rt: HostRuntime) {
+    for &(words, line) in FAULTY {
+        let run = run_of(&rt, words, &mut io::empty());
+        assert!(rt; run.status == 3, "{line}");
+        assert!(rt; run.err.as_slice() == line.as_bytes(), "{line}");
+        assert!(rt; run.out.is_empty(), "{line}");
+    }
+}
+
+// A request, and the text that answers it.
+const REQUESTS: &[(&[u8], &str)] = &[
+    (b"--help", HELP),
+    (b"-h", HELP),
+    (b"--version", VERSION),
+    (b"-V", VERSION),
+];
+
+#[test]
+fn requests(rt: HostRuntime) {
+    for &(word, text) in REQUESTS {
+        let run = run_of(&rt, &[b"f77run", word], &mut io::empty());
+        assert!(rt; run.status == 0);
+        assert!(rt; run.err.is_empty());
+        assert!(rt; run.out.as_slice() == text.as_bytes());
+        let mut err = Vec::new(rt.alloc());
+        let words = Words {
+            words: &[b"f77run", word],
+        };
+        let status = engine(&rt, &words, &mut io::empty(), Narrow { room: 3 }, &mut err);
+        assert!(rt; status == 5);
+        assert!(rt; err.as_slice() == b"WRITE REFUSED\n".as_slice());
+    }
+}
+
+// The words behind the program's name, a source, its exit status, its line and its records.
+const PLANNED: &[(&[&[u8]], &str, u8, &str, &str)] = &[
+    // the DO statement and three assignments take four turns
+    (&[b"f77run", b"--turns=4"], THREE_TRIPS, 0, "", ""),
+    (
+        &[b"f77run", b"--turns=3"],
+        THREE_TRIPS,
+        1,
+        "FAULT F4 LINE 2\n",
+        "",
+    ),
+    (
+        &[b"f77run", b"--turns", b"1"],
+        THREE_TRIPS,
+        1,
+        "FAULT F4 LINE 2\n",
+        "",
+    ),
+    // each of its statements takes a turn, and each condition of a block IF that is tested
+    (&[b"f77run", b"--turns", b"24"], ARMS, 0, "", "    4  112\n"),
+    (
+        &[b"f77run", b"--turns", b"23"],
+        ARMS,
+        1,
+        "FAULT F4 LINE 11\n",
+        "",
+    ),
+    // the DO statement and 49 of 100 assignments, whatever the blocks are
+    (
+        &[
+            b"f77run",
+            b"--turns",
+            b"50",
+            b"--workers",
+            b"8",
+            b"--block",
+            b"7",
+        ],
+        HUNDRED_TRIPS,
+        1,
+        "FAULT F4 LINE 3\n",
+        "",
+    ),
+    (
+        &[b"f77run", b"--turns", b"50", b"--workers", b"1"],
+        HUNDRED_TRIPS,
+        1,
+        "FAULT F4 LINE 3\n",
+        "",
+    ),
+    (
+        &[b"f77run", b"--turns=101", b"--window=1"],
+        HUNDRED_TRIPS,
+        0,
+        "",
+        "",
+    ),
+];
+
+const THREE_TRIPS: &str = "      DO 10 I=1,3\n   10 J=I\n      END\n";
+
+const HUNDRED_TRIPS: &str = "      INTEGER K(100)\n      DO 10 I=1,100\n   10 K(I)=I\n      END\n";
+
+const ARMS: &str =
+    "      I=0\n   10 I=I+1\n      IF (I.EQ.2) THEN\n      K=K+10\n      ELSE IF (I.EQ.3) THEN\n      K=K+100\n      ELSE\n      K=K+1\n      END IF\n      IF (I.LT.4) GO TO 10\n      WRITE (6,20) I,K\n   20 FORMAT (2I5)\n      END\n";
+
+#[test]
+fn turns_of_a_plan(rt: HostRuntime) {
+    for &(words, source, status, line, records) in PLANNED {
+        let run = run_of(&rt, words, &mut source.as_bytes());
+        assert!(rt; run.status == status, "{line}");
+        assert!(rt; run.err.as_slice() == line.as_bytes(), "{line}");
+        assert!(rt; run.out.as_slice() == records.as_bytes(), "{line}");
+    }
+}
+
+#[test]
+fn line_that_cannot_be_written(rt: HostRuntime) {
+    let words = Words {
+        words: &[b"f77run", b"--turns", b"0"],
+    };
+    let mut out = Vec::new(rt.alloc());
+    let status = engine(
+        &rt,
+        &words,
+        &mut io::empty(),
+        &mut out,
+        &mut Narrow { room: 0 },
+    );
+    assert!(rt; status == 3);
+    assert!(rt; out.is_empty());
+}
+
+#[test]
+fn files_that_cannot_be_read(rt: HostRuntime) {
+    // a file that isn't there, and a directory
+    for &name in [b"no such file.f".as_slice(), b"/".as_slice()].as_slice() {
+        let run = run_of(&rt, &[b"f77run", name], &mut io::empty());
+        assert!(rt; run.status == 5);
+        assert!(rt; run.err.as_slice() == b"FILE REFUSED\n".as_slice());
+        assert!(rt; run.out.is_empty());
+    }
+    let mut input = Broken {
+        kind: ErrorKind::BrokenPipe,
+    };
+    expect_line(&rt, &mut input, 5, "FILE REFUSED\n");
+    let mut input = Broken {
+        kind: ErrorKind::OutOfMemory,
+    };
+    expect_line(&rt, &mut input, 4, "NO MEMORY\n");
+}
+
+#[test]
+fn writes_that_are_refused(rt: HostRuntime) {
+    // in the record, and at the flush behind it
+    for &room in [0usize, 3, 7].as_slice() {
+        let mut input = ANSWER.as_bytes();
+        let mut err = Vec::new(rt.alloc());
+        let words = Words {
+            words: &[b"f77run"],
+        };
+        let status = engine(&rt, &words, &mut input, Narrow { room }, &mut err);
+        assert!(rt; status == 5);
+        assert!(rt; err.as_slice() == b"WRITE REFUSED\n".as_slice());
+    }
+}
+
+#[test]
+fn a_flush_that_is_refused_behind_a_stop(rt: HostRuntime) {
+    let mut err = Vec::new(rt.alloc());
+    let words = Words {
+        words: &[b"f77run"],
+    };
+    let mut input = NEXT_AND_STOP.as_bytes();
+    let status = engine(&rt, &words, &mut input, Narrow { room: 5 }, &mut err);
+    assert!(rt; status == 5);
+    assert!(rt; err.as_slice() == b"WRITE REFUSED\n".as_slice());
+}
