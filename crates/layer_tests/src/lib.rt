@@ -1,0 +1,16 @@
+//! Tests of the layers below the runs: the lines and columns of a source, bare texts and how statements nest; forms; formats and the
+//! records that they make; stores, sets of cells and private views; the board of a stage and its workers.
+#![tactic(auto)]
+
+#[cfg(test)]
+mod boards;
+#[cfg(test)]
+mod formats;
+#[cfg(test)]
+mod forms;
+#[cfg(test)]
+mod sources;
+#[cfg(test)]
+mod stores;
+#[cfg(test)]
+mod views;

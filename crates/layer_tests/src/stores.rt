@@ -1,0 +1,4 @@
+//! Stores, and the cells that subscripts lead to.
+
+mod cells;
+mod places;

@@ -1,0 +1,5 @@
+//! The program without its streams, and its command line: which words ask for which plan and file, what is wrong with others, and what
+//! a run writes and answers.
+
+mod runs;
+mod words;

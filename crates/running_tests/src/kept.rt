@@ -1,0 +1,5 @@
+//! The codes that a program keeps of its statements.
+
+mod actions;
+mod lengths;
+mod sources;

@@ -1,0 +1,212 @@
+//! Runs of a program in which the first stage of each DO statement is looked at, before the statement is executed.
+
+ghost use Rattle.std.specs.Prelude.{◌≡◌, ◌≢◌, ◌-◌, ◌*◌, ◌<◌, pos, length};
+ghost use Rattle.checker.specs.Checked.{count_in};
+ghost use Rattle.programs.specs.Acts.{Repeats};
+ghost use Rattle.block_stage.specs.Jobs.{shape_in};
+ghost use Rattle.stage_loop.specs.Loops.{AreIntegers, IsQuietLoop};
+ghost use Rattle.executor.specs.Calls.{IsAsked, IsGiven};
+
+use crate::staged::watch::{Watch, see};
+use array_store::Whole;
+use block_stage::Job;
+use evaluator::{count_of, limits_whole, loop_whole, repeat_in};
+use executor::run::run_by;
+use executor::{Out, Staged};
+use meaning::ending::{Ending, Outcome};
+use meaning::syntax::Loop;
+use programs::{Program, Repeat};
+use std::alloc::Global;
+use std::process::Abort;
+use std::sync::Wait;
+use std::sync::atomic::{AtomicU64, Ordering};
+use std::thread::Threads;
+
+/// How a source ended whose DO statements were looked at, what it wrote, and how many of them were looked at.
+#[derive(Drop)]
+pub struct Watched {
+    pub ending: Ending,
+    pub written: Vec<u8>,
+    pub looked: u64,
+}
+
+// Looks at the first stage of each DO statement, and executes it in order.
+#[derive(Drop)]
+struct Watching<'a, R: Abort> {
+    rt: &'a R,
+    alloc: Global,
+    // How many trips a block has, and how many blocks a stage at most.
+    block: u64,
+    window: u32,
+    // What is done with each stage.
+    watch: &'a Watch<'a>,
+    // How many DO statements were looked at.
+    looked: AtomicU64,
+}
+
+// The values of a DO statement's limits, how many trips it has, and the turns that are left for them.
+#[derive(Clone, Copy)]
+struct Course {
+    first: i32,
+    step: i32,
+    trips: u64,
+    turns: u64,
+}
+
+// How many blocks a stage has.
+fn blocks_of(left: u64, block: u64, window: u32) -> u32
+    requires left { 0 < left }
+    requires block { 0 < block }
+    requires window { 0 < window }
+    ensures some { 0 < result }
+    ensures last { (result - 1) * block < left }
+{
+    let whole = (left - 1) / block;
+    if whole < u64::from(window) {
+        return whole as u32 + 1;
+    }
+    window
+}
+
+// Looks at the first stage of a DO statement whose limits have these values.
+fn look_at<R: Abort + Threads + Wait + Sync>(
+    watching: &Watching<'_, R>,
+    program: &Program,
+    repeated: &Loop,
+    base: &Whole,
+    course: Course,
+)
+    requires quiet { IsQuietLoop program.now repeated.now }
+    requires sized { length base.now ≡ count_in program.now }
+    requires moves { course.step ≢ pos 0 }
+    requires fits { AreIntegers course.first course.step course.trips }
+{
+    let rt = watching.rt;
+    assert!(rt; watching.block > 0);
+    assert!(rt; watching.window > 0);
+    assert!(rt; course.trips > 0);
+    let blocks = blocks_of(course.trips, watching.block, watching.window);
+    let job = Job::new(
+        program,
+        repeated,
+        base,
+        course.first,
+        course.step,
+        course.trips,
+        watching.block,
+        blocks,
+        course.turns,
+    );
+    see(rt, watching.alloc, &job, blocks, base, watching.watch);
+    let _ = watching.looked.fetch_add(1, Ordering::SeqCst);
+}
+
+// Looks at the first stage of a DO statement over cells that may change.
+fn look<R: Abort + Threads + Wait + Sync>(
+    watching: &Watching<'_, R>,
+    program: &Program,
+    repeated: &Loop,
+    repeat: &Repeat,
+    base: &mut Whole,
+    turns: u64,
+)
+    requires asked { IsAsked program.now repeated.now base.old }
+    requires repeats { Repeats program.now repeat.now (shape_in repeated.now) }
+{
+    let rt = watching.rt;
+    assert!(rt; turns > 0);
+    match limits_whole(program, repeat, base) {
+        Ok(span) => {
+            let course = Course {
+                first: span.first,
+                step: span.step,
+                trips: count_of(span),
+                turns: turns - 1,
+            };
+            look_at(watching, program, repeated, base, course);
+        }
+        Err(_) => {}
+    }
+}
+
+// Looks at the first stage of a DO statement over a copy of the cells, if memory for it is granted.
+fn look_aside<R: Abort + Threads + Wait + Sync>(
+    watching: &Watching<'_, R>,
+    program: &Program,
+    repeated: &Loop,
+    repeat: &Repeat,
+    cells: &Whole,
+    turns: u64,
+)
+    requires asked { IsAsked program.now repeated.now cells.now }
+    requires repeats { Repeats program.now repeat.now (shape_in repeated.now) }
+{
+    match Whole::new(watching.alloc, cells.cells()) {
+        Ok(base) => {
+            let mut base = base;
+            look(watching, program, repeated, repeat, &mut base, turns);
+        }
+        Err(_) => {}
+    }
+}
+
+// Looks at the first stage of a DO statement, and executes it in order.
+fn look_and_run<R: Abort + Threads + Wait + Sync>(
+    watching: &Watching<'_, R>,
+    program: &Program,
+    repeated: &Loop,
+    cells: &mut Whole,
+    turns: &mut u64,
+) -> Outcome
+    requires { IsAsked program.now repeated.now cells.old }
+    ensures { IsGiven program.now repeated.now cells.old cells.new turns.old turns.new result }
+{
+    match repeat_in(program, &repeated.head) {
+        Some(repeat) => look_aside(watching, program, repeated, repeat, cells, *turns),
+        None => {}
+    }
+    loop_whole(program, repeated, cells, turns)
+}
+
+// How a source ends whose DO statements are looked at, and what it writes.
+fn run<R: Abort + Threads + Wait + Sync>(
+    watching: &Watching<'_, R>,
+    source: &[u8],
+    turns: u64,
+) -> (Ending, Vec<u8>) {
+    let staged = Staged {
+        call: |program: &Program, repeated: &Loop, cells: &mut Whole, turns: &mut u64| -> Outcome
+            requires { IsAsked program.now repeated.now cells.now }
+            ensures { IsGiven program.now repeated.now cells.old cells.new turns.old turns.new result }
+        { look_and_run(watching, program, repeated, cells, turns) },
+    };
+    let mut sink = Out::new(Vec::new(watching.alloc));
+    let ending = run_by(watching.alloc, &staged, source, turns, &mut sink);
+    (ending, sink.into_inner())
+}
+
+/// The run of a source whose DO statements are looked at, each in blocks of so many trips, of which a stage has so many at most.
+pub fn run_watched<R: Abort + Threads + Wait + Sync>(
+    rt: &R,
+    alloc: Global,
+    watch: &Watch<'_>,
+    block: u64,
+    window: u32,
+    source: &[u8],
+    turns: u64,
+) -> Watched {
+    let watching = Watching {
+        rt,
+        alloc,
+        block,
+        window,
+        watch,
+        looked: AtomicU64::new(0),
+    };
+    let (ending, written) = run(&watching, source, turns);
+    Watched {
+        ending,
+        written,
+        looked: watching.looked.load(Ordering::SeqCst),
+    }
+}

@@ -1,5 +1,0 @@
-use Rattle.block_stage.specs.Jobs.{data_of}
-use Rattle.stage_tests.proofs.seen.refused_blocks.Given as goal
-
-abbrev pub ghosts-refused_in : goal.ghosts-refused_in
-ghosts-refused_in a b = record { job = data_of b.job.now }
