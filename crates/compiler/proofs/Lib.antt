@@ -10,3 +10,4 @@ pub mod Subscripts
 pub mod Places
 pub mod Fused
 pub mod Results
+pub mod Keeping

@@ -1,5 +1,8 @@
 //! Why an expression has no code.
 
+ghost use Rattle.std.specs.Prelude.{◌≡◌};
+ghost use Rattle.compiler.specs.declared.no_code.NoCode.TheVariants.{Memory};
+
 use std::alloc::{AllocError, AllocFailed};
 
 /// Why an expression has no code.
@@ -14,12 +17,16 @@ pub enum NoCode {
 }
 
 impl From<AllocError> for NoCode {
+    ghost from_gives = { λ _ e. e ≡ Memory };
+
     fn from(_error: AllocError) -> NoCode {
         NoCode::Memory
     }
 }
 
 impl<T: Drop> From<AllocFailed<T>> for NoCode {
+    ghost from_gives = { λ _ e. e ≡ Memory };
+
     fn from(_error: AllocFailed<T>) -> NoCode {
         NoCode::Memory
     }
