@@ -11,3 +11,4 @@ pub mod Places
 pub mod Fused
 pub mod Results
 pub mod Keeping
+mod RulyExamples
