@@ -10,3 +10,5 @@ pub mod Subscripts
 pub mod Places
 pub mod Fused
 pub mod Results
+pub mod Keeping
+mod RulyExamples
