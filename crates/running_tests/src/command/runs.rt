@@ -85,6 +85,13 @@ struct Run {
     err: Vec<u8>,
 }
 
+impl Run {
+    /// Whether it left this status, this on standard error and this on standard output.
+    fn left(&self, status: u8, line: &[u8], records: &[u8]) -> bool {
+        self.status == status && self.err.as_slice() == line && self.out.as_slice() == records
+    }
+}
+
 // Runs the program of some words over a reader.
 fn run_of<R: Files + AllocGlobal + Threads + Wait + Sync, I: Read>(
     rt: &R,
@@ -97,6 +104,19 @@ fn run_of<R: Files + AllocGlobal + Threads + Wait + Sync, I: Read>(
     Run { status, out, err }
 }
 
+// Runs the program of some words over a reader, where standard output takes so many bytes; what it took isn't kept.
+fn left_narrow<R: Files + AllocGlobal + Threads + Wait + Sync, I: Read>(
+    rt: &R,
+    words: &[&[u8]],
+    input: &mut I,
+    room: usize,
+) -> Run {
+    let out = Vec::new(rt.alloc());
+    let mut err = Vec::new(rt.alloc());
+    let status = engine(rt, &Words { words }, input, Narrow { room }, &mut err);
+    Run { status, out, err }
+}
+
 // Runs the program over standard input, and expects a status and a line.
 fn expect_line<R: Files + AllocGlobal + Threads + Wait + Sync + Abort, I: Read>(
     rt: &R,
@@ -105,9 +125,7 @@ fn expect_line<R: Files + AllocGlobal + Threads + Wait + Sync + Abort, I: Read>(
     line: &str,
 ) {
     let run = run_of(rt, &[b"f77run", b"--turns", b"1000"], input);
-    assert!(rt; run.err.as_slice() == line.as_bytes(), "{line}");
-    assert!(rt; run.status == status, "{line}");
-    assert!(rt; run.out.is_empty(), "{line}");
+    assert!(rt; run.left(status, line.as_bytes(), b""), "{line}");
 }
 
 const ANSWER: &str = "      WRITE (6,10) 42\n   10 FORMAT (1X,I5)\n      END\n";
@@ -239,9 +257,7 @@ fn faults(rt: HostRuntime) {
 fn runs_to_its_end(rt: HostRuntime) {
     let mut input = ANSWER.as_bytes();
     let run = run_of(&rt, &[b"f77run"], &mut input);
-    assert!(rt; run.status == 0);
-    assert!(rt; run.err.is_empty());
-    assert!(rt; run.out.as_slice() == b"    42\n".as_slice());
+    assert!(rt; run.left(0, b"", b"    42\n"));
 }
 
 // A source that a STOP statement ends before it writes anything, and the line of the program.
@@ -289,19 +305,27 @@ const NEXT_AND_STOP: &str =
 #[test]
 fn a_record_and_then_a_stop(rt: HostRuntime) {
     let run = run_of(&rt, &[b"f77run"], &mut NEXT_AND_STOP.as_bytes());
-    assert!(rt; run.status == 0);
-    assert!(rt; run.err.as_slice() == b"STOP 7\n".as_slice());
-    assert!(rt; run.out.as_slice() == b"NEXT\n".as_slice());
-    // a line that can't be written, in part or at all, changes no status and no record
+    assert!(rt; run.left(0, b"STOP 7\n", b"NEXT\n"));
+}
+
+// The exit status and the records of the program that stops, where a line on standard error has so much room.
+fn left_beside<R: Files + AllocGlobal + Threads + Wait + Sync>(rt: &R, room: usize) -> Run {
+    let words = Words {
+        words: &[b"f77run"],
+    };
+    let mut input = NEXT_AND_STOP.as_bytes();
+    let mut out = Vec::new(rt.alloc());
+    let status = engine(rt, &words, &mut input, &mut out, &mut Narrow { room });
+    let err = Vec::new(rt.alloc());
+    Run { status, out, err }
+}
+
+/// A line that can't be written, in part or at all, changes no status and no record.
+#[test]
+fn a_stop_that_cannot_be_told(rt: HostRuntime) {
     for &room in [0usize, 4, 6].as_slice() {
-        let words = Words {
-            words: &[b"f77run"],
-        };
-        let mut input = NEXT_AND_STOP.as_bytes();
-        let mut out = Vec::new(rt.alloc());
-        let status = engine(&rt, &words, &mut input, &mut out, &mut Narrow { room });
-        assert!(rt; status == 0);
-        assert!(rt; out.as_slice() == b"NEXT\n".as_slice());
+        let run = left_beside(&rt, room);
+        assert!(rt; run.left(0, b"", b"NEXT\n"), "{room}");
     }
 }
 
@@ -310,15 +334,13 @@ fn longest_sources(rt: HostRuntime) {
     // a comment line up to 1,048,576 bytes, and one byte more
     let mut input = ANSWER.as_bytes().chain(io::repeat(b'*')).take(1_048_576);
     let longest = run_of(&rt, &[b"f77run"], &mut input);
-    assert!(rt; longest.status == 0);
-    assert!(rt; longest.err.is_empty());
+    assert!(rt; longest.left(0, b"", b"    42\n"));
     let mut input = ANSWER.as_bytes().chain(io::repeat(b'*')).take(1_048_577);
     expect_line(&rt, &mut input, 2, "REFUSED C7 LINE 1\n");
     // readers that never end
     expect_line(&rt, &mut io::repeat(b'*'), 2, "REFUSED C7 LINE 1\n");
     let endless = run_of(&rt, &[b"f77run", b"/dev/zero"], &mut io::empty());
-    assert!(rt; endless.status == 2);
-    assert!(rt; endless.err.as_slice() == b"REFUSED C7 LINE 1\n".as_slice());
+    assert!(rt; endless.left(2, b"REFUSED C7 LINE 1\n", b""));
 }
 
 // A command line that names no run, and the line of the program.
@@ -356,9 +378,7 @@ const FAULTY: &[(&[&[u8]], &str)] = &[
 fn command_lines(rt: HostRuntime) {
     for &(words, line) in FAULTY {
         let run = run_of(&rt, words, &mut io::empty());
-        assert!(rt; run.status == 3, "{line}");
-        assert!(rt; run.err.as_slice() == line.as_bytes(), "{line}");
-        assert!(rt; run.out.is_empty(), "{line}");
+        assert!(rt; run.left(3, line.as_bytes(), b""), "{line}");
     }
 }
 
@@ -374,16 +394,9 @@ const REQUESTS: &[(&[u8], &str)] = &[
 fn requests(rt: HostRuntime) {
     for &(word, text) in REQUESTS {
         let run = run_of(&rt, &[b"f77run", word], &mut io::empty());
-        assert!(rt; run.status == 0);
-        assert!(rt; run.err.is_empty());
-        assert!(rt; run.out.as_slice() == text.as_bytes());
-        let mut err = Vec::new(rt.alloc());
-        let words = Words {
-            words: &[b"f77run", word],
-        };
-        let status = engine(&rt, &words, &mut io::empty(), Narrow { room: 3 }, &mut err);
-        assert!(rt; status == 5);
-        assert!(rt; err.as_slice() == b"WRITE REFUSED\n".as_slice());
+        assert!(rt; run.left(0, b"", text.as_bytes()), "{text}");
+        let narrow = left_narrow(&rt, &[b"f77run", word], &mut io::empty(), 3);
+        assert!(rt; narrow.left(5, b"WRITE REFUSED\n", b""), "{text}");
     }
 }
 
@@ -457,9 +470,10 @@ const ARMS: &str =
 fn turns_of_a_plan(rt: HostRuntime) {
     for &(words, source, status, line, records) in PLANNED {
         let run = run_of(&rt, words, &mut source.as_bytes());
-        assert!(rt; run.status == status, "{line}");
-        assert!(rt; run.err.as_slice() == line.as_bytes(), "{line}");
-        assert!(rt; run.out.as_slice() == records.as_bytes(), "{line}");
+        assert!(rt;
+            run.left(status, line.as_bytes(), records.as_bytes()),
+            "{line}"
+        );
     }
 }
 
@@ -485,9 +499,7 @@ fn files_that_cannot_be_read(rt: HostRuntime) {
     // a file that isn't there, and a directory
     for &name in [b"no such file.f".as_slice(), b"/".as_slice()].as_slice() {
         let run = run_of(&rt, &[b"f77run", name], &mut io::empty());
-        assert!(rt; run.status == 5);
-        assert!(rt; run.err.as_slice() == b"FILE REFUSED\n".as_slice());
-        assert!(rt; run.out.is_empty());
+        assert!(rt; run.left(5, b"FILE REFUSED\n", b""));
     }
     let mut input = Broken {
         kind: ErrorKind::BrokenPipe,
@@ -503,25 +515,13 @@ fn files_that_cannot_be_read(rt: HostRuntime) {
 fn writes_that_are_refused(rt: HostRuntime) {
     // in the record, and at the flush behind it
     for &room in [0usize, 3, 7].as_slice() {
-        let mut input = ANSWER.as_bytes();
-        let mut err = Vec::new(rt.alloc());
-        let words = Words {
-            words: &[b"f77run"],
-        };
-        let status = engine(&rt, &words, &mut input, Narrow { room }, &mut err);
-        assert!(rt; status == 5);
-        assert!(rt; err.as_slice() == b"WRITE REFUSED\n".as_slice());
+        let run = left_narrow(&rt, &[b"f77run"], &mut ANSWER.as_bytes(), room);
+        assert!(rt; run.left(5, b"WRITE REFUSED\n", b""), "{room}");
     }
 }
 
 #[test]
 fn a_flush_that_is_refused_behind_a_stop(rt: HostRuntime) {
-    let mut err = Vec::new(rt.alloc());
-    let words = Words {
-        words: &[b"f77run"],
-    };
-    let mut input = NEXT_AND_STOP.as_bytes();
-    let status = engine(&rt, &words, &mut input, Narrow { room: 5 }, &mut err);
-    assert!(rt; status == 5);
-    assert!(rt; err.as_slice() == b"WRITE REFUSED\n".as_slice());
+    let run = left_narrow(&rt, &[b"f77run"], &mut NEXT_AND_STOP.as_bytes(), 5);
+    assert!(rt; run.left(5, b"WRITE REFUSED\n", b""));
 }
