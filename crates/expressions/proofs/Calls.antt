@@ -8,13 +8,12 @@ use Rattle.std.proofs.lemmas.Bool.{true≢false, eq-eqb, eqb-true}
 use Rattle.meaning.specs.declared.ending.Value.{Value}
 use Rattle.meaning.specs.Syntax.{ExprTree, name, number, truth, signed, negated, binary, paren, element, call}
 use Rattle.meaning.specs.Maps.{Map}
-use Rattle.meaning.specs.Types.{Types}
 use Rattle.meaning.specs.Values.{Known, Valued, value}
 use Rattle.meaning.specs.Intrinsics.{intrinsic_named}
-use Rattle.meaning.specs.Scopes.{Definition, with_dummies, calls_by, intrinsic_call, constants_alone}
+use Rattle.meaning.specs.Scopes.{Definition, with_dummies, calls_by, intrinsic_call}
 use Rattle.expressions.specs.declared.numbering.Function.{Function}
 use Rattle.expressions.specs.Names.{definition_by, IsDefined, IsFunction}
-use Rattle.expressions.specs.Glossaries.{Glossary, before, in_front, scope_in, scope_by, constants_named, room, heavy, weight}
+use Rattle.expressions.specs.Glossaries.{Glossary, before, in_front, scope_in, scope_by, room, heavy, weight}
 
 option_same : {A : Type 0} {x y : A} → Some x ≡ Some y → x ≡ y
 option_same h = cc
@@ -102,11 +101,6 @@ before_all (d ∷ ds) =
 pub scope_all : (g : Glossary) (vs : List Value) (n : ℕ) → n ≡ length g.definitions → scope_in g [] vs n ≡ scope_by g
 scope_all g vs n all =
     ap (λ ds. record { types = g.types; arrays = g.arrays; known = g.known; calls = calls_by g.types g.arrays g.known ds }) (ap (before g.definitions) all ∙ before_all g.definitions)
-
--- constants alone
-pub scope_of_constants : (types : Types) (known : Known) → scope_by (constants_named types known) ≡ constants_alone types known
-unfolding calls_by
-scope_of_constants types known = refl
 
 -- a statement function that may be called
 pub its_call : (g : Glossary) (letters : List ℕ) (f : Function) → IsDefined g.definitions letters f → (n : ℕ) → f.at < n → calls_by g.types g.arrays g.known (before g.definitions n) letters ≡ Some (function_of g (definition_by letters f) (before g.definitions f.at))

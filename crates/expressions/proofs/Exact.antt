@@ -36,3 +36,7 @@ no_difference a b below = rw below refl
 -- an INTEGER is within the range
 pub in_range : (z : ℤ) → FitsSigned w32 z → integer z ≡ Ok (Int z)
 in_range z fits = sym (outcome-exact (Some z) z (fits, refl))
+
+pub zero_is : integer (pos 0) ≡ Ok (Int (pos 0))
+unfolding integer
+zero_is = refl

@@ -1,5 +1,5 @@
 -- The items of an output list, one behind another.
-use Rattle.std.proofs.Common.{◌≡◌, ℕ, zero, suc, ◌+◌, ◌-◌, ◌<◌, ◌≤◌, nat_lt, ℤ, true, false, List, [], ◌∷◌, ◌++◌, append_assoc, length, Option, Some, None, Result, Ok, Err, IfOk, refl, sym, ap, subst, ◌∙◌, arith}
+use Rattle.std.proofs.Common.{◌≡◌, ℕ, zero, suc, ◌+◌, ◌-◌, ◌<◌, ◌≤◌, nat_lt, ℤ, true, false, List, [], ◌∷◌, ◌++◌, append_assoc, length, Option, Some, None, Result, Ok, Err, refl, sym, ap, subst, ◌∙◌, arith}
 use Rattle.std.proofs.lemmas.Bool.{lt-ltb, le-ltb}
 use Rattle.meaning.specs.declared.ending.FaultKind.{FaultKind}
 use Rattle.meaning.specs.declared.ending.FaultKind.TheVariants.{F8}
@@ -9,14 +9,13 @@ use Rattle.meaning.specs.Arrays.{size, place, elements}
 use Rattle.meaning.specs.Lists.{element_values, one_value, named_value, item_value}
 use Rattle.meaning.specs.Maps.{Map, CellNumbers, value_at, map_by}
 use Rattle.meaning.specs.Values.{Scope, Valued, value, typed, and_then}
-use Rattle.meaning.specs.Stores.{Cells, World, Reads}
-use Rattle.meaning.proofs.Stores.{reads_nothing, reads_so, reads_then}
+use Rattle.meaning.specs.Stores.{Cells, World, LeavesRead, known, Reads}
+use Rattle.meaning.proofs.Stores.{reads_nothing, reads_cell, reads_so, reads_then}
 use Rattle.expressions.specs.declared.numbering.Cells.{Cells as Variable}
 use Rattle.expressions.specs.Glossaries.{Glossary, scope_by}
 use Rattle.expressions.specs.Names.{AreCells}
 use Rattle.expressions.specs.Places.{left, from_cell}
 use Rattle.expressions.specs.Listed.{AreValues, element_at, cell_at, Partly, AddingElements, AddsElements, AddsItem, Adding, IsArrayIn}
-use Rattle.expressions.proofs.Reading.{Values}
 use Rattle.expressions.proofs.Ordered.{AreNumbered, elements-numbered, elements-length, length-both}
 
 some_none : {A : Type 0} {x : A} → Some x ≡ None → ⊥
@@ -75,6 +74,13 @@ module _ (g : Glossary) (numbers : CellNumbers) (count : ℕ) (n : List ℕ) (c 
 
 -- ---- read from a store
 
+pub place_reads : (u v : World) (c : ℕ) (o : Option ℕ) (z : ℤ) → o ≡ Some c → LeavesRead c u v → z ≡ known u c → Reads u v (λ m. value_at m o ≡ z)
+place_reads u v c o z is read value =
+    reads_so u v (λ m. m c ≡ known u c) (λ m. value_at m o ≡ z) (reads_cell c u v read) (λ m h. ap (value_at m) is ∙ h ∙ sym value)
+
+abbrev Values : Scope → CellNumbers → ExprTree → Valued → Cells → Type 0
+Values s numbers e r m = value s e (map_by numbers m) ≡ r
+
 module _ (g : Glossary) (numbers : CellNumbers) where
   module _ (count : ℕ) (n : List ℕ) (c : Variable) (array : g.arrays n ≡ Some (left c.place)) (cells : AreCells g numbers count n c) (u v : World) where
     pub array_adds : (before after : List Value) (given rest : ℕ) → AddingElements u v c before after given rest → Adding u v (λ m. item_value (scope_by g) (name n) (map_by numbers m) given) (map_by numbers) before after rest
@@ -126,10 +132,6 @@ module _ (g : Glossary) (numbers : CellNumbers) (count : ℕ) (e : ExprTree) (pl
   value_fails given k lt reads =
       reads_so u v (Values (scope_by g) numbers e (Err k)) (λ m. item_value (scope_by g) e (map_by numbers m) given ≡ Err k) reads (λ m h. plain_item g numbers count e (map_by numbers m) given plain ∙ one_fault (scope_by g) e (map_by numbers m) given k lt h)
 
-pub no_room : (g : Glossary) (numbers : CellNumbers) (count : ℕ) (e : ExprTree) → IsArrayIn g numbers count e None → (w : World) (given : ℕ) → given ≡ 0 → Reads w w (λ m. item_value (scope_by g) e (map_by numbers m) given ≡ Err F8)
-no_room g numbers count e plain w given none =
-    reads_nothing w (λ m. item_value (scope_by g) e (map_by numbers m) given ≡ Err F8) (λ m. plain_item g numbers count e (map_by numbers m) given plain ∙ ap (one_value (scope_by g) e (map_by numbers m)) none)
-
 -- ---- one element more
 
 pub partly_more : (u v w : World) (c : Variable) (before now next : List Value) (at : ℕ) (z : ℤ) (x : Value) → Partly u v c before now at → next ≡ now ++ x ∷ [] → Reads v w (λ m. value_at m (cell_at c.place at) ≡ z) → typed c.data_type z ≡ Ok x → Partly u w c before next (at + 1)
@@ -157,7 +159,3 @@ array_item g numbers count (binary operator a b) c array u v before after given 
 array_item g numbers count (paren e) c array u v before after given rest r added = absurd (some_none array)
 array_item g numbers count (element letters es) c array u v before after given rest r added = absurd (some_none array)
 array_item g numbers count (call letters) c array u v before after given rest r added = absurd (some_none array)
-
-pub if_ok_so : {A E : Type 0} {P Q : A → Type 0} (r : Result A E) → ((x : A) → P x → Q x) → IfOk r P → IfOk r Q
-if_ok_so (Ok x) so h = so x h
-if_ok_so (Err e) so h = tt

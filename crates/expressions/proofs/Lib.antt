@@ -5,8 +5,6 @@ pub mod Ordered
 pub mod Powers
 pub mod Naturals
 pub mod Places
-pub mod Called
 pub mod Calls
-pub mod Reading
-pub mod Spares
+pub mod Valuing
 pub mod Quotients

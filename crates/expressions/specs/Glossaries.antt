@@ -31,12 +31,9 @@ abbrev pub scope_in : Glossary → List ExprTree → List Value → ℕ → Scop
 scope_in g dummies vs n =
     record { types = g.types; arrays = g.arrays; known = with_dummies dummies vs g.known; calls = calls_by g.types g.arrays g.known (before g.definitions n) }
 
--- types and constants alone
-abbrev pub constants_named : Types → Known → Glossary
-constants_named types known = record { types = types; arrays = λ n. None; known = known; definitions = [] }
-
+-- no name stands for anything
 abbrev pub nothing_named : Glossary
-nothing_named = constants_named (λ n. None) nothing_known
+nothing_named = record { types = λ n. None; arrays = λ n. None; known = nothing_known; definitions = [] }
 
 -- ---- how long an evaluation can take
 

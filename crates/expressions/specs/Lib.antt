@@ -4,4 +4,4 @@ pub mod Dimensions
 pub mod Functions
 pub mod Glossaries
 pub mod Names
-pub mod Framed
+pub mod Calls

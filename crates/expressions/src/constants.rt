@@ -1,20 +1,18 @@
 //! Expressions of constants (ANSI X3.9-1978, 6.1.3 and 8.6).
 
-ghost use Rattle.std.specs.Prelude.{◌≡◌, None};
+ghost use Rattle.std.specs.Prelude.{◌≡◌, pos, Ok};
 ghost use Rattle.meaning.specs.Maps.{start};
-ghost use Rattle.meaning.specs.Scopes.{constants_alone, nothing_known};
-ghost use Rattle.meaning.specs.Syntax.{expr_tree};
+ghost use Rattle.meaning.specs.Scopes.{constants_alone};
+ghost use Rattle.meaning.specs.Syntax.{expr_tree, exprs_tree};
 ghost use Rattle.meaning.specs.Types.{Types};
-ghost use Rattle.meaning.specs.Values.{Known, value as value_of};
-ghost use Rattle.expressions.specs.Glossaries.{constants_named};
-ghost use Rattle.expressions.specs.Places.{no_cells};
+ghost use Rattle.meaning.specs.Values.{Known, or_known, typed, value as value_of};
+ghost use Rattle.expressions.specs.Calls.{call_value, value_behind, nothing_behind};
+ghost use Rattle.expressions.specs.Functions.{intrinsic};
 
-use crate::numbering::{Cells, Function, Named, Nameless, Numbering};
-use crate::place::Place;
-use crate::spare::Spare;
-use crate::value;
+use crate::intrinsics::{Arguments, Intrinsic};
+use crate::{as_integer, as_logical, constant, decided, operated, signed, zero_of};
 use meaning::ending::{FaultKind, Value};
-use meaning::syntax::{DataType, Expr};
+use meaning::syntax::{DataType, Expr, Exprs};
 
 /// Constants by their names, and the types of names.
 pub trait Constants {
@@ -38,68 +36,95 @@ pub trait Constants {
         ensures { result ≡ known self.now name.now };
 }
 
-impl Constants for Nameless {
-    ghost is_sound = { λ _. Unit {0} };
-
-    ghost types = { λ _ _. None };
-
-    ghost known = { λ _. nothing_known };
-
-    fn data_type(&self, _name: &[u8]) -> Option<DataType> {
-        None
-    }
-
-    fn constant(&self, _name: &[u8]) -> Option<Value> {
-        None
-    }
-}
-
-// Constants as all that names stand for.
-#[derive(Drop)]
-struct Alone<'a, C>(&'a C);
-
-impl<C: Constants> Numbering for Alone<'_, C> {
-    ghost is_sound = { λ a. C.is_sound a.0.now };
-
-    ghost names = { λ a. constants_named (C.types a.0.now) (C.known a.0.now) };
-
-    ghost numbers = { λ _. no_cells };
-
-    ghost count = { λ _. 1 };
-
-    fn functions(&self) -> usize {
-        0
-    }
-
-    fn find(&self, _name: &[u8]) -> Place<'_> {
-        Place::nowhere()
-    }
-
-    fn named(&self, name: &[u8]) -> Named<'_> {
-        match self.0.constant(name) {
-            Some(x) => Named::Constant(x),
-            None => Named::Variable(Cells {
-                place: Place::nowhere(),
-                data_type: self.0.data_type(name),
-            }),
-        }
-    }
-
-    fn array(&self, _name: &[u8]) -> Option<Cells<'_>> {
-        None
-    }
-
-    fn function(&self, _name: &[u8]) -> Option<Function<'_>> {
-        None
-    }
-}
-
 /// The value of an expression of constants, or its leftmost fault. A name that is no constant's would count as 0 or
-/// false.
+/// false, and as 0 with arguments.
+#[cycle(evaluation)]
 pub fn constant_value<C: Constants>(expression: &Expr, constants: &C) -> Result<Value, FaultKind>
     requires { C.is_sound constants.now }
     ensures { result ≡ value_of (constants_alone (C.types constants.now) (C.known constants.now)) (expr_tree expression.now) start }
 {
-    let mut spare = Spare { value: 0 };
-    value(expression, &Alone(constants), &mut spare)
+    match expression {
+        Expr::Number(digits) => constant(digits),
+        Expr::Truth(truth) => Ok(Value::Bool(*truth)),
+        Expr::Name(name) => Ok(name_value(name, constants)),
+        Expr::Signed(sign, operand) => {
+            let x = constant_value(operand, constants)?;
+            signed(*sign, as_integer(x))
+        }
+        Expr::Binary(operator, left, right) => {
+            let x = constant_value(left, constants)?;
+            match decided(*operator, x) {
+                Some(truth) => Ok(Value::Bool(truth)),
+                None => {
+                    let y = constant_value(right, constants)?;
+                    operated(*operator, x, y)
+                }
+            }
+        }
+        Expr::Not(operand) => {
+            let x = constant_value(operand, constants)?;
+            Ok(Value::Bool(!as_logical(x)))
+        }
+        Expr::Paren(operand) => constant_value(operand, constants),
+        Expr::Element(name, list) => call_of(name, list, constants),
+        Expr::Call(name) => call_of(name, &Exprs::Empty, constants),
+    }
+}
+
+// The value of a name.
+fn name_value<C: Constants>(name: &[u8], constants: &C) -> Value
+    requires { C.is_sound constants.now }
+    ensures { or_known (C.known constants.now name.now) (typed (C.types constants.now name.now) (pos 0)) ≡ Ok result }
+{
+    match constants.constant(name) {
+        Some(x) => x,
+        None => zero_of(constants.data_type(name)),
+    }
+}
+
+// The value of an intrinsic function; 0 where the name is none's.
+#[cycle(evaluation)]
+fn call_of<C: Constants>(name: &[u8], list: &Exprs, constants: &C) -> Result<Value, FaultKind>
+    requires { C.is_sound constants.now }
+    ensures { result ≡ call_value (constants_alone (C.types constants.now) (C.known constants.now)) name.now (exprs_tree list.now) start }
+{
+    match Intrinsic::named(name) {
+        Some(function) => intrinsic_value(function, Arguments::None, list, constants),
+        None => nothing_of(list, constants),
+    }
+}
+
+// The value of an intrinsic function, its arguments first to last behind those so far.
+#[cycle(evaluation)]
+fn intrinsic_value<C: Constants>(
+    function: Intrinsic,
+    so_far: Arguments,
+    list: &Exprs,
+    constants: &C,
+) -> Result<Value, FaultKind>
+    requires { C.is_sound constants.now }
+    ensures { result ≡ value_behind (constants_alone (C.types constants.now) (C.known constants.now)) (intrinsic function) so_far (exprs_tree list.now) start }
+{
+    match list {
+        Exprs::Empty => so_far.value(function),
+        Exprs::More(first, rest) => {
+            let x = as_integer(constant_value(first, constants)?);
+            intrinsic_value(function, so_far.with(function, x), rest, constants)
+        }
+    }
+}
+
+// 0, where the arguments have values.
+#[cycle(evaluation)]
+fn nothing_of<C: Constants>(list: &Exprs, constants: &C) -> Result<Value, FaultKind>
+    requires { C.is_sound constants.now }
+    ensures { result ≡ nothing_behind (constants_alone (C.types constants.now) (C.known constants.now)) (exprs_tree list.now) start }
+{
+    match list {
+        Exprs::Empty => Ok(Value::Int(0)),
+        Exprs::More(first, rest) => {
+            let _x = constant_value(first, constants)?;
+            nothing_of(rest, constants)
+        }
+    }
 }

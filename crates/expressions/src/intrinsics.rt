@@ -1,8 +1,8 @@
 //! The intrinsic functions of INTEGER (ANSI X3.9-1978, 15.3, 15.10 and table 5).
 
-ghost use Rattle.std.specs.Prelude.{◌≡◌, ℤ, List, [], ◌∷◌, option_map, is_some, FitsSigned, SomeIff};
+ghost use Rattle.std.specs.Prelude.{◌≡◌, ℤ, List, [], ◌∷◌, option_map, FitsSigned, SomeIff};
 ghost use Rattle.std.specs.Int.{w32};
-ghost use Rattle.meaning.specs.Intrinsics.{intrinsic_named, takes as takes_of, magnitude as magnitude_of, greater as greater_of, lesser as lesser_of, with_sign_of, remainder as remainder_function, positive_difference as difference_function, of_two as value_of_two};
+ghost use Rattle.meaning.specs.Intrinsics.{intrinsic_named, magnitude as magnitude_of, greater as greater_of, lesser as lesser_of, with_sign_of, remainder as remainder_function, positive_difference as difference_function, of_two as value_of_two};
 ghost use Rattle.expressions.specs.Functions.{intrinsic, value_from};
 
 use crate::integer_of;
@@ -23,13 +23,6 @@ pub enum Intrinsic {
     SignTransfer,
     /// `DIM` and `IDIM`.
     PositiveDifference,
-}
-
-/// Whether a name is that of an intrinsic function.
-pub fn is_intrinsic(name: &[u8]) -> bool
-    ensures { result ≡ is_some (intrinsic_named name.now) }
-{
-    Intrinsic::named(name).is_some()
 }
 
 impl Intrinsic {
@@ -56,20 +49,6 @@ impl Intrinsic {
             return Some(Intrinsic::PositiveDifference);
         }
         None
-    }
-
-    /// Whether it takes so many arguments.
-    pub fn takes(self, count: usize) -> bool
-        ensures { result ≡ takes_of (intrinsic self) count }
-    {
-        match self {
-            Intrinsic::Absolute => count == 1,
-            Intrinsic::Remainder => count == 2,
-            Intrinsic::Greatest => count >= 2,
-            Intrinsic::Least => count >= 2,
-            Intrinsic::SignTransfer => count == 2,
-            Intrinsic::PositiveDifference => count == 2,
-        }
     }
 
     // The value of two arguments.

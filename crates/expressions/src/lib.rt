@@ -1,123 +1,37 @@
-//! The values of expressions (ANSI X3.9-1978, 6.1, 6.6 and chapter 15).
+//! Operators and intrinsic functions, expressions of constants, and what the names of a program unit stand for (ANSI X3.9-1978, 6.1,
+//! 6.6 and chapter 15).
 #![tactic(auto)]
 
 mod constants;
 mod dimension;
-mod evaluation;
-mod frame;
 mod intrinsics;
-mod listing;
 mod numbering;
 mod place;
-mod spare;
 mod trips;
 
-ghost use Rattle.std.specs.Prelude.{◌≡◌, ◌<◌, ◌≤◌, ◌^◌, ℤ, pos, [], int_div, FitsSigned, SomeIff, IfOk, Ok};
+ghost use Rattle.std.specs.Prelude.{◌≡◌, ℤ, pos, int_div, FitsSigned, SomeIff, Ok};
 ghost use Rattle.std.specs.Int.{w32};
-ghost use Rattle.meaning.specs.Syntax.{expr_tree, exprs_tree};
-ghost use Rattle.meaning.specs.Values.{value as value_of, subscripts as subscripts_of, integer, or_known, typed as typed_as, as_integer as integer_in, as_logical as logical_in, with_sign, operated as operated_on, decided as decided_by, divided as divided_by, raised as raised_to};
-ghost use Rattle.meaning.specs.Maps.{map_by, value_at as value_in};
-ghost use Rattle.meaning.specs.Stores.{Reads};
+ghost use Rattle.meaning.specs.Values.{integer, typed as typed_as, as_integer as integer_in, as_logical as logical_in, with_sign, operated as operated_on, decided as decided_by, divided as divided_by, raised as raised_to};
 ghost use Rattle.meaning.specs.Characters.{number_of};
-ghost use Rattle.expressions.specs.Glossaries.{scope_by};
-ghost use Rattle.expressions.specs.Places.{left, behind, limit, Found};
 
-use array_store::Store;
 pub use constants::{Constants, constant_value};
 pub use dimension::Dimension;
-pub use evaluation::callable;
-use evaluation::{subscripts_in, value_in as evaluated};
-use frame::Frame;
-pub use intrinsics::{Arguments, Intrinsic, is_intrinsic};
-pub use listing::add_item;
+pub use intrinsics::{Arguments, Intrinsic};
 use meaning::ending::{FaultKind, Value};
 use meaning::number::number;
-use meaning::syntax::{DataType, Expr, Exprs, Operator, Sign};
-pub use numbering::{Cells, Function, Named, Nameless, Numbering};
+use meaning::syntax::{DataType, Operator, Sign};
+pub use numbering::{Cells, Function, Named, Numbering, callable};
 pub use place::Place;
 pub use trips::trip_count;
 
-/// The value of an expression, or its leftmost fault: F1 where a divisor is zero, F2 where a result leaves the range of
-/// INTEGER, F3 where a subscript is outside its bounds, F6 where zero has an exponent of zero or less.
-pub fn value<N: Numbering, S: Store>(
-    expression: &Expr,
-    numbering: &N,
-    store: &mut S,
-) -> Result<Value, FaultKind>
-    requires sound { N.is_sound numbering.now }
-    requires sized { (S.world store.old).cells ≡ N.count numbering.now }
-    ensures reads { Reads (S.world store.old) (S.world store.new) (λ m. value_of (scope_by (N.names numbering.now)) (expr_tree expression.now) (map_by (N.numbers numbering.now) m) ≡ result) }
-    ensures cells { (S.world store.new).cells ≡ (S.world store.old).cells }
-{
-    let frame = Frame {
-        dummies: &Exprs::Empty,
-        values: &[],
-        callable: numbering.functions(),
-    };
-    evaluated(expression, frame, numbering, store)
-}
-
-/// The place that subscripts lead to, each checked against its bounds as soon as it has its value; or the leftmost
-/// fault.
-pub fn place_of<'a, N: Numbering, S: Store>(
-    subscripts: &Exprs,
-    numbering: &N,
-    place: Place<'a>,
-    store: &mut S,
-) -> Result<Place<'a>, FaultKind>
-    requires sound { N.is_sound numbering.now }
-    requires sized { (S.world store.old).cells ≡ N.count numbering.now }
-    requires limited { limit place ≤ N.count numbering.now }
-    requires few { limit place < 2 ^ 64 }
-    ensures reads { Reads (S.world store.old) (S.world store.new) (λ m. Found (subscripts_of (scope_by (N.names numbering.now)) (left place.entry) (exprs_tree subscripts.now) (map_by (N.numbers numbering.now) m)) place.entry result) }
-    ensures limited { IfOk result (λ p. limit p ≤ N.count numbering.now) }
-    ensures cells { (S.world store.new).cells ≡ (S.world store.old).cells }
-{
-    let frame = Frame {
-        dummies: &Exprs::Empty,
-        values: &[],
-        callable: numbering.functions(),
-    };
-    subscripts_in(subscripts, frame, numbering, place, store)
-}
-
-// The value of a constant or a variable.
-fn name_value<N: Numbering, S: Store>(
-    name: &[u8],
-    numbering: &N,
-    store: &mut S,
-) -> Result<Value, FaultKind>
-    requires sound { N.is_sound numbering.now }
-    requires sized { (S.world store.old).cells ≡ N.count numbering.now }
-    ensures reads { Reads (S.world store.old) (S.world store.new) (λ m. or_known ((N.names numbering.now).known name.now) (typed_as ((N.names numbering.now).types name.now) (map_by (N.numbers numbering.now) m name.now [])) ≡ result) }
-    ensures cells { (S.world store.new).cells ≡ (S.world store.old).cells }
-{
-    match numbering.named(name) {
-        Named::Constant(x) => Ok(x),
-        Named::Variable(cells) => Ok(typed(cells.data_type, value_at(cells.place, store))),
-    }
-}
-
-// What a variable or an element of a type has: a LOGICAL is true unless it is 0.
-fn typed(data_type: Option<DataType>, x: i32) -> Value
-    ensures { typed_as data_type x ≡ Ok result }
+// What a name of a type has where nothing gives it a value.
+fn zero_of(data_type: Option<DataType>) -> Value
+    ensures { typed_as data_type (pos 0) ≡ Ok result }
 {
     match data_type {
-        Some(DataType::Logical) => Value::Bool(x != 0),
-        Some(DataType::Integer) => Value::Int(x),
-        None => Value::Int(x),
-    }
-}
-
-// The value of the cell that a place leads to, and 0 where it leads to none.
-fn value_at<S: Store>(place: Place<'_>, store: &mut S) -> i32
-    requires { limit place ≤ (S.world store.old).cells }
-    ensures reads { Reads (S.world store.old) (S.world store.new) (λ m. value_in m (behind place.entry []) ≡ result) }
-    ensures cells { (S.world store.new).cells ≡ (S.world store.old).cells }
-{
-    match place.cell() {
-        Some(cell) => store.read(cell),
-        None => 0,
+        Some(DataType::Logical) => Value::Bool(false),
+        Some(DataType::Integer) => Value::Int(0),
+        None => Value::Int(0),
     }
 }
 

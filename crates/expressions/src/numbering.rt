@@ -3,9 +3,10 @@
 ghost use Rattle.std.specs.Prelude.{◌≡◌, ◌<◌, ◌≤◌, ◌^◌, ℕ, ℤ, List, length};
 ghost use Rattle.meaning.specs.Maps.{CellNumbers};
 ghost use Rattle.meaning.specs.Values.{dimensions_in};
-ghost use Rattle.expressions.specs.Glossaries.{Glossary, nothing_named};
+ghost use Rattle.expressions.specs.Glossaries.{Glossary};
+ghost use Rattle.expressions.specs.Calls.{IsCallable};
 ghost use Rattle.expressions.specs.Names.{IsNamed, IsArray, IsFunction};
-ghost use Rattle.expressions.specs.Places.{left, behind, limit, no_cells};
+ghost use Rattle.expressions.specs.Places.{left, behind, limit};
 
 use crate::Place;
 use meaning::ending::Value;
@@ -81,39 +82,23 @@ pub trait Numbering {
         ensures { IsFunction (names self.now).definitions name.now result };
 }
 
-/// No variables, no arrays, no constants and no statement functions: a name leads to no cell, and counts as 0. The one
-/// cell is nobody's.
-pub struct Nameless;
-
-impl Numbering for Nameless {
-    ghost is_sound = { λ _. Unit {0} };
-
-    ghost names = { λ _. nothing_named };
-
-    ghost numbers = { λ _. no_cells };
-
-    ghost count = { λ _. 1 };
-
-    fn functions(&self) -> usize {
-        0
-    }
-
-    fn find(&self, _name: &[u8]) -> Place<'_> {
-        Place::nowhere()
-    }
-
-    fn named(&self, _name: &[u8]) -> Named<'_> {
-        Named::Variable(Cells {
-            place: Place::nowhere(),
-            data_type: None,
-        })
-    }
-
-    fn array(&self, _name: &[u8]) -> Option<Cells<'_>> {
-        None
-    }
-
-    fn function(&self, _name: &[u8]) -> Option<Function<'_>> {
-        None
+/// The statement function with a name, if it is one of those that may be called, the first so many.
+pub fn callable<'a, N: Numbering>(
+    name: &[u8],
+    most: usize,
+    numbering: &'a N,
+) -> Option<Function<'a>>
+    requires { N.is_sound numbering.now }
+    ensures { IsCallable (N.names numbering.now) most name.now result }
+{
+    match numbering.function(name) {
+        Some(function) => {
+            if function.at < most {
+                Some(function)
+            } else {
+                None
+            }
+        }
+        None => None,
     }
 }

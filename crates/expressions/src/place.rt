@@ -1,9 +1,9 @@
 //! Places: what a name and the subscripts that are known lead to (ANSI X3.9-1978, 5.4).
 
-ghost use Rattle.std.specs.Prelude.{◌≡◌, ◌+◌, ◌*◌, ◌<◌, ◌≤◌, ◌^◌, IfSome, ℕ, ℤ, List, [], None, Some, map, option_map};
+ghost use Rattle.std.specs.Prelude.{◌≡◌, ◌+◌, ◌<◌, ◌≤◌, IfSome, ℤ, List, [], None, map, option_map};
 ghost use Rattle.meaning.specs.Arrays.{place as place_in, size};
 ghost use Rattle.expressions.specs.Dimensions.{dimension};
-ghost use Rattle.expressions.specs.Places.{capped, left, from_cell, behind, limit, Steps};
+ghost use Rattle.expressions.specs.Places.{capped, left, behind, limit};
 
 use crate::Dimension;
 use meaning::cell::Cell;
@@ -64,28 +64,6 @@ impl<'a> Place<'a> {
         self.left
     }
 
-    /// One subscript more; `None` where it is outside its bounds. Where there are no further dimensions, no cell is left.
-    pub fn next(self, subscript: i32) -> Option<Place<'a>>
-        requires { limit self < 2 ^ 64 }
-        ensures { Steps self.entry subscript result }
-    {
-        match self.left.split_first() {
-            None => Some(Place {
-                cell: None,
-                stride: self.stride,
-                left: self.left,
-            }),
-            Some((first, rest)) => match first.above(subscript) {
-                None => None,
-                Some(above) => Some(Place {
-                    cell: moved(self.cell, self.stride, above),
-                    stride: self.stride.saturating_mul(first.extent() as usize),
-                    left: rest,
-                }),
-            },
-        }
-    }
-
     /// How many elements it has by the subscripts that are left, or 2^64-1 where there are more.
     pub fn size(self) -> usize
         ensures { result ≡ capped (size (left self.entry)) }
@@ -95,19 +73,6 @@ impl<'a> Place<'a> {
             found = found.saturating_mul(one.extent() as usize);
         }
         found
-    }
-
-    /// The cell of the element with a number, counted from 0.
-    pub fn element(self, at: usize) -> Option<Cell>
-        requires within { at < size (left self) }
-        requires few { limit self < 2 ^ 64 }
-        ensures cell { option_map (λ c. c.0) result ≡ from_cell self.entry.cell self.entry.stride (Some at) }
-        ensures small { IfSome result (λ c. c.0 < limit self.entry) }
-    {
-        match self.cell {
-            Some(first) => Some(Cell(first + self.stride * at)),
-            None => None,
-        }
     }
 
     /// The cell that it leads to without further subscripts.
@@ -120,15 +85,5 @@ impl<'a> Place<'a> {
         } else {
             None
         }
-    }
-}
-
-/// A cell moved by so many strides.
-fn moved(cell: Option<usize>, stride: usize, by: u64) -> Option<usize>
-    ensures { result ≡ option_map (λ c. capped (c + capped (stride * by))) cell }
-{
-    match cell {
-        Some(cell) => Some(cell.saturating_add(stride.saturating_mul(by as usize))),
-        None => None,
     }
 }

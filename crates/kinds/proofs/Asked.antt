@@ -12,7 +12,7 @@ use Rattle.meaning.specs.Maps.{Map}
 use Rattle.meaning.specs.Scopes.{listed, calls_by}
 use Rattle.meaning.specs.Values.{Scope, value}
 use Rattle.expressions.specs.declared.numbering.Function.{Function}
-use Rattle.expressions.specs.Framed.{most, IsCallable}
+use Rattle.expressions.specs.Calls.{most, IsCallable}
 use Rattle.expressions.specs.Glossaries.{Glossary, scope_in, before}
 use Rattle.expressions.specs.Names.{definition_by}
 use Rattle.expressions.proofs.Calls.{function_of, its_call, dummies_enough}

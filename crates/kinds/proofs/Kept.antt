@@ -8,7 +8,7 @@ use Rattle.meaning.specs.Maps.{Map}
 use Rattle.meaning.specs.Scopes.{with_dummies}
 use Rattle.meaning.specs.Values.{Known, Scope, value, arguments, and_then}
 use Rattle.std.specs.Borrow.{Bor}
-use Rattle.expressions.specs.Framed.{most, IsNameIn}
+use Rattle.expressions.specs.Calls.{most, IsNameIn}
 use Rattle.kinds.specs.Kinds.{is_truth, HasKind, IsDummyKind}
 
 -- ---- the first so many

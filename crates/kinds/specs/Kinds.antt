@@ -10,7 +10,7 @@ use Rattle.meaning.specs.Maps.{Map}
 use Rattle.meaning.specs.Scopes.{listed, with_dummies}
 use Rattle.meaning.specs.Syntax.{ExprTree, ExprsTree, exprs_tree}
 use Rattle.meaning.specs.Values.{Known, Scope, Valued, value, arguments}
-use Rattle.expressions.specs.Framed.{call_value, most}
+use Rattle.expressions.specs.Calls.{call_value, most}
 use Rattle.expressions.specs.Glossaries.{Glossary, scope_in}
 use Rattle.kinds.specs.declared.kinds.Frame.{Frame}
 use Rattle.kinds.specs.declared.kinds.Kept.{Kept}

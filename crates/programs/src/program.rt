@@ -59,13 +59,6 @@ impl Model for Program {
 }
 
 impl Program {
-    /// The program without codes: its tree, its names and formats.
-    pub fn unit(&self) -> &checker::Program
-        ensures { result.now ≡ self.now }
-    {
-        &self.parts.unit
-    }
-
     /// Its program unit, which breaks no rule.
     pub fn tree(&self) -> &Tree
         ensures tree { result.now ≡ self.now }

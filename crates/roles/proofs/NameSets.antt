@@ -1,18 +1,14 @@
 -- Sets of names, one name or some names more.
-use Rattle.std.proofs.Common.{◌≡◌, ℕ, ◌+◌, ◌<◌, Bool, true, false, ◌||◌, List, [], ◌∷◌, ◌++◌, length, get_or, take, map, refl, sym, ap, ◌∙◌}
+use Rattle.std.proofs.Common.{◌≡◌, ℕ, ◌+◌, ◌<◌, Bool, true, false, ◌||◌, List, [], ◌∷◌, ◌++◌, length, get_or, take, refl, sym, ap, ◌∙◌}
 use Rattle.std.specs.Global.{Vec}
 use Rattle.std.specs.Prelude.{if◌then◌else◌}
 use Rattle.std.specs.Str.{bytes_eq}
-use Rattle.std.specs.List.{filter, list_any}
+use Rattle.std.specs.List.{list_any}
 use Rattle.std.proofs.lemmas.List.{map-append}
-use Rattle.std.proofs.lemmas.List.Elements.{filter-append}
 use Rattle.std.proofs.lemmas.List.Folds.{list_any-append}
 use Rattle.std.proofs.lemmas.List.Sums.{fold-append}
 use Rattle.std.proofs.lemmas.Slice.Eq.{bytes_eq-Decides}
-use Rattle.meaning.specs.Uses.{Use}
-use Rattle.roles.specs.declared.uses.NameUse.{NameUse}
 use Rattle.roles.specs.NameSets.{texts, with_name, with_names}
-use Rattle.roles.specs.UsesAt.{names_passing, use_at, uses_at}
 use Rattle.roles.proofs.Passes.{taken_more}
 
 -- names behind those that are there, in two parts
@@ -46,20 +42,6 @@ pub names_more : {X : Type 0} (f : List X → List (List ℕ)) (one : X → List
 names_more f one law xs i x front now next lt is so_far added =
     added ∙ ap (λ ns. with_names ns (one x)) so_far ∙ sym (with_names_append front (f (take i xs)) (one x))
     ∙ ap (with_names front) (sym (law (take i xs) x) ∙ ap f (sym (taken_more xs i x lt is)))
-
-pub passing_law : (test : Use → Bool) (us : List NameUse) (u : NameUse) → names_passing test (uses_at (us ++ u ∷ [])) ≡ names_passing test (uses_at us) ++ names_passing test (use_at u ∷ [])
-passing_law test us u =
-    ap (names_passing test) (map-append use_at us (u ∷ []))
-    ∙ ap (map (λ v. v.name)) (filter-append test (uses_at us) (use_at u ∷ []))
-    ∙ map-append (λ v. v.name) (filter test (uses_at us)) (filter test (use_at u ∷ []))
-
-pub passed_name : (test : Use → Bool) (u : NameUse) (names : List (List ℕ)) → test (use_at u) ≡ true → with_name names u.name.now ≡ with_names names (names_passing test (use_at u ∷ []))
-passed_name test u names passes =
-    ap (λ b. with_names names (map (λ v. v.name) (if b then use_at u ∷ [] else []))) (sym passes)
-
-pub failed_name : (test : Use → Bool) (u : NameUse) (names : List (List ℕ)) → test (use_at u) ≡ false → names ≡ with_names names (names_passing test (use_at u ∷ []))
-failed_name test u names fails =
-    ap (λ b. with_names names (map (λ v. v.name) (if b then use_at u ∷ [] else []))) (sym fails)
 
 -- ---- whether a name is among them
 

@@ -1,6 +1,5 @@
 -- Uses of names behind references.
-use Rattle.std.specs.Prelude.{ℕ, Bool, List, map, Option, Some, None}
-use Rattle.std.specs.List.{filter}
+use Rattle.std.specs.Prelude.{ℕ, List, map, Option, Some, None}
 use Rattle.meaning.specs.Syntax.{exprs_tree}
 use Rattle.meaning.specs.Uses.{Use, count}
 use Rattle.roles.specs.declared.uses.NameUse.{NameUse}
@@ -18,7 +17,3 @@ use_at u = record { name = u.name.now; arguments = arguments_at u.arguments }
 
 abbrev pub uses_at : List NameUse → List Use
 uses_at us = map use_at us
-
--- the names of the uses that pass a test
-abbrev pub names_passing : (Use → Bool) → List Use → List (List ℕ)
-names_passing test us = map (λ u. u.name) (filter test us)

@@ -17,9 +17,9 @@ mod statements;
 mod typing;
 mod uses;
 
-pub use arrays::{Ranks, declarators_in, has_rank, rank};
-pub use declared::{Types, data_type};
-pub use functions::{Function, defined_by, functions_of, is_specification};
+pub use arrays::{Ranks, declarators_in};
+pub use declared::Types;
+pub use functions::{Function, defined_by, is_specification};
 pub use hiding::{Outside, Shown};
 pub use intrinsics::is_intrinsic;
 pub use items::items_of;
@@ -29,8 +29,7 @@ pub use names::{
     Roles, function_named, is_array_name, is_constant_name, is_function_name, is_other_name,
     letter_types_of, rank_of_name, type_of_name,
 };
-pub use sets::{add_name, add_names_passing, has_name};
+pub use sets::{add_name, has_name};
 pub use stage::Stage;
 pub use statements::{add_reads, set_by};
-pub use typing::{is_mistyped, type_of};
 pub use uses::{Arguments, NameUse, Sought, add_uses, has_passing};

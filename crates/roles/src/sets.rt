@@ -1,12 +1,10 @@
 //! Sets of names, in the order in which they came.
 
-ghost use Rattle.std.specs.Prelude.{◌≡◌, map, OnOk};
+ghost use Rattle.std.specs.Prelude.{◌≡◌, OnOk};
 ghost use Rattle.std.specs.List.{list_any};
 ghost use Rattle.std.specs.Str.{bytes_eq};
-ghost use Rattle.roles.specs.NameSets.{texts, with_name, with_names};
-ghost use Rattle.roles.specs.UsesAt.{names_passing, uses_at};
+ghost use Rattle.roles.specs.NameSets.{texts, with_name};
 
-use crate::uses::{NameUse, Sought};
 use indexmap::IndexSet;
 use std::alloc::{AllocError, Global};
 
@@ -24,23 +22,6 @@ pub fn add_name(names: &mut IndexSet<Vec<u8>>, alloc: Global, name: &[u8]) -> Re
     if !names.contains(name) {
         let own = Vec::from_slice(alloc, name)?;
         names.insert(own)?;
-    }
-    Ok(())
-}
-
-/// Puts the names of the uses that pass a test behind those that are there.
-pub fn add_names_passing<S: Sought>(
-    names: &mut IndexSet<Vec<u8>>,
-    alloc: Global,
-    found: &[NameUse],
-    sought: &S,
-) -> Result<(), AllocError>
-    ensures { OnOk result (texts names.new.keys ≡ with_names (texts names.old.keys) (names_passing (S.is_use sought.now) (uses_at found.now))) }
-{
-    for one in found {
-        if sought.is(one) {
-            add_name(names, alloc, one.name)?;
-        }
     }
     Ok(())
 }

@@ -1,59 +1,19 @@
-//! Dimensions, and the cells that subscripts lead to.
+//! Dimensions, and the cells that places lead to.
 
-ghost use Rattle.std.specs.Prelude.{◌<◌, ◌^◌};
-ghost use Rattle.expressions.specs.Places.{limit};
-
-use expressions::{Dimension, Nameless, Numbering, Place};
+use expressions::{Dimension, Place};
 use meaning::cell::Cell;
-
-/// The number of the cell that a place leads to by subscripts.
-fn cell_behind(place: Place<'_>, subscripts: &[i32]) -> Option<usize>
-    requires { limit place < 2 ^ 64 }
-{
-    match subscripts.split_first() {
-        None => place.cell().map(|cell| cell.0),
-        Some((first, rest)) => match place.next(*first) {
-            None => None,
-            Some(next) => cell_behind(next, rest),
-        },
-    }
-}
 
 const BOUNDS: &[Dimension] = &[
     Dimension { lower: 2, upper: 4 },
     Dimension { lower: 0, upper: 1 },
 ];
 
-/// Subscripts within those bounds and outside, as many as there are bounds, fewer and more, and the cells of an array whose first
-/// is number 2. The first subscript varies fastest.
-const ELEMENTS: &[(&[i32], Option<usize>)] = &[
-    (&[2, 0], Some(2)),
-    (&[3, 0], Some(3)),
-    (&[4, 0], Some(4)),
-    (&[2, 1], Some(5)),
-    (&[4, 1], Some(7)),
-    (&[1, 0], None),
-    (&[5, 0], None),
-    (&[4, -1], None),
-    (&[2, 2], None),
-    (&[2], None),
-    (&[2, 0, 1], None),
-    (&[], None),
-];
-
-#[test]
-fn elements(rt: HostRuntime) {
-    for &(subscripts, cell) in ELEMENTS {
-        let found = cell_behind(Place::new(2, BOUNDS), subscripts);
-        assert!(rt; found == cell, "{subscripts:?}");
-    }
-}
-
 #[test]
 fn places(rt: HostRuntime) {
     assert!(rt; Place::new(1, &[]).cell() == Some(Cell(1)));
     assert!(rt; Place::new(2, BOUNDS).cell() == None);
-    assert!(rt; Nameless.find(b"I").cell() == None);
+    assert!(rt; Place::new(2, BOUNDS).size() == 6);
+    assert!(rt; Place::nowhere().cell() == None);
 }
 
 /// Bounds, a subscript, the extent and how far the subscript stands above the lower bound.

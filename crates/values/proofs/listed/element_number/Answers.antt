@@ -1,7 +1,7 @@
 use Rattle.std.proofs.Common.{◌+◌, Some, refl, ◌∙◌}
 use Rattle.std.specs.Int.{w32}
 use Rattle.std.proofs.lemmas.Int.{to_z-of_z}
-use Rattle.expressions.proofs.Reading.{place_reads}
+use Rattle.expressions.proofs.Items.{place_reads}
 use Rattle.values.proofs.listed.element_number.Goals as goal
 
 pub returns-clause-reads : goal.returns-clause-reads
