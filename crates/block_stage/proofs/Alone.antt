@@ -8,7 +8,7 @@ use Rattle.meaning.specs.Execution.{Ran}
 use Rattle.meaning.specs.Maps.{Map, put}
 use Rattle.meaning.specs.Stores.{Cells, overlay}
 use Rattle.meaning.proofs.Stores.{does_then}
-use Rattle.checker.specs.Checked.{items_in}
+use Rattle.numbering.specs.Checked.{items_in}
 use Rattle.values.specs.Programs.{map_at}
 use Rattle.private_view.specs.Views.{Seen, new_view, world_seen}
 use Rattle.evaluator.specs.Over.{RunsOver, SetsOver, repeated_as, trips_as}

@@ -4,10 +4,10 @@ use Rattle.std.proofs.Crossing.{crosses}
 use Rattle.std.proofs.MapsCrossing as maps
 use Rattle.block_stage.proofs.Crossing.{Tree_field, Exprs_field}
 use Rattle.block_stage.proofs.CrossingStores.{Format_field, Landmarks_field}
-use Rattle.checker.specs.contracts.parts.Storage as Storage
-use Rattle.checker.specs.contracts.parts.Entry as Entry
-use Rattle.checker.specs.contracts.parts.FunctionAt as FunctionAt
-use Rattle.checker.specs.contracts.parts.Parts as Parts
+use Rattle.numbering.specs.contracts.parts.Storage as Storage
+use Rattle.numbering.specs.contracts.parts.Entry as Entry
+use Rattle.numbering.specs.contracts.parts.FunctionAt as FunctionAt
+use Rattle.numbering.specs.contracts.parts.Parts as Parts
 use Rattle.checker.specs.contracts.program.Program as Checked
 use Rattle.postfix.specs.contracts.instruction.VariableSubscript as VariableSubscript
 use Rattle.postfix.specs.contracts.instruction.Step as Step

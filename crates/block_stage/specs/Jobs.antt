@@ -9,7 +9,7 @@ use Rattle.meaning.specs.Syntax.{ItemTree, ShapeTree, shape_tree}
 use Rattle.meaning.specs.Trees.{Members, none, flat, item_tree, members_tree}
 use Rattle.landmarks.specs.Kept.{IsKept}
 use Rattle.landmarks.specs.Quiet.{WritesNothing}
-use Rattle.checker.specs.Checked.{count_in, items_in, numbers_in}
+use Rattle.numbering.specs.Checked.{count_in, items_in, numbers_in}
 use Rattle.programs.specs.Asked.{is_doing}
 use Rattle.programs.specs.Programs.{IsStatement}
 use Rattle.evaluator.specs.Known.{AreStatements}

@@ -4,7 +4,7 @@ ghost use Rattle.std.specs.Prelude.{◌≡◌, ◌<◌, ◌≤◌, IfOk, IsTrue,
 ghost use Rattle.meaning.specs.Syntax.{shape_tree};
 ghost use Rattle.meaning.specs.Trees.{item_tree};
 ghost use Rattle.meaning.specs.declared.syntax.Loop.{out-Loop};
-ghost use Rattle.checker.specs.Checked.{count_in};
+ghost use Rattle.numbering.specs.Checked.{count_in};
 ghost use Rattle.programs.specs.Asked.{is_doing};
 ghost use Rattle.programs.specs.Programs.{IsStatement};
 ghost use Rattle.private_view.specs.Views.{world_seen};

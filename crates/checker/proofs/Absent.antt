@@ -19,8 +19,8 @@ use Rattle.roles.specs.TypedNames.{typed_names}
 use Rattle.roles.proofs.Firsts.{declared_append}
 use Rattle.roles.proofs.NameSets.{any_with_names}
 use Rattle.checker.specs.Entries.{names_given}
-use Rattle.checker.specs.Kept.{array_of}
-use Rattle.checker.specs.Numbered.{is_variable, names_at, names_from, variables_of}
+use Rattle.numbering.specs.Kept.{array_of}
+use Rattle.numbering.specs.Numbered.{is_variable, names_at, names_from, variables_of}
 
 or_parts : (a b : Bool) → (a || b) ≡ false → (a ≡ false) × (b ≡ false)
 or_parts true b h = absurd (true≢false h)

@@ -8,10 +8,10 @@ use Rattle.meaning.specs.Trees.{members_tree, nested}
 use Rattle.landmarks.specs.Landmarked.{AreLandmarks}
 use Rattle.roles.specs.Keeping.{kept_at}
 use Rattle.checker.specs.declared.rules.Kept.{Kept}
-use Rattle.checker.specs.Agreed.{AreRead, IsNumbered, found_in}
+use Rattle.numbering.specs.Agreed.{AreRead, IsNumbered, found_in}
 use Rattle.checker.specs.Built.{parts_by}
-use Rattle.checker.specs.Checked.{items_in, names_in}
-use Rattle.checker.specs.FunctionsFound.{AreFound}
+use Rattle.numbering.specs.Checked.{items_in, names_in}
+use Rattle.numbering.specs.FunctionsFound.{AreFound}
 use Rattle.checker.proofs.Building.{Naming}
 use Rattle.checker.proofs.Ruled.{functions_at}
 

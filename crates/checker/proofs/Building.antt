@@ -22,17 +22,17 @@ use Rattle.roles.specs.TypedNames.{implicit_parts, letter_type, typed_names}
 use Rattle.k_rules.specs.declared.verdict.Facts.{Facts}
 use Rattle.data_rules.specs.DataSets.{given_by}
 use Rattle.k_rules.specs.Judged.{arrays_in, constant_in, starts_in}
-use Rattle.checker.specs.declared.parts.Entry.{Entry}
-use Rattle.checker.specs.declared.parts.Storage.{Storage}
+use Rattle.numbering.specs.declared.parts.Entry.{Entry}
+use Rattle.numbering.specs.declared.parts.Storage.{Storage}
 use Rattle.checker.specs.declared.rules.Names.{Names}
 use Rattle.checker.specs.Built.{AreNames, count_at, variables_at}
-use Rattle.checker.specs.Checked.{count_in, items_in, names_in}
+use Rattle.numbering.specs.Checked.{count_in, items_in, names_in}
 use Rattle.checker.specs.Entries.{Placed, Said, described, first_of, names_given, place_from, placed, said, stored}
 use Rattle.checker.specs.Given.{AreGiven, first_said, firsts_in}
-use Rattle.checker.specs.Kept.{IsStored, IsTyped, StartsWithByte, array_of, by_first, storage_kept, type_if, value_kept}
-use Rattle.checker.specs.Numbered.{named, variables_of}
-use Rattle.checker.specs.Starts.{map_of, start_in}
-use Rattle.checker.specs.Whereabouts.{Whereabouts, where_in}
+use Rattle.numbering.specs.Kept.{IsStored, IsTyped, StartsWithByte, array_of, by_first, storage_kept, type_if, value_kept}
+use Rattle.numbering.specs.Numbered.{named, variables_of}
+use Rattle.numbering.specs.Starts.{map_of, start_in}
+use Rattle.numbering.specs.Whereabouts.{Whereabouts, where_in}
 use Rattle.checker.proofs.Absent.{bounded, no_array, unknown, untyped}
 use Rattle.checker.proofs.CellsOf.{first_cells, first_leads, no_first}
 use Rattle.checker.proofs.Starting.{all_given, all_placed, given_to, zeros_start}

@@ -27,9 +27,9 @@ use Rattle.roles.proofs.Firsts.{kept_new, kept_there, or_grouped, or_nothing}
 use Rattle.roles.proofs.Passes.{map_more, flat_map_last}
 use Rattle.k_rules.specs.declared.verdict.Facts.{Facts}
 use Rattle.k_rules.specs.Judged.{arrays_in}
-use Rattle.checker.specs.declared.parts.Entry.{Entry}
+use Rattle.numbering.specs.declared.parts.Entry.{Entry}
 use Rattle.checker.specs.Entries.{Adds, AddsOne, Said, first_of, if_among, if_name, names_given, place_from, said, said_at, stored, stored_in}
-use Rattle.checker.specs.Numbered.{named}
+use Rattle.numbering.specs.Numbered.{named}
 
 -- ---- one name
 

@@ -1,13 +1,8 @@
-pub mod Placing
-pub mod Appearance
-pub mod Calling
-pub mod Texts
 pub mod Entering
 pub mod Absent
 pub mod CellsOf
 pub mod Starting
 pub mod Ruled
-pub mod Finding
 pub mod Building
 pub mod Found
 pub mod Agreeing

@@ -24,9 +24,9 @@ use Rattle.meaning.specs.Uses.{Roles, is_before_executables, is_defining, is_one
 use Rattle.meaning.specs.Values.{Arrays}
 use Rattle.roles.proofs.Passes.{flat_map_last}
 use Rattle.roles.proofs.Staging.{behind_one, stands_before}
-use Rattle.checker.specs.declared.parts.FunctionAt.{FunctionAt}
-use Rattle.checker.specs.FunctionsFound.{IsFoundAt}
-use Rattle.checker.specs.Kept.{IsFunctionAt, shown_at, shown_by}
+use Rattle.numbering.specs.declared.parts.FunctionAt.{FunctionAt}
+use Rattle.numbering.specs.FunctionsFound.{IsFoundAt}
+use Rattle.numbering.specs.Kept.{IsFunctionAt, shown_at, shown_by}
 
 or_parts : (a b : Bool) → (a || b) ≡ false → (a ≡ false) × (b ≡ false)
 or_parts true b h = absurd (true≢false h)

@@ -21,7 +21,7 @@ use Rattle.array_store.proofs.Wholes.{written_is}
 use Rattle.data_rules.specs.DataSets.{HasPlace, given_by}
 use Rattle.data_rules.proofs.DataPairing.{Each, IfEach, sets_placed}
 use Rattle.checker.specs.Given.{AreGiven, IsGiven}
-use Rattle.checker.specs.Numbered.{named}
+use Rattle.numbering.specs.Numbered.{named}
 
 abbrev Placed : Names → Start → Type 0
 Placed ns s = HasPlace ns s.target

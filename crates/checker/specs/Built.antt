@@ -13,19 +13,17 @@ use Rattle.meaning.specs.Initial.{starts_from}
 use Rattle.meaning.specs.Rules.{checked}
 use Rattle.meaning.specs.Trees.{nested}
 use Rattle.meaning.specs.Uses.{roles_of}
-use Rattle.checker.specs.Checked.{items_in, names_in}
-use Rattle.checker.specs.declared.parts.Parts.{Parts}
+use Rattle.numbering.specs.Checked.{items_in, names_in}
+use Rattle.numbering.specs.declared.parts.Parts.{Parts}
 use Rattle.checker.specs.declared.rules.Names.{Names}
 use Rattle.checker.specs.declared.rules.Kept.{Kept}
 use Rattle.std.specs.Global.{Vec}
 use Rattle.indexmap.specs.IndexMap.{IndexMap}
-use Rattle.checker.specs.declared.parts.Entry.{Entry}
+use Rattle.numbering.specs.declared.parts.Entry.{Entry}
 use Rattle.checker.specs.Entries.{AreSaid}
 use Rattle.checker.specs.Given.{AreGiven, firsts_in}
-use Rattle.checker.specs.Numbered.{named, variables_by}
-
-abbrev pub variables_at : Roles → List (List ℕ)
-variables_at r = variables_by (roles_at r) (trees_at r.items.now)
+use Rattle.numbering.specs.Appearing.{variables_at}
+use Rattle.numbering.specs.Numbered.{named}
 
 abbrev pub count_at : Facts → Roles → ℕ
 count_at f r = cells_of (named (arrays_in f) (variables_at r))

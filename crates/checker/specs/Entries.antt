@@ -24,10 +24,10 @@ use Rattle.roles.specs.RolesAt.{roles_at}
 use Rattle.k_rules.specs.declared.verdict.Facts.{Facts}
 use Rattle.k_rules.specs.Judged.{arrays_in, constant_in}
 use Rattle.checker.specs.declared.entries.Storing.{Storing}
-use Rattle.checker.specs.declared.parts.Entry.{Entry}
-use Rattle.checker.specs.declared.parts.Storage.{Storage}
-use Rattle.checker.specs.Kept.{dimensions_kept}
-use Rattle.checker.specs.Numbered.{named}
+use Rattle.numbering.specs.declared.parts.Entry.{Entry}
+use Rattle.numbering.specs.declared.parts.Storage.{Storage}
+use Rattle.numbering.specs.Kept.{dimensions_kept}
+use Rattle.numbering.specs.Numbered.{named}
 
 -- the first cell of a name and its dimensions
 pub record Placed : Type 0 where

@@ -6,7 +6,7 @@ use Rattle.meaning.specs.declared.syntax.Item.{Item}
 use Rattle.meaning.specs.Trees.{item_tree}
 use Rattle.format_edit.specs.declared.format.Format.{Format}
 use Rattle.roles.specs.Listed.{trees_at}
-use Rattle.checker.specs.Agreed.{found_in}
+use Rattle.numbering.specs.Agreed.{found_in}
 use Rattle.meaning.specs.Formats.{Parts, descriptors_of}
 use Rattle.meaning.specs.Execution.{descriptors_if, format_found, or_else}
 use Rattle.meaning.specs.LabelRules.{has_label}

@@ -6,7 +6,7 @@ use Rattle.meaning.specs.Values.{as_integer}
 use Rattle.data_rules.specs.declared.filling.Start.{Start}
 use Rattle.data_rules.specs.DataStages.{Given}
 use Rattle.data_rules.specs.Marked.{given_at}
-use Rattle.checker.specs.declared.parts.Entry.{Entry}
+use Rattle.numbering.specs.declared.parts.Entry.{Entry}
 use Rattle.checker.specs.Entries.{Placed, Said, said_at}
 
 abbrev pub first_placed : Option Placed → Option ℕ

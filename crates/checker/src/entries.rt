@@ -9,12 +9,12 @@ ghost use Rattle.roles.specs.NameSets.{texts};
 ghost use Rattle.k_rules.specs.Judged.{constant_in};
 ghost use Rattle.checker.specs.Entries.{AddsOne, AddsCells, AreSaid, AreStored, Tells, given_in, cells_at, declared, defined, dimensions_at, given, named_by, said};
 
-use crate::parts::{Entry, Storage};
 use expressions::Dimension;
 use indexmap::IndexMap;
 use k_rules::Facts;
 use meaning::ending::Value;
 use meaning::syntax::{Declarator, Item, NamedConstant, Shape};
+use numbering::{Entry, Storage};
 use roles::{Roles, declarators_in, type_of_name};
 use std::alloc::{AllocError, Global};
 

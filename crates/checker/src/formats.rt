@@ -5,7 +5,7 @@ ghost use Rattle.meaning.specs.Formats.{format_in, undoubled};
 ghost use Rattle.meaning.specs.Trees.{item_tree};
 ghost use Rattle.format_edit.specs.Formatted.{descriptors};
 ghost use Rattle.roles.specs.Keeping.{kept_at};
-ghost use Rattle.checker.specs.Agreed.{AreRead};
+ghost use Rattle.numbering.specs.Agreed.{AreRead};
 ghost use Rattle.checker.specs.FormatsFound.{AddsItem, AddsText, AreFormats, HaveSmallLabels, format_here};
 
 use format_edit::{Format, FormatFault};

@@ -3,11 +3,7 @@
 
 mod entries;
 mod formats;
-mod functions;
-mod numbers;
-mod parts;
 mod program;
-mod queries;
 mod rules;
 mod starts;
 

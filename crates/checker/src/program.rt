@@ -8,21 +8,20 @@ ghost use Rattle.landmarks.specs.Kept.{IsKept};
 ghost use Rattle.landmarks.specs.Loud.{is_loud_in};
 ghost use Rattle.landmarks.specs.Places.{place_in};
 ghost use Rattle.format_edit.specs.Formatted.{descriptors};
-ghost use Rattle.checker.specs.Checked.{count_in, names_in, numbers_in};
-ghost use Rattle.checker.specs.Agreed.{IsReadFrom};
-ghost use Rattle.checker.specs.Told.{AreStarts, format_at};
+ghost use Rattle.numbering.specs.Checked.{count_in, names_in, numbers_in};
+ghost use Rattle.numbering.specs.Agreed.{IsReadFrom};
+ghost use Rattle.numbering.specs.Told.{AreStarts, format_at};
 
 use crate::formats::Formats;
-use crate::parts::Parts;
-use crate::queries::{
-    array_in, find_in, format_in, function_in, is_loud_in_parts, named_in, place_in_parts,
-    text_format_in,
-};
 use crate::rules::{Kept, Names, kept_of};
 use expressions::{Cells, Function, Named, Numbering, Place};
 use format_edit::Format;
 use meaning::refusal::Refusal;
 use meaning::syntax::Tree;
+use numbering::{
+    Parts, array_in, find_in, format_in, function_in, is_loud_in_parts, named_in, place_in_parts,
+    text_format_in,
+};
 use std::alloc::Global;
 use std::marker::Model;
 
@@ -40,7 +39,7 @@ impl Model for Program {
 
     ghost coded = { trees.the_row.coded };
 
-    ghost use Rattle.checker.specs.Agreed.{IsNumbered};
+    ghost use Rattle.numbering.specs.Agreed.{IsNumbered};
 
     ghost view = { λ p. p.parts.tree };
 

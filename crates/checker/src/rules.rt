@@ -4,22 +4,20 @@ ghost use Rattle.std.specs.Prelude.{◌≡◌, IfOk};
 ghost use Rattle.meaning.specs.Reports.{Gives};
 ghost use Rattle.meaning.specs.Rules.{checked};
 ghost use Rattle.meaning.specs.Trees.{nested};
-ghost use Rattle.checker.specs.Agreed.{IsNumbered};
+ghost use Rattle.numbering.specs.Agreed.{IsNumbered};
 ghost use Rattle.roles.specs.Listed.{trees_at};
 ghost use Rattle.checker.specs.Built.{AreNames, AreSaidOf, IsJudged, count_at, parts_by};
-ghost use Rattle.checker.specs.Checked.{items_in};
+ghost use Rattle.numbering.specs.Checked.{items_in};
 
 use crate::entries::{Storing, entries_of};
 use crate::formats::{Formats, formats_of};
-use crate::functions::functions_in;
-use crate::numbers::variables_in_order;
-use crate::parts::{Entry, FunctionAt};
 use crate::starts::starts_of;
 use indexmap::IndexMap;
 use k_rules::{Facts, judge};
 use landmarks::Landmarks;
 use meaning::refusal::Refusal;
 use meaning::syntax::{DataType, Exprs, Tree};
+use numbering::{Entry, FunctionAt, functions_in, variables_in_order};
 use roles::{Roles, items_of, letter_types_of};
 use std::alloc::{AllocError, Global};
 

@@ -5,10 +5,10 @@ ghost use Rattle.checker.specs.Entries.{said};
 ghost use Rattle.checker.specs.Given.{GivesStart, GivesStarts, first_placed, firsts_in, zeroes};
 
 use crate::entries::plus;
-use crate::parts::Entry;
 use data_rules::Start;
 use expressions::as_integer;
 use indexmap::IndexMap;
+use numbering::Entry;
 use std::alloc::{AllocError, Global};
 
 /// The first cell of the name of which this is kept, if it has cells.

@@ -12,3 +12,6 @@ pub mod Fused
 pub mod Results
 pub mod Keeping
 mod RulyExamples
+pub mod Asked
+pub mod Kept
+pub mod Kinded

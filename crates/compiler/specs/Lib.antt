@@ -3,3 +3,4 @@ pub mod Coded
 pub mod Functions
 pub mod Ruly
 pub mod Within
+pub mod Kinds

@@ -7,11 +7,11 @@ use Rattle.meaning.specs.Syntax.{LimitsTree, ListItemTree, ListItemsTree, no_ite
 use Rattle.meaning.specs.Uses.{Roles}
 use Rattle.meaning.specs.Values.{Known}
 use Rattle.meaning.specs.Initial.{and_also, both_lists, is_counter, known_trips, targets_in, with_value}
-use Rattle.number_rules.specs.declared.known.Scope.{Scope}
+use Rattle.declarations.specs.declared.known.Scope.{Scope}
 use Rattle.data_rules.specs.DataItems.{item_targets, trips_targets}
 use Rattle.data_rules.specs.DataStages.{Stage, filled}
 use Rattle.data_rules.specs.SameScope.{IsSameScope}
-use Rattle.number_rules.specs.Tables.{known_at, scope_known, with_own}
+use Rattle.declarations.specs.Tables.{known_at, scope_known, with_own}
 use Rattle.data_rules.proofs.DataFilling.{filled_both}
 
 module _ (r : Roles) (known : Known) where

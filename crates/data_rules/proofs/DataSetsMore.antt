@@ -11,13 +11,13 @@ use Rattle.meaning.specs.Values.{Known}
 use Rattle.roles.specs.RolesAt.{roles_at}
 use Rattle.data_rules.specs.declared.data_values.Values.{Values}
 use Rattle.data_rules.specs.declared.filling.Filling.{Filling}
-use Rattle.number_rules.specs.declared.known.Scope.{Scope}
-use Rattle.number_rules.specs.declared.known.Table.{Table}
+use Rattle.declarations.specs.declared.known.Scope.{Scope}
+use Rattle.declarations.specs.declared.known.Table.{Table}
 use Rattle.data_rules.specs.DataRuns.{values_left, values_of}
 use Rattle.data_rules.specs.DataStages.{Stage, is_empty_list}
 use Rattle.data_rules.specs.DataSets.{fill_list, fill_set, fill_sets, if_used_up, stage_by, with_values}
 use Rattle.data_rules.specs.Filled.{stage_at}
-use Rattle.number_rules.specs.Tables.{known_at, scope_known, with_own}
+use Rattle.declarations.specs.Tables.{known_at, scope_known, with_own}
 
 -- a list that was given its values, of which some may be left over
 pub used_up_given : {E : Type 0} (result : Result Bool E) (o : Option Stage) (s : Stage) → o ≡ Some s → IfOk result (λ b. b ≡ is_empty_list s.values) → IfOk result (λ b. and_also o if_used_up ≡ (if b then Some (with_values [] s) else None))

@@ -11,7 +11,7 @@ use Rattle.indexmap.specs.IndexMap.{IndexMap, insert_entry}
 use Rattle.roles.specs.Keeping.{kept_at}
 use Rattle.data_rules.specs.DataStages.{with_mark}
 use Rattle.data_rules.specs.Marked.{has_place, marked_in}
-use Rattle.number_rules.proofs.KnownBy.{looked_inserted}
+use Rattle.declarations.proofs.KnownBy.{looked_inserted}
 
 -- a look-up behind a write to what a name has
 looked_set : {V : Type 0} (n name : List ℕ) (es : List (Vec ℕ × V)) (w : V) → is_some (lookup (λ k. bytes_eq name k.items) es) ≡ true → lookup (λ k. bytes_eq n k.items) (set_value (λ k. bytes_eq name k.items) es w) ≡ (if bytes_eq n name then Some w else lookup (λ k. bytes_eq n k.items) es)

@@ -5,7 +5,7 @@ use Rattle.roles.specs.RolesAt.{roles_at}
 use Rattle.data_rules.specs.declared.giving.Giving.{Giving}
 use Rattle.data_rules.specs.DataStages.{Stage}
 use Rattle.data_rules.specs.Filled.{stage_at}
-use Rattle.number_rules.specs.Tables.{scope_known}
+use Rattle.declarations.specs.Tables.{scope_known}
 
 abbrev pub roles_in : Giving → Roles
 roles_in g = roles_at g.scope.table.now.roles.now

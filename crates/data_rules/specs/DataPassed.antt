@@ -8,11 +8,11 @@ use Rattle.meaning.specs.Refusals.{is_less, least, merge}
 use Rattle.meaning.specs.Syntax.{ItemTree}
 use Rattle.meaning.specs.Uses.{Roles}
 use Rattle.data_rules.specs.declared.filling.Filling.{Filling}
-use Rattle.number_rules.specs.declared.known.Table.{Table}
+use Rattle.declarations.specs.declared.known.Table.{Table}
 use Rattle.data_rules.specs.declared.starting.Passed.{Passed}
 use Rattle.roles.specs.RolesAt.{roles_at}
 use Rattle.data_rules.specs.DataSets.{IsFilledBy, stage_by}
-use Rattle.number_rules.specs.Tables.{IsBehind}
+use Rattle.declarations.specs.Tables.{IsBehind}
 
 -- whether a DATA statement at a line would break its rule before others are broken
 abbrev pub comes_first : ℕ → Option Broken → Bool

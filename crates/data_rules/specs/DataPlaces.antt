@@ -9,8 +9,8 @@ use Rattle.meaning.specs.Values.{Known}
 use Rattle.meaning.specs.Initial.{and_also, known_subscripts, known_value}
 use Rattle.expressions.specs.declared.dimension.Dimension.{Dimension as Sides}
 use Rattle.expressions.specs.Dimensions.{dimension}
-use Rattle.number_rules.specs.declared.known.Scope.{Scope}
-use Rattle.number_rules.specs.Tables.{scope_known, scope_types}
+use Rattle.declarations.specs.declared.known.Scope.{Scope}
+use Rattle.declarations.specs.Tables.{scope_known, scope_types}
 
 -- the place, where the subscripts are known and within their bounds
 abbrev pub place_known : Types → Known → List Dimension → ExprsTree → Option ℕ

@@ -11,8 +11,8 @@ use Rattle.meaning.specs.Values.{Known}
 use Rattle.meaning.specs.Initial.{count_if, data_value, repeat_value, repeated}
 use Rattle.data_rules.specs.declared.data_values.Run.{Run}
 use Rattle.data_rules.specs.declared.data_values.Values.{Values}
-use Rattle.number_rules.specs.declared.known.Table.{Table}
-use Rattle.number_rules.specs.Tables.{known_at}
+use Rattle.declarations.specs.declared.known.Table.{Table}
+use Rattle.declarations.specs.Tables.{known_at}
 
 -- the values, or one that is none
 abbrev pub or_one_none : Option (List Value) → List (Option Value)

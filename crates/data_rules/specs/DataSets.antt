@@ -11,8 +11,8 @@ use Rattle.meaning.specs.Uses.{Roles}
 use Rattle.meaning.specs.Values.{Known, dimensions_in}
 use Rattle.meaning.specs.Initial.{Start, Target, and_also, same_target, starts_from, targets_in}
 use Rattle.roles.specs.RolesAt.{roles_at}
-use Rattle.number_rules.specs.declared.known.Table.{Table}
-use Rattle.number_rules.specs.Tables.{known_at}
+use Rattle.declarations.specs.declared.known.Table.{Table}
+use Rattle.declarations.specs.Tables.{known_at}
 use Rattle.data_rules.specs.declared.filling.Filling.{Filling}
 use Rattle.data_rules.specs.DataRuns.{values_of}
 use Rattle.data_rules.specs.DataStages.{Given, Marks, Stage, filled, is_empty_list}

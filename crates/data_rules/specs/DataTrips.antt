@@ -5,8 +5,8 @@ use Rattle.meaning.specs.declared.syntax.Expr.{Expr}
 use Rattle.meaning.specs.declared.syntax.Limits.{Limits}
 use Rattle.meaning.specs.Initial.{known_trips, step_of}
 use Rattle.meaning.specs.Syntax.{expr_tree, limits_tree}
-use Rattle.number_rules.specs.declared.known.Scope.{Scope}
-use Rattle.number_rules.specs.Tables.{scope_known, scope_types}
+use Rattle.declarations.specs.declared.known.Scope.{Scope}
+use Rattle.declarations.specs.Tables.{scope_known, scope_types}
 use Rattle.data_rules.specs.declared.trips.Trips.{Trips}
 
 -- the values of the variable

@@ -4,17 +4,17 @@ ghost use Rattle.std.specs.Prelude.{◌≡◌, IfOk, OnOk};
 ghost use Rattle.meaning.specs.Initial.{is_counter as is_counter_by};
 ghost use Rattle.data_rules.specs.SameScope.{IsSameScope};
 ghost use Rattle.roles.specs.RolesAt.{roles_at};
-ghost use Rattle.number_rules.specs.ArraysKept.{AreArrays};
+ghost use Rattle.declarations.specs.ArraysKept.{AreArrays};
 ghost use Rattle.data_rules.specs.DataGiving.{roles_in};
 ghost use Rattle.data_rules.specs.DataTargets.{FillsItem, FillsItems, Repeats};
 
 use crate::giving::{Giving, give_value};
 use crate::trips::{Trips, next_trip, trips_of, value_of_trip};
+use declarations::{enter_name, leave_name};
 use expressions::Dimension;
 use indexmap::IndexMap;
 use meaning::ending::Value;
 use meaning::syntax::{DataType, ListItem, ListItems};
-use number_rules::{enter_name, leave_name};
 use roles::{Roles, is_other_name, type_of_name};
 use std::alloc::{AllocError, Global};
 

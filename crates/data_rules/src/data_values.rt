@@ -6,13 +6,13 @@ ghost use Rattle.meaning.specs.Initial.{sign_value};
 ghost use Rattle.meaning.specs.Syntax.{data_value_tree};
 ghost use Rattle.data_rules.specs.DataRuns.{constant_at, count_at, count_spelled, run_of, values_at, values_left, values_of};
 ghost use Rattle.data_rules.specs.DataStages.{behind_first, first_of, is_empty_list};
-ghost use Rattle.number_rules.specs.Tables.{known_at};
+ghost use Rattle.declarations.specs.Tables.{known_at};
 
+use declarations::Table;
 use expressions::Constants;
 use meaning::ending::Value;
 use meaning::number::number;
 use meaning::syntax::{DataConstant, DataValue, RepeatCount, Sign};
-use number_rules::Table;
 use std::alloc::AllocError;
 
 /// The number that digits spell, if it is 1 at least. The `AllocError` comes where it is 2^32 or more.

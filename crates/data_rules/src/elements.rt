@@ -3,9 +3,9 @@
 ghost use Rattle.std.specs.Prelude.{◌≡◌, ◌+◌, ◌*◌, IfOk};
 ghost use Rattle.data_rules.specs.DataPlaces.{place_by, value_in};
 
+use declarations::{Scope, is_no_constant, value_of};
 use expressions::{Dimension, as_integer};
 use meaning::syntax::{Expr, Exprs};
-use number_rules::{Scope, is_no_constant, value_of};
 use std::alloc::AllocError;
 
 /// The value of an expression of constants and of the variables of implied DOs around it, if it is one and has one.

@@ -3,17 +3,17 @@
 ghost use Rattle.std.specs.Prelude.{◌≡◌, map, IfOk};
 ghost use Rattle.meaning.specs.Arrays.{size};
 ghost use Rattle.expressions.specs.Dimensions.{dimension};
-ghost use Rattle.number_rules.specs.ArraysKept.{AreArrays};
+ghost use Rattle.declarations.specs.ArraysKept.{AreArrays};
 ghost use Rattle.data_rules.specs.DataGiving.{roles_in};
 ghost use Rattle.data_rules.specs.DataTargets.{FillsElement, FillsName, FillsValue};
 
 use crate::data_values::Values;
 use crate::elements::place_in;
 use crate::filling::{Filling, give, give_elements};
+use declarations::Scope;
 use expressions::Dimension;
 use indexmap::IndexMap;
 use meaning::syntax::{Expr, Exprs};
-use number_rules::Scope;
 use roles::is_other_name;
 use std::alloc::{AllocError, Global};
 

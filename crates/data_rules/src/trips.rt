@@ -5,9 +5,9 @@ ghost use Rattle.meaning.specs.Initial.{trips_if};
 ghost use Rattle.data_rules.specs.DataTrips.{step_in, trips_by, trips_in};
 
 use crate::elements::known_value;
+use declarations::Scope;
 use expressions::trip_count;
 use meaning::syntax::{Expr, Limits};
-use number_rules::Scope;
 use std::alloc::AllocError;
 
 /// The trips: the first value of the variable, the step, and how many there are, one at least.

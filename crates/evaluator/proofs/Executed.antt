@@ -16,7 +16,7 @@ use Rattle.meaning.specs.Values.{Scope, dimensions_in, subscripts, value, as_int
 use Rattle.meaning.specs.Execution.{Ran, more, Ways, onward, at_label, turn, with_ok, failed, added, assigned, unless_defined, simple, step, condition_of, truth_of, holds, turn_if, tested}
 use Rattle.meaning.proofs.Running.{more-none}
 use Rattle.landmarks.specs.Quiet.{output_in, writes}
-use Rattle.checker.specs.Checked.{items_in}
+use Rattle.numbering.specs.Checked.{items_in}
 use Rattle.postfix.specs.declared.code.Code.{Code}
 use Rattle.programs.specs.declared.action.ListCodes.{ListCodes}
 use Rattle.programs.specs.declared.action.Repeat.{Repeat}

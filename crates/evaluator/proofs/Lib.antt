@@ -1,4 +1,3 @@
-pub mod Wholes
 pub mod Assigned
 pub mod Limiting
 pub mod Composed
@@ -7,4 +6,3 @@ pub mod Executed
 pub mod Picked
 pub mod Labelled
 pub mod Looped
-pub mod Listed

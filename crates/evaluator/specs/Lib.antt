@@ -6,3 +6,4 @@ pub mod Quiet
 pub mod Places
 pub mod Listing
 pub mod Over
+pub mod Unset

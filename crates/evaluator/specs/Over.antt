@@ -17,7 +17,7 @@ use Rattle.meaning.specs.Stores.{Cells, World, Does}
 use Rattle.meaning.specs.Syntax.{ExprTree, ExprsTree, ItemTree, LimitsTree, ListItemsTree, ShapeTree, assignment, shape_tree}
 use Rattle.meaning.specs.Trees.{Members, Arms, members_tree}
 use Rattle.meaning.specs.Trips.{span_of}
-use Rattle.checker.specs.Starts.{map_of}
+use Rattle.numbering.specs.Starts.{map_of}
 use Rattle.values.specs.Programs.{IsCellAt, map_at, scope_in}
 use Rattle.evaluator.specs.declared.limits.Span.{Span}
 use Rattle.evaluator.specs.Limited.{SpanIs}

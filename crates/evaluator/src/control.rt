@@ -8,7 +8,7 @@ ghost use Rattle.meaning.specs.Maps.{Map};
 ghost use Rattle.meaning.specs.Stores.{IsLater, Reads};
 ghost use Rattle.meaning.specs.Syntax.{ItemTree, ShapeTree, StopTree, continuing, expr_tree, logical_if, shape_tree, stopping};
 ghost use Rattle.meaning.specs.Trees.{item_tree};
-ghost use Rattle.checker.specs.Checked.{items_in, count_in};
+ghost use Rattle.numbering.specs.Checked.{items_in, count_in};
 ghost use Rattle.programs.specs.Acts.{Acts, Assigns, Goes, GoesByCount, GoesBySign};
 ghost use Rattle.programs.specs.Asked.{ConditionIs};
 ghost use Rattle.programs.specs.Codes.{IsCode};

@@ -1,7 +1,0 @@
-pub mod Composed
-pub mod Written
-pub mod Promised
-pub mod Unit
-pub mod Located
-pub mod Told
-pub mod Allowing

@@ -7,12 +7,12 @@ use Rattle.meaning.specs.Syntax.{shape_tree}
 use Rattle.meaning.specs.Trees.{flat, item_tree, members_tree}
 use Rattle.landmarks.specs.Kept.{IsKept}
 use Rattle.landmarks.specs.Quiet.{WritesNothing}
-use Rattle.checker.specs.Checked.{count_in, items_in}
+use Rattle.numbering.specs.Checked.{count_in, items_in}
 use Rattle.programs.specs.Programs.{IsStatement}
 use Rattle.evaluator.specs.Known.{AreStatements}
 use Rattle.evaluator.specs.Over.{MovesIn, loop_as}
 use Rattle.evaluator.specs.Statements.{Spends}
-use Rattle.stage_loop.specs.Loops.{LeavesItsVariable}
+use Rattle.evaluator.specs.Unset.{LeavesItsVariable}
 
 -- a DO statement of the program without output, and as many cells as the program has
 pub record IsAsked (t : Tree) (l : Loop) (cells : List ℤ) : Type 0 where

@@ -2,8 +2,8 @@
 
 ghost use Rattle.executor.specs.Calls.{IsAsked, IsGiven};
 
-use crate::quiet_loops::QuietLoops;
 use array_store::Whole;
+use in_order::QuietLoops;
 use meaning::ending::Outcome;
 use meaning::syntax::Loop;
 use programs::Program;

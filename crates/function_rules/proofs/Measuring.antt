@@ -7,8 +7,8 @@ use Rattle.std.proofs.lemmas.List.{take_more, map-append}
 use Rattle.meaning.specs.NameRules.{greatest, nodes_in, nodes_in_all}
 use Rattle.meaning.specs.Syntax.{ExprTree, number, truth, name, signed, negated, binary, paren, element, call, ExprsTree, no_exprs, exprs}
 use Rattle.meaning.specs.Uses.{Use}
-use Rattle.roles.specs.declared.uses.NameUse.{NameUse}
-use Rattle.roles.specs.UsesAt.{use_at, uses_at}
+use Rattle.name_uses.specs.declared.uses.NameUse.{NameUse}
+use Rattle.name_uses.specs.UsesAt.{use_at, uses_at}
 use Rattle.function_rules.specs.Measured.{capped, level_used}
 
 pub more_same : (a b : ℕ) → capped a ≡ capped b → capped (suc a) ≡ capped (suc b)

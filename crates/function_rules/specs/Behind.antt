@@ -9,12 +9,12 @@ use Rattle.meaning.specs.Typing.{option_list}
 use Rattle.roles.specs.declared.functions.Function.{Function}
 use Rattle.roles.specs.declared.names.Roles.{Roles}
 use Rattle.roles.specs.declared.stage.Stage.{Stage}
-use Rattle.roles.specs.declared.uses.NameUse.{NameUse}
+use Rattle.name_uses.specs.declared.uses.NameUse.{NameUse}
 use Rattle.roles.specs.Functions.{definition_at}
 use Rattle.roles.specs.Keeping.{kept_at}
 use Rattle.roles.specs.RolesAt.{roles_at}
 use Rattle.roles.specs.Stages.{IsBehind}
-use Rattle.roles.specs.UsesAt.{uses_at}
+use Rattle.name_uses.specs.UsesAt.{uses_at}
 use Rattle.function_rules.specs.declared.measures.Measure.{Measure}
 use Rattle.function_rules.specs.Earlier.{Describes, is_bad_by, is_ill_by, level_behind, nodes_behind}
 use Rattle.function_rules.specs.Measured.{Kept, is_kept, level_at, nodes_at}

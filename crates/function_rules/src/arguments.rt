@@ -11,17 +11,15 @@ ghost use Rattle.meaning.specs.Uses.{count};
 ghost use Rattle.roles.specs.Functions.{dummies_at};
 ghost use Rattle.roles.specs.RolesAt.{roles_at};
 ghost use Rattle.roles.specs.Stages.{IsBehind};
-ghost use Rattle.roles.specs.UsesAt.{arguments_at, use_at, uses_at};
+ghost use Rattle.name_uses.specs.UsesAt.{arguments_at, use_at, uses_at};
 ghost use Rattle.rule_passes.specs.Telling.{IsLeast};
 ghost use Rattle.function_rules.specs.Numbers.{are_as_many, has_misused as has_misused_among, is_other_count as is_other_count_of, is_other_reference as is_other_to, takes_other as takes_other_than};
 
 use meaning::refusal::{Broken, Rule};
 use meaning::syntax::{Exprs, Item};
-use roles::{
-    Arguments, NameUse, Roles, Sought, Stage, function_named, has_passing, is_intrinsic,
-    is_other_name, rank_of_name,
-};
-use rule_passes::{Behind, least_told, reads_of, uses_of};
+use name_uses::{Arguments, NameUse, Sought, has_passing, reads_of, uses_of};
+use roles::{Roles, Stage, function_named, is_intrinsic, is_other_name, rank_of_name};
+use rule_passes::{Behind, least_told};
 use std::alloc::{AllocError, Global};
 
 /// Whether there are so many subscripts.

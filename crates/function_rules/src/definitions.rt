@@ -18,10 +18,9 @@ use crate::measures::{Measure, keep_measure, measure_of};
 use indexmap::IndexMap;
 use meaning::refusal::{Broken, Rule};
 use meaning::syntax::{Expr, Exprs, Item, Shape};
-use roles::{
-    Function, NameUse, Roles, Sought, Stage, add_uses, defined_by, has_passing, is_function_name,
-};
-use rule_passes::{Behind, is_bare, least_told};
+use name_uses::{NameUse, Sought, add_uses, has_passing, is_bare};
+use roles::{Function, Roles, Stage, defined_by, is_function_name};
+use rule_passes::{Behind, least_told};
 use std::alloc::{AllocError, Global};
 
 /// Whether there are more expressions than a number.

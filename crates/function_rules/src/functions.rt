@@ -9,8 +9,9 @@ ghost use Rattle.rule_passes.specs.Telling.{IsLeast};
 
 use meaning::refusal::{Broken, Rule};
 use meaning::syntax::Item;
-use roles::{NameUse, Roles, Sought, Stage, add_reads, has_passing, is_intrinsic};
-use rule_passes::{Behind, is_function_use, least_told};
+use name_uses::{NameUse, Sought, add_reads, has_passing, is_function_use};
+use roles::{Roles, Stage, is_intrinsic};
+use rule_passes::{Behind, least_told};
 use std::alloc::{AllocError, Global};
 
 /// A reference to a function that isn't known.

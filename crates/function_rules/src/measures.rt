@@ -3,13 +3,13 @@
 ghost use Rattle.std.specs.Prelude.{◌≡◌, ◌+◌, suc, max, Some, OnOk};
 ghost use Rattle.meaning.specs.NameRules.{greatest, nodes_in, nodes_in_all};
 ghost use Rattle.meaning.specs.Syntax.{expr_tree, exprs_tree};
-ghost use Rattle.roles.specs.UsesAt.{use_at, uses_at};
+ghost use Rattle.name_uses.specs.UsesAt.{use_at, uses_at};
 ghost use Rattle.function_rules.specs.Measured.{capped, level_at, level_used, nodes_at};
 ghost use Rattle.function_rules.specs.Behind.{Keeps};
 
 use indexmap::IndexMap;
 use meaning::syntax::{Expr, Exprs};
-use roles::{Arguments, NameUse};
+use name_uses::{Arguments, NameUse};
 use std::alloc::{AllocError, Global};
 
 /// How deep a statement function calls others, and how many constants, names, operators and parentheses its expression has when the

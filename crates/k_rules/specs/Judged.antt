@@ -25,10 +25,10 @@ use Rattle.roles.specs.declared.names.Roles.{Roles as Kept}
 use Rattle.roles.specs.RolesAt.{roles_at}
 use Rattle.rule_passes.specs.Listed.{tree_at}
 use Rattle.k_rules.specs.declared.verdict.Facts.{Facts}
-use Rattle.number_rules.specs.ArraysKept.{arrays_kept}
+use Rattle.declarations.specs.ArraysKept.{arrays_kept}
 use Rattle.data_rules.specs.DataSets.{given_by}
 use Rattle.data_rules.specs.DataStages.{Given}
-use Rattle.number_rules.specs.KnownNames.{known_in}
+use Rattle.declarations.specs.KnownNames.{known_in}
 use Rattle.data_rules.specs.Marked.{given_at}
 
 abbrev pub constant_in : Facts → List ℕ → Option Value

@@ -8,17 +8,19 @@ ghost use Rattle.rule_passes.specs.Listed.{tree_at};
 ghost use Rattle.k_rules.specs.Judged.{AreFirstLeast, AreLastLeast, AreNamesLeast, HasArrays, HasConstants, HasStarts, IsDecided, with_data};
 
 use data_rules::{Filling, Passed, Start, given_by_data};
+use declarations::{Declared, declared_in};
 use expressions::Dimension;
 use function_rules::{misdefined_function, misused_name, unknown_function};
 use indexmap::IndexMap;
 use meaning::ending::Value;
 use meaning::refusal::{Broken, Refusal, lesser};
 use meaning::syntax::{Item, Member, Tree};
-use name_rules::{disputed_name, real_name, wrong_type};
-use number_rules::{Declared, bad_number, declared_in, large_array};
+use name_rules::disputed_name;
+use number_rules::{bad_number, large_array};
 use roles::{Roles, items_of};
 use statement_rules::{bad_output, missed_label, misused_variable, repeated_label};
 use std::alloc::{AllocError, Global};
+use type_rules::{real_name, wrong_type};
 
 /// What is known of a program unit that breaks no rule.
 pub struct Facts<'a> {

@@ -13,9 +13,9 @@ use Rattle.meaning.specs.NameRules.{Given, given_by, given_from, given_twice, ha
 use Rattle.meaning.specs.Uses.{Roles, is_defining, is_one_of}
 use Rattle.roles.specs.NameSets.{texts, with_names}
 use Rattle.roles.proofs.Passes.{flat_map_last}
-use Rattle.rule_passes.specs.Held.{Holds}
+use Rattle.name_uses.specs.Held.{Holds}
 use Rattle.name_rules.specs.HeldNames.{HoldsGiven, is_given_twice, is_two_things}
-use Rattle.rule_passes.proofs.Seeing.{holds_more, holds_none, repeats_same, sought_both, sought_same}
+use Rattle.name_uses.proofs.Seeing.{holds_more, holds_none, repeats_same, sought_both, sought_same}
 
 pub typed_names : (k : DataType) (ds : List DeclaratorTree) → map (λ t. t.name) (typed_as k ds) ≡ map (λ d. d.name) ds
 typed_names k [] = refl

@@ -13,9 +13,9 @@ use Rattle.meaning.specs.Uses.{Parts, Roles, Use, is_one_of, joined, parts_at, p
 use Rattle.roles.specs.NameSets.{texts, with_names}
 use Rattle.roles.proofs.NameSets.{any_with_names}
 use Rattle.roles.proofs.Passes.{flat_map_last}
-use Rattle.rule_passes.specs.Held.{Holds}
+use Rattle.name_uses.specs.Held.{Holds}
 use Rattle.name_rules.specs.HeldNames.{HoldsLogical, HoldsUsed}
-use Rattle.rule_passes.proofs.Seeing.{holds_more, holds_none, sought_both, sought_same}
+use Rattle.name_uses.proofs.Seeing.{holds_more, holds_none, sought_both, sought_same}
 
 pub parts_none : (r : Roles) → parts_from r [] [] ≡ record { sets = []; reads = [] }
 unfolding parts_from

@@ -12,7 +12,7 @@ use Rattle.roles.specs.RolesAt.{roles_at}
 use Rattle.roles.specs.Stages.{IsBehind}
 use Rattle.name_rules.specs.declared.given.Given.{Given as Found}
 use Rattle.name_rules.specs.declared.givings.Names.{Names}
-use Rattle.rule_passes.specs.Held.{Adds, names_at}
+use Rattle.name_uses.specs.Held.{Adds, names_at}
 use Rattle.name_rules.specs.HeldNames.{HoldsGiven, is_given_twice, is_two_things}
 
 abbrev pub given_at : Found → Given

@@ -11,8 +11,8 @@ use Rattle.roles.specs.declared.names.Roles.{Roles as Kept}
 use Rattle.roles.specs.NameSets.{texts}
 use Rattle.roles.specs.RolesAt.{roles_at}
 use Rattle.roles.specs.Stages.{IsBehind}
-use Rattle.rule_passes.specs.Held.{Holds, names_at}
-use Rattle.rule_passes.specs.UsesIn.{reads_in, uses_in}
+use Rattle.name_uses.specs.Held.{Holds, names_at}
+use Rattle.name_uses.specs.UsesIn.{reads_in, uses_in}
 use Rattle.name_rules.specs.declared.logicals.Logicals.{Logicals}
 use Rattle.name_rules.specs.declared.twofold.Twofold.{Twofold}
 

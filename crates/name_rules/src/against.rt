@@ -6,17 +6,16 @@ ghost use Rattle.meaning.specs.Refusals.{least};
 ghost use Rattle.meaning.specs.Syntax.{shape_tree};
 ghost use Rattle.roles.specs.RolesAt.{roles_at};
 ghost use Rattle.roles.specs.Stages.{IsBehind};
-ghost use Rattle.roles.specs.UsesAt.{uses_at};
+ghost use Rattle.name_uses.specs.UsesAt.{uses_at};
 ghost use Rattle.name_rules.specs.Disputed.{is_used_against};
 ghost use Rattle.rule_passes.specs.Telling.{IsLeast};
 ghost use Rattle.name_rules.specs.Disputed.{goes_against};
 
 use meaning::refusal::{Broken, Rule};
 use meaning::syntax::{Item, Shape};
-use roles::{
-    Arguments, NameUse, Roles, Sought, Stage, has_passing, is_constant_name, is_function_name,
-};
-use rule_passes::{Behind, least_told, uses_of};
+use name_uses::{Arguments, NameUse, Sought, has_passing, uses_of};
+use roles::{Roles, Stage, is_constant_name, is_function_name};
+use rule_passes::{Behind, least_told};
 use std::alloc::{AllocError, Global};
 
 /// A use of a constant with parentheses, or of a statement function without.

@@ -4,9 +4,9 @@ ghost use Rattle.std.specs.Prelude.{IfOk};
 ghost use Rattle.meaning.specs.NameRules.{given_by as by_shape};
 ghost use Rattle.meaning.specs.Syntax.{shape_tree};
 ghost use Rattle.roles.specs.RolesAt.{roles_at};
-ghost use Rattle.rule_passes.specs.Held.{AreNames};
+ghost use Rattle.name_uses.specs.Held.{AreNames};
 ghost use Rattle.name_rules.specs.GivenAt.{IsGiven};
-ghost use Rattle.name_rules.specs.NamesIn.{AreDefined, bounded as names_bounded, constant as names_constant, declared as names_declared, defined as names_defined, typed as names_typed, valued as names_valued};
+ghost use Rattle.name_uses.specs.NamesIn.{AreDefined, bounded as names_bounded, constant as names_constant, declared as names_declared, defined as names_defined, typed as names_typed, valued as names_valued};
 
 use meaning::syntax::{Declarator, NamedConstant, Shape};
 use roles::{Roles, declarators_in, defined_by};

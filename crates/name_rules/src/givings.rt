@@ -12,8 +12,9 @@ use crate::given::{Given, given_by};
 use indexmap::IndexSet;
 use meaning::refusal::{Broken, Rule};
 use meaning::syntax::Item;
+use name_uses::{add_names, has_seen, repeats};
 use roles::{Roles, Stage};
-use rule_passes::{Behind, add_names, has_seen, least_told, repeats};
+use rule_passes::{Behind, least_told};
 use std::alloc::{AllocError, Global};
 
 /// The names that statements gave something.

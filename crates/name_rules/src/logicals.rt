@@ -8,18 +8,19 @@ ghost use Rattle.roles.specs.NameSets.{texts};
 ghost use Rattle.roles.specs.RolesAt.{roles_at};
 ghost use Rattle.name_rules.specs.Disputed.{is_logical_intrinsic};
 ghost use Rattle.rule_passes.specs.Telling.{IsLeast};
-ghost use Rattle.rule_passes.specs.Held.{AreNames, Joins};
-ghost use Rattle.name_rules.specs.NamesIn.{logical as names_logical};
+ghost use Rattle.name_uses.specs.Held.{AreNames, Joins};
+ghost use Rattle.name_uses.specs.NamesIn.{logical as names_logical};
 ghost use Rattle.name_rules.specs.HeldNames.{IsLogical, KnowsLogical, intrinsics_at, is_logical as is_logical_by};
 
 use crate::given::declared_names;
 use indexmap::IndexSet;
 use meaning::refusal::{Broken, Rule};
 use meaning::syntax::{Item, Shape};
-use roles::{NameUse, Roles, Sought, Stage, is_intrinsic};
-use rule_passes::{
-    Behind, add_names, has_seen, is_function_use, least_told, names_passing, reads_of, set_of,
+use name_uses::{
+    NameUse, Sought, add_names, has_seen, is_function_use, names_passing, reads_of, set_of,
 };
+use roles::{Roles, Stage, is_intrinsic};
+use rule_passes::{Behind, least_told};
 use std::alloc::{AllocError, Global};
 
 /// A reference to an intrinsic function.

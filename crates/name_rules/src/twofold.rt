@@ -6,18 +6,19 @@ ghost use Rattle.meaning.specs.Refusals.{least};
 ghost use Rattle.roles.specs.NameSets.{texts};
 ghost use Rattle.roles.specs.RolesAt.{roles_at};
 ghost use Rattle.name_rules.specs.Disputed.{is_used_twofold};
-ghost use Rattle.rule_passes.specs.Held.{AreNames, Joins};
+ghost use Rattle.name_uses.specs.Held.{AreNames, Joins};
 ghost use Rattle.rule_passes.specs.Telling.{IsLeast};
 ghost use Rattle.name_rules.specs.HeldNames.{IsTwofold, KnowsUsed, functions_at, is_twofold, variables_at};
 
 use indexmap::IndexSet;
 use meaning::refusal::{Broken, Rule};
 use meaning::syntax::{Item, Shape};
-use roles::{NameUse, Roles, Sought, Stage, is_other_name};
-use rule_passes::{
-    Behind, add_names, has_seen, is_bare, is_function_use, least_told, names_passing, reads_of,
+use name_uses::{
+    NameUse, Sought, add_names, has_seen, is_bare, is_function_use, names_passing, reads_of,
     set_of, uses_of,
 };
+use roles::{Roles, Stage, is_other_name};
+use rule_passes::{Behind, least_told};
 use std::alloc::{AllocError, Global};
 
 /// A use as a variable.

@@ -1,28 +1,16 @@
 -- Constant expressions where they have to stand, by the constants of a table or a scope.
 use Rattle.std.specs.Prelude.{Bool, List, map, flat_map}
-use Rattle.std.specs.List.{list_any}
 use Rattle.meaning.specs.declared.syntax.Bounds.{Bounds}
 use Rattle.meaning.specs.declared.syntax.Declarator.{Declarator}
-use Rattle.meaning.specs.declared.syntax.Expr.{Expr}
 use Rattle.meaning.specs.declared.syntax.NamedConstant.{NamedConstant}
 use Rattle.meaning.specs.declared.syntax.Shape.{Shape}
-use Rattle.meaning.specs.NumberRules.{has_bad_bound, is_bad_constant, is_no_constant, is_unknown}
+use Rattle.meaning.specs.NumberRules.{has_bad_bound, is_bad_constant, is_no_constant}
 use Rattle.meaning.specs.Scopes.{constants_in}
-use Rattle.meaning.specs.Syntax.{BoundsTree, ExprTree, bounds_tree, constant_tree, declarator_tree, expr_tree, shape_tree}
-use Rattle.meaning.specs.Types.{Types}
+use Rattle.meaning.specs.Syntax.{BoundsTree, ExprTree, bounds_tree, constant_tree, declarator_tree, shape_tree}
 use Rattle.meaning.specs.Typing.{in_bounds}
-use Rattle.meaning.specs.Uses.{uses_in}
-use Rattle.meaning.specs.Values.{Known}
-use Rattle.number_rules.specs.declared.known.Scope.{Scope}
-use Rattle.number_rules.specs.declared.known.Table.{Table}
-use Rattle.number_rules.specs.Tables.{known_at, scope_known, scope_types, types_in}
-
--- an expression has a name that is no constant's, or is no constant
-abbrev pub has_unknown_at : Known → Expr → Bool
-has_unknown_at known e = list_any (is_unknown known) (uses_in (expr_tree e))
-
-abbrev pub is_none_at : Types → Known → Expr → Bool
-is_none_at types known e = is_no_constant types known (expr_tree e)
+use Rattle.declarations.specs.declared.known.Scope.{Scope}
+use Rattle.declarations.specs.declared.known.Table.{Table}
+use Rattle.declarations.specs.Tables.{known_at, scope_known, scope_types, types_in}
 
 -- one of the constants of a PARAMETER statement is none
 abbrev pub are_bad_at : Scope → List NamedConstant → Bool

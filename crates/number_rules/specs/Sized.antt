@@ -1,26 +1,13 @@
--- The dimensions of arrays, and how many elements they have, by the constants of a table.
-use Rattle.std.specs.Prelude.{◌+◌, ℕ, ℤ, Bool, List, [], map, nat_lt, sum_by}
-use Rattle.meaning.specs.declared.syntax.Bounds.{Bounds}
+-- How many elements arrays have, by the constants of a table.
+use Rattle.std.specs.Prelude.{◌+◌, ℕ, Bool, List, [], map, nat_lt, sum_by}
 use Rattle.meaning.specs.declared.syntax.Declarator.{Declarator}
-use Rattle.meaning.specs.declared.syntax.Expr.{Expr}
-use Rattle.meaning.specs.Arrays as arrays
 use Rattle.meaning.specs.NumberRules.{elements_in, elements_of, have_too_large, is_too_large}
-use Rattle.meaning.specs.Scopes.{dimension_of, integer_if}
-use Rattle.meaning.specs.Syntax.{ItemTree, bounds_tree, declarator_tree}
+use Rattle.meaning.specs.Syntax.{ItemTree, declarator_tree}
 use Rattle.roles.specs.RolesAt.{roles_at}
-use Rattle.number_rules.specs.declared.known.Table.{Table}
+use Rattle.declarations.specs.declared.known.Table.{Table}
 use Rattle.expressions.specs.Places.{capped}
 use Rattle.number_rules.specs.CappedSizes.{IsCapped}
-use Rattle.number_rules.specs.Tables.{IsBehind, known_at, types_in, value_at}
-
-abbrev pub bound_at : Table → Expr → ℤ
-bound_at t e = integer_if (value_at (types_in t) (known_at t) e)
-
-abbrev pub dimension_at : Table → Bounds → arrays.Dimension
-dimension_at t b = dimension_of (types_in t) (known_at t) (bounds_tree b)
-
-abbrev pub dimensions_at : Table → List Bounds → List arrays.Dimension
-dimensions_at t bs = map (dimension_of (types_in t) (known_at t)) (map bounds_tree bs)
+use Rattle.declarations.specs.Tables.{IsBehind, known_at, types_in}
 
 -- the elements that a declarator gives
 abbrev pub elements_at : Table → Declarator → ℕ

@@ -4,47 +4,19 @@ ghost use Rattle.std.specs.Prelude.{◌≡◌, IfOk};
 ghost use Rattle.std.specs.List.{list_any};
 ghost use Rattle.meaning.specs.NumberRules.{has_bad_number};
 ghost use Rattle.rule_passes.specs.Telling.{IsLeast};
-ghost use Rattle.number_rules.specs.BadNumbers.{are_bad_at, defines_bad_at, exprs_in_bounds, exprs_in_declarator, has_unknown_at, have_bad_bound_at, is_bad_at, is_none_at};
-ghost use Rattle.number_rules.specs.Tables.{IsBehind};
+ghost use Rattle.number_rules.specs.BadNumbers.{are_bad_at, defines_bad_at, exprs_in_bounds, exprs_in_declarator, have_bad_bound_at, is_bad_at};
+ghost use Rattle.declarations.specs.Tables.{IsBehind};
 ghost use Rattle.roles.specs.RolesAt.{roles_at};
 
 use crate::great::has_too_great;
-use crate::known::{Scope, Table, enter_name, pass_constants, scope_of, table_of, value_of};
-use expressions::Constants;
+use declarations::{
+    Scope, Table, enter_name, is_no_constant, pass_constants, scope_of, table_of, value_of,
+};
 use meaning::refusal::{Broken, Rule};
-use meaning::syntax::{Bounds, Declarator, Expr, Item, NamedConstant, Shape};
+use meaning::syntax::{Bounds, Declarator, Item, NamedConstant, Shape};
 use roles::{Roles, declarators_in};
 use rule_passes::{Behind, least_told};
 use std::alloc::{AllocError, Global};
-
-/// Whether a name in an expression is no constant's, or stands with parentheses.
-#[tactic(auto, using(rule_passes::proofs::Missing::any_both))]
-fn has_unknown<C: Constants>(constants: &C, expression: &Expr) -> bool
-    requires { C.is_sound constants.now }
-    ensures { result ≡ has_unknown_at (C.known constants.now) expression.now }
-{
-    match expression {
-        Expr::Number(_) => false,
-        Expr::Truth(_) => false,
-        Expr::Name(name) => constants.constant(name).is_none(),
-        Expr::Signed(_, operand) => has_unknown(constants, operand),
-        Expr::Not(operand) => has_unknown(constants, operand),
-        Expr::Binary(_, left, right) => {
-            has_unknown(constants, left) || has_unknown(constants, right)
-        }
-        Expr::Paren(operand) => has_unknown(constants, operand),
-        Expr::Element(_, _) => true,
-        Expr::Call(_) => true,
-    }
-}
-
-/// Whether an expression isn't one of constants that are known, or faults.
-pub fn is_no_constant<C: Constants>(constants: &C, expression: &Expr) -> bool
-    requires { C.is_sound constants.now }
-    ensures { result ≡ is_none_at (C.types constants.now) (C.known constants.now) expression.now }
-{
-    has_unknown(constants, expression) || value_of(constants, expression).is_none()
-}
 
 /// Whether one of the constants of a PARAMETER statement is none, each with those before it.
 fn are_bad<'a>(scope: &mut Scope<'a>, constants: &'a [NamedConstant]) -> Result<bool, AllocError>

@@ -5,45 +5,20 @@ ghost use Rattle.std.specs.List.{list_any};
 ghost use Rattle.meaning.specs.Arrays.{size};
 ghost use Rattle.meaning.specs.NumberRules.{has_large_array, is_reversed as is_reversed_in};
 ghost use Rattle.rule_passes.specs.Telling.{Finds, IsLeast};
-ghost use Rattle.expressions.specs.Dimensions.{dimension};
+ghost use Rattle.declarations.specs.Dimensioned.{dimension_at, dimensions_at};
 ghost use Rattle.number_rules.specs.CappedSizes.{IsCapped};
-ghost use Rattle.number_rules.specs.Sized.{AreBehind, bound_at, capped_with, dimension_at, dimensions_at, elements_at, has_too_many_at, have_too_large_at, is_too_large_at};
+ghost use Rattle.number_rules.specs.Sized.{AreBehind, capped_with, elements_at, has_too_many_at, have_too_large_at, is_too_large_at};
 ghost use Rattle.roles.specs.RolesAt.{roles_at};
 
-use crate::known::{Table, pass_constants, table_of, value_of};
-use expressions::{Dimension, as_integer};
+use declarations::{Table, dimension_of, pass_constants, table_of};
 use meaning::refusal::{Broken, Rule};
-use meaning::syntax::{Bounds, Declarator, Expr, Item};
+use meaning::syntax::{Bounds, Declarator, Item};
 use roles::{Roles, declarators_in};
 use rule_passes::{Behind, least_told};
 use std::alloc::{AllocError, Global};
 
 /// The most elements that the arrays of a program may have.
 const MOST: u64 = 1_048_576;
-
-/// The value of a bound; 0 where it has none.
-fn bound(table: &Table, expression: &Expr) -> i32
-    ensures { result ≡ bound_at table.now expression.now }
-{
-    match value_of(table, expression) {
-        Some(value) => as_integer(value),
-        None => 0,
-    }
-}
-
-/// The dimension that bounds give.
-pub fn dimension_of(table: &Table, bounds: &Bounds) -> Dimension
-    ensures { dimension result ≡ dimension_at table.now bounds.now }
-{
-    let lower = match &bounds.lower {
-        Some(lower) => bound(table, lower),
-        None => 1,
-    };
-    Dimension {
-        lower,
-        upper: bound(table, &bounds.upper),
-    }
-}
 
 /// How many elements an array of these bounds has, or 2^64-1 where there are more.
 fn size_of(table: &Table, bounds: &[Bounds]) -> u64

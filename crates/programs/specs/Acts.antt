@@ -4,7 +4,7 @@ use Rattle.meaning.specs.declared.syntax.Tree.{Tree}
 use Rattle.meaning.specs.Characters.{number_of}
 use Rattle.meaning.specs.Scopes.{defined_by}
 use Rattle.meaning.specs.Syntax.{ExprTree, ExprsTree, LimitsTree, ListItemsTree, StopTree, ShapeTree, assignment, format, doing, continuing, typing, ending, naming, implying, logical_typing, dimensioning, parameter, initializing, definition, going, computed_going, arithmetic_if, logical_if, block_if, else_if, otherwise, end_if, stopping}
-use Rattle.checker.specs.Checked.{names_in}
+use Rattle.numbering.specs.Checked.{names_in}
 use Rattle.landmarks.specs.Quiet.{output_in}
 use Rattle.postfix.specs.declared.code.Code.{Code}
 use Rattle.programs.specs.declared.action.Action.{Action}

@@ -3,7 +3,7 @@ use Rattle.std.specs.Prelude.{◌≡◌, ℕ, slice_get, Option, Some, None}
 use Rattle.std.specs.Borrow.{Bor}
 use Rattle.meaning.specs.declared.syntax.Tree.{Tree}
 use Rattle.meaning.specs.Syntax.{ItemTree, ShapeTree}
-use Rattle.checker.specs.Checked.{items_in}
+use Rattle.numbering.specs.Checked.{items_in}
 use Rattle.programs.specs.declared.action.Action.{Action}
 use Rattle.programs.specs.declared.program.Parts.{Parts}
 use Rattle.programs.specs.Acts.{Acts}

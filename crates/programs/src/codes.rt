@@ -6,9 +6,8 @@ ghost use Rattle.programs.specs.Codes.{AreLimits, IsCell, IsCode, IsCodeIf};
 
 use crate::Repeat;
 use checker::Program;
-use compiler::{NoCode, Scene, code_of};
+use compiler::{Frame, NoCode, Scene, code_of, is_logical};
 use expressions::Numbering;
-use kinds::{Frame, is_logical};
 use meaning::cell::Cell;
 use meaning::syntax::{Expr, Exprs, Limits};
 use postfix::Code;

@@ -8,10 +8,10 @@ ghost use Rattle.landmarks.specs.Kept.{IsKept};
 ghost use Rattle.landmarks.specs.Loud.{is_loud_in};
 ghost use Rattle.landmarks.specs.Places.{place_in};
 ghost use Rattle.format_edit.specs.Formatted.{descriptors};
-ghost use Rattle.checker.specs.Agreed.{IsReadFrom};
-ghost use Rattle.checker.specs.Told.{AreStarts, format_at};
+ghost use Rattle.numbering.specs.Agreed.{IsReadFrom};
+ghost use Rattle.numbering.specs.Told.{AreStarts, format_at};
 ghost use Rattle.roles.specs.Listed.{trees_at};
-ghost use Rattle.checker.specs.Checked.{count_in, items_in, names_in, numbers_in};
+ghost use Rattle.numbering.specs.Checked.{count_in, items_in, names_in, numbers_in};
 ghost use Rattle.programs.specs.Kept.{AreFunctions, AreKept};
 ghost use Rattle.programs.specs.Programs.{IsActionAt};
 

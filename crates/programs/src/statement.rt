@@ -4,7 +4,7 @@ ghost use Rattle.std.specs.Prelude.{◌≡◌, ℕ, Bool, List, IfOk, Some, map}
 ghost use Rattle.meaning.specs.declared.syntax.Tree.{Tree};
 ghost use Rattle.meaning.specs.Characters.{number_of};
 ghost use Rattle.meaning.specs.Syntax.{arithmetic_if, assignment, doing, going, expr_tree, exprs_tree, limits_tree, list_items_tree, logical_if, shape_tree, computed_going};
-ghost use Rattle.checker.specs.Told.{IsArrayIn};
+ghost use Rattle.numbering.specs.Told.{IsArrayIn};
 ghost use Rattle.programs.specs.Acts.{Acts, AssignsTo, TestsBy, WritesList};
 ghost use Rattle.programs.specs.Codes.{IsTarget};
 

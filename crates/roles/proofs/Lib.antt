@@ -5,7 +5,4 @@ pub mod Ranking
 pub mod Defining
 pub mod NameSets
 pub mod Valued
-pub mod Naming
-pub mod Reading
 pub mod Staging
-pub mod Mistyping

@@ -5,9 +5,7 @@ pub mod RankBy
 pub mod RanksAt
 pub mod Functions
 pub mod NameSets
-pub mod UsesAt
 pub mod RolesBy
 pub mod RolesAt
 pub mod Stages
-pub mod Wants
 pub mod Sameness

@@ -5,31 +5,22 @@ mod arrays;
 mod constants;
 mod declared;
 mod functions;
-mod hiding;
 mod intrinsics;
 mod items;
 mod keeping;
-mod mistyped;
 mod names;
 mod sets;
 mod stage;
-mod statements;
-mod typing;
-mod uses;
 
 pub use arrays::{Ranks, declarators_in};
 pub use declared::Types;
 pub use functions::{Function, defined_by, is_specification};
-pub use hiding::{Outside, Shown};
 pub use intrinsics::is_intrinsic;
 pub use items::items_of;
 pub use keeping::add_first;
-pub use mistyped::has_wrong_type;
 pub use names::{
     Roles, function_named, is_array_name, is_constant_name, is_function_name, is_other_name,
     letter_types_of, rank_of_name, type_of_name,
 };
 pub use sets::{add_name, has_name};
 pub use stage::Stage;
-pub use statements::{add_reads, set_by};
-pub use uses::{Arguments, NameUse, Sought, add_uses, has_passing};

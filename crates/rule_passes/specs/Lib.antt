@@ -1,4 +1,2 @@
 pub mod Listed
-pub mod Held
 pub mod Telling
-pub mod UsesIn

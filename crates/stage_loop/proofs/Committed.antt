@@ -8,7 +8,7 @@ use Rattle.meaning.specs.declared.ending.Outcome.{Outcome}
 use Rattle.meaning.specs.Execution.{Ran}
 use Rattle.meaning.specs.Stores.{Cells, known, overlay}
 use Rattle.array_store.specs.Whole.{world_of}
-use Rattle.checker.specs.Checked.{items_in}
+use Rattle.numbering.specs.Checked.{items_in}
 use Rattle.evaluator.specs.Over.{repeated_as}
 use Rattle.block_stage.specs.Cuts.{AreWritten, IsCut, Places, overlay_all, overlay_by, place_at, stops, stops_later, trips_before, wrote}
 use Rattle.block_stage.specs.Faithful.{RunData, base_of, ran, trips_of}

@@ -19,7 +19,8 @@ use Rattle.programs.specs.Programs.{IsStatement}
 use Rattle.evaluator.specs.Known.{AreStatements}
 use Rattle.evaluator.specs.Quiet.{variable_of}
 use Rattle.block_stage.specs.Jobs.{range_in, shape_in}
-use Rattle.stage_loop.specs.Loops.{IsQuietLoop, LeavesItsVariable}
+use Rattle.evaluator.specs.Unset.{LeavesItsVariable}
+use Rattle.stage_loop.specs.Loops.{IsQuietLoop}
 
 -- what was put in is there
 pub put_here : (m : Map) (v : List ℕ) (x : ℤ) → put m v [] x v [] ≡ x

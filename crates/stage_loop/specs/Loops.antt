@@ -2,27 +2,21 @@
 -- 11.10).
 use Rattle.std.specs.Prelude.{ℕ, ◌<◌, ℤ, pos, ◌+ℤ◌, ◌*ℤ◌, FitsSigned, IsTrue, List}
 use Rattle.std.specs.Int.{w32}
-use Rattle.std.specs.List.{AllByRecursion}
 use Rattle.meaning.specs.declared.ending.Outcome.{Outcome}
 use Rattle.meaning.specs.declared.syntax.Loop.{Loop, out-Loop}
 use Rattle.meaning.specs.declared.syntax.Tree.{Tree}
 use Rattle.meaning.specs.Execution.{Ran}
 use Rattle.meaning.specs.LoopLaws.{NeverSets}
 use Rattle.meaning.specs.Maps.{Map}
-use Rattle.meaning.specs.Surroundings.{counted_by}
 use Rattle.meaning.specs.Trees.{flat, item_tree}
 use Rattle.landmarks.specs.Kept.{IsKept}
 use Rattle.landmarks.specs.Quiet.{WritesNothing}
-use Rattle.checker.specs.Starts.{map_of}
+use Rattle.numbering.specs.Starts.{map_of}
 use Rattle.programs.specs.Asked.{is_doing}
 use Rattle.programs.specs.Programs.{IsStatement}
 use Rattle.evaluator.specs.Known.{AreStatements}
 use Rattle.evaluator.specs.Statements.{Leaves}
 use Rattle.block_stage.specs.Jobs.{range_in, shape_in, variable_in}
-
--- no statement of its range sets its variable (11.10.5)
-abbrev pub LeavesItsVariable : Loop → Type 0
-LeavesItsVariable l = AllByRecursion (λ v. NeverSets v (range_in l)) (counted_by (shape_in l))
 
 -- a DO statement of the program whose range writes nothing and never sets its variable
 pub record IsQuietLoop (t : Tree) (l : Loop) : Type 0 where

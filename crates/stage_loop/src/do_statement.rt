@@ -5,20 +5,20 @@ ghost use Rattle.meaning.specs.declared.syntax.Loop.{out-Loop};
 ghost use Rattle.meaning.specs.Trees.{flat, item_tree};
 ghost use Rattle.landmarks.specs.Kept.{IsKept};
 ghost use Rattle.landmarks.specs.Quiet.{WritesNothing};
-ghost use Rattle.checker.specs.Checked.{count_in, items_in};
+ghost use Rattle.numbering.specs.Checked.{count_in, items_in};
 ghost use Rattle.programs.specs.Acts.{Repeats};
 ghost use Rattle.programs.specs.Programs.{IsStatement};
 ghost use Rattle.evaluator.specs.Known.{AreStatements};
 ghost use Rattle.evaluator.specs.Over.{MovesIn, loop_as};
 ghost use Rattle.evaluator.specs.Statements.{Spends};
 ghost use Rattle.block_stage.specs.Jobs.{range_in, shape_in};
-ghost use Rattle.stage_loop.specs.Loops.{LeavesItsVariable};
+ghost use Rattle.evaluator.specs.Unset.{LeavesItsVariable};
 
 use crate::course::Course;
 use crate::stages::run_stages;
 use array_store::Whole;
 use block_stage::Gate;
-use evaluator::{count_of, limits_whole, repeat_in, set_whole, take_turn};
+use evaluator::{count_of, repeat_in, take_turn};
 use meaning::ending::{Fault, FaultKind, Outcome, Run};
 use meaning::plan::Plan;
 use meaning::syntax::Loop;
@@ -26,6 +26,7 @@ use programs::{Program, Repeat};
 use std::alloc::Global;
 use std::sync::Wait;
 use std::thread::Threads;
+use whole_runs::{limits_whole, set_whole};
 
 // Executes a DO statement with its range.
 fn run_do<R: Threads + Wait + Sync, G: Gate + Sync>(

@@ -1,8 +1,8 @@
 //! The stages of a DO statement without output.
 
 ghost use Rattle.std.specs.Prelude.{◌≡◌, ◌≢◌, ◌-◌, ◌<◌, ◌≤◌, [], pos, IfNone, IfSome, length, take};
-ghost use Rattle.checker.specs.Checked.{count_in, items_in};
-ghost use Rattle.checker.specs.Starts.{map_of};
+ghost use Rattle.numbering.specs.Checked.{count_in, items_in};
+ghost use Rattle.numbering.specs.Starts.{map_of};
 ghost use Rattle.evaluator.specs.Over.{repeated_as, trips_as};
 ghost use Rattle.stage_loop.specs.Changes.{DifferIn};
 ghost use Rattle.block_stage.specs.Cuts.{AreWritten};

@@ -13,8 +13,8 @@ use Rattle.meaning.specs.Syntax.{ItemTree, format_tree, shape_tree, unit_tree}
 use Rattle.roles.specs.declared.names.Roles.{Roles}
 use Rattle.roles.specs.RolesAt.{roles_at}
 use Rattle.rule_passes.specs.Listed.{tree_at}
-use Rattle.number_rules.specs.declared.known.Table.{Table}
-use Rattle.number_rules.specs.Tables.{IsBehind, known_at, types_in}
+use Rattle.declarations.specs.declared.known.Table.{Table}
+use Rattle.declarations.specs.Tables.{IsBehind, known_at, types_in}
 use Rattle.statement_rules.specs.declared.formats.BadOutput.{BadOutput}
 
 -- a set of labels has exactly those of FORMAT statements, and none is 2^32 or more

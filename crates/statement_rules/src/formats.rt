@@ -10,11 +10,11 @@ ghost use Rattle.rule_passes.specs.Telling.{Finds, IsLeast};
 ghost use Rattle.statement_rules.specs.FormatLabels.{AreFormats, FindsOk, HasFormats, KnowsOutput, breaks_output, is_allowed_by, is_format_of, is_misformed_at, is_unit_at};
 
 use crate::transfers::label_of;
+use declarations::{Table, is_no_constant, pass_constants, table_of, value_of};
 use format_edit::{Format, FormatFault};
 use meaning::ending::Value;
 use meaning::refusal::{Broken, Rule};
 use meaning::syntax::{FormatSource, Item, Shape, Unit};
-use number_rules::{Table, is_no_constant, pass_constants, table_of, value_of};
 use roles::Roles;
 use rule_passes::{Behind, least_told};
 use std::alloc::{AllocError, Global};

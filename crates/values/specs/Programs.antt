@@ -8,7 +8,7 @@ use Rattle.meaning.specs.Stores.{Cells}
 use Rattle.meaning.specs.Trees.{flatten}
 use Rattle.meaning.specs.Syntax.{ExprsTree}
 use Rattle.meaning.specs.Values.{Scope, dimensions_in, subscripts}
-use Rattle.checker.specs.Checked.{tree_of, numbers_in}
+use Rattle.numbering.specs.Checked.{tree_of, numbers_in}
 
 -- what names stand for in its statements
 abbrev pub scope_in : Tree → Scope

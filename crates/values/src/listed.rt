@@ -6,7 +6,7 @@ ghost use Rattle.meaning.specs.Maps.{value_at as value_in};
 ghost use Rattle.meaning.specs.Stores.{IsLater, Reads};
 ghost use Rattle.meaning.specs.Syntax.{expr_tree};
 ghost use Rattle.expressions.specs.Listed.{AddsItem};
-ghost use Rattle.checker.specs.Checked.{count_in};
+ghost use Rattle.numbering.specs.Checked.{count_in};
 ghost use Rattle.programs.specs.Items.{IsSingle, IsWholeArray};
 ghost use Rattle.values.specs.Programs.{map_at, scope_in};
 

@@ -1,7 +1,7 @@
 //! Runs of a program in which the first stage of each DO statement is looked at, before the statement is executed.
 
 ghost use Rattle.std.specs.Prelude.{◌≡◌, ◌≢◌, ◌-◌, ◌*◌, ◌<◌, pos, length};
-ghost use Rattle.checker.specs.Checked.{count_in};
+ghost use Rattle.numbering.specs.Checked.{count_in};
 ghost use Rattle.programs.specs.Acts.{Repeats};
 ghost use Rattle.block_stage.specs.Jobs.{shape_in};
 ghost use Rattle.stage_loop.specs.Loops.{AreIntegers, IsQuietLoop};
@@ -10,7 +10,7 @@ ghost use Rattle.executor.specs.Calls.{IsAsked, IsGiven};
 use crate::staged::watch::{Watch, see};
 use array_store::Whole;
 use block_stage::Job;
-use evaluator::{count_of, limits_whole, loop_whole, repeat_in};
+use evaluator::{count_of, repeat_in};
 use executor::run::run_by;
 use executor::{Out, Staged};
 use meaning::ending::{Ending, Outcome};
@@ -21,6 +21,7 @@ use std::process::Abort;
 use std::sync::Wait;
 use std::sync::atomic::{AtomicU64, Ordering};
 use std::thread::Threads;
+use whole_runs::{limits_whole, loop_whole};
 
 /// How a source ended whose DO statements were looked at, what it wrote, and how many of them were looked at.
 #[derive(Drop)]

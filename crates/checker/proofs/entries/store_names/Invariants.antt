@@ -3,7 +3,7 @@ use Rattle.meaning.specs.Arrays.{cells_of}
 use Rattle.roles.specs.NameSets.{texts}
 use Rattle.k_rules.specs.Judged.{arrays_in}
 use Rattle.checker.specs.Entries.{said_at, stored_in}
-use Rattle.checker.specs.Numbered.{named}
+use Rattle.numbering.specs.Numbered.{named}
 use Rattle.checker.proofs.entries.store_names.Given as goal
 
 abbrev pub invariant-loop-name : goal.invariant-loop-name

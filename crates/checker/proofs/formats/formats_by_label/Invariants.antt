@@ -1,7 +1,7 @@
 use Rattle.std.proofs.Common.{◌≡◌, ◌≤◌, ◌^◌, ℕ, None, take}
 use Rattle.roles.specs.Listed.{trees_at}
 use Rattle.meaning.specs.Execution.{format_found}
-use Rattle.checker.specs.Agreed.{found_in}
+use Rattle.numbering.specs.Agreed.{found_in}
 use Rattle.checker.proofs.formats.formats_by_label.Given as goal
 
 abbrev pub invariant-loop-member : goal.invariant-loop-member

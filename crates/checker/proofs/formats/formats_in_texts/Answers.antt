@@ -1,4 +1,4 @@
-use Rattle.checker.proofs.Texts.{none_read}
+use Rattle.numbering.proofs.Texts.{none_read}
 use Rattle.checker.proofs.formats.formats_in_texts.Goals as goal
 
 pub loop-member-init : goal.loop-member-init

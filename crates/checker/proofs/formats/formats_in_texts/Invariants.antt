@@ -1,4 +1,4 @@
-use Rattle.checker.specs.Agreed.{AreRead}
+use Rattle.numbering.specs.Agreed.{AreRead}
 use Rattle.checker.proofs.formats.formats_in_texts.Given as goal
 
 abbrev pub invariant-loop-member : goal.invariant-loop-member

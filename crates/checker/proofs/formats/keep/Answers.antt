@@ -1,4 +1,4 @@
-use Rattle.checker.proofs.Texts.{read_more}
+use Rattle.numbering.proofs.Texts.{read_more}
 use Rattle.roles.proofs.Firsts.{kept_new}
 use Rattle.checker.proofs.formats.keep.Goals as goal
 

@@ -4,7 +4,7 @@ use Rattle.roles.specs.NameSets.{texts}
 use Rattle.k_rules.specs.Judged.{arrays_in}
 use Rattle.checker.specs.Built.{variables_at}
 use Rattle.checker.specs.Entries.{IsSaid, said_at}
-use Rattle.checker.specs.Numbered.{named}
+use Rattle.numbering.specs.Numbered.{named}
 use Rattle.checker.proofs.rules.stored_names.Goals as goal
 
 pub returns : goal.returns

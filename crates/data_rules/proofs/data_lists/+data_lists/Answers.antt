@@ -10,9 +10,9 @@ use Rattle.data_rules.specs.DataGiving.{known_there, roles_in, stage_of}
 use Rattle.data_rules.specs.DataItems.{item_targets, trips_targets}
 use Rattle.data_rules.specs.DataStages.{filled}
 use Rattle.data_rules.specs.DataTrips.{trips_by}
-use Rattle.number_rules.specs.KnownNames.{with_name}
+use Rattle.declarations.specs.KnownNames.{with_name}
 use Rattle.data_rules.specs.SameScope.{IsSameScope}
-use Rattle.number_rules.specs.Tables.{scope_known}
+use Rattle.declarations.specs.Tables.{scope_known}
 use Rattle.data_rules.proofs.DataFilling.{same_given}
 use Rattle.data_rules.proofs.DataListing.{filled_more, filled_none, left, next_value, no_trips, same_known, trip_more, with_trips}
 use Rattle.data_rules.proofs.data_lists.+data_lists.Goals as goal

@@ -2,7 +2,7 @@ use Rattle.std.proofs.Common.{map, ap, ◌∙◌}
 use Rattle.meaning.specs.Syntax.{data_value_tree}
 use Rattle.data_rules.specs.DataRuns.{values_of}
 use Rattle.data_rules.specs.DataStages.{is_empty_list}
-use Rattle.number_rules.specs.Tables.{known_at}
+use Rattle.declarations.specs.Tables.{known_at}
 use Rattle.data_rules.proofs.DataRunning.{used_up}
 use Rattle.data_rules.proofs.data_values.is_used_up.Goals as goal
 

@@ -3,7 +3,7 @@ use Rattle.std.specs.List.{range_with_len}
 use Rattle.meaning.specs.Arrays.{size}
 use Rattle.meaning.specs.Initial.{whole_target}
 use Rattle.meaning.specs.Uses.{is_other}
-use Rattle.number_rules.specs.ArraysKept.{dimensions_of}
+use Rattle.declarations.specs.ArraysKept.{dimensions_of}
 use Rattle.data_rules.specs.DataGiving.{roles_in, stage_of}
 use Rattle.data_rules.specs.DataStages.{filled, give_places}
 use Rattle.expressions.specs.Dimensions.{dimension}

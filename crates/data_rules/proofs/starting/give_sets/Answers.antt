@@ -1,7 +1,7 @@
 use Rattle.std.proofs.Common.{option_map, sym, ap, ◌∙◌}
 use Rattle.roles.specs.RolesAt.{roles_at}
 use Rattle.data_rules.specs.DataSets.{stage_by}
-use Rattle.number_rules.specs.Tables.{known_at}
+use Rattle.declarations.specs.Tables.{known_at}
 use Rattle.data_rules.proofs.DataSetsMore.{set_misfit, set_more, sets_end}
 use Rattle.data_rules.proofs.starting.give_sets.Goals as goal
 

@@ -2,7 +2,7 @@ use Rattle.std.proofs.Common.{◌≡◌, drop, map}
 use Rattle.meaning.specs.Syntax.{data_set_tree}
 use Rattle.roles.specs.RolesAt.{roles_at}
 use Rattle.data_rules.specs.DataSets.{fill_sets, stage_by}
-use Rattle.number_rules.specs.Tables.{known_at}
+use Rattle.declarations.specs.Tables.{known_at}
 use Rattle.data_rules.proofs.starting.give_sets.Given as goal
 
 abbrev pub invariant-loop-set : goal.invariant-loop-set

@@ -5,7 +5,7 @@ use Rattle.roles.specs.RolesAt.{roles_at}
 use Rattle.data_rules.specs.DataPassed.{IsPassed}
 use Rattle.rule_passes.specs.Listed.{tree_at}
 use Rattle.data_rules.specs.Marked.{given_at, has_place}
-use Rattle.number_rules.specs.Tables.{IsBehind}
+use Rattle.declarations.specs.Tables.{IsBehind}
 use Rattle.data_rules.proofs.DataPairing.{stage}
 use Rattle.data_rules.proofs.DataPassing.{none_passed}
 use Rattle.rule_passes.proofs.Passes.{trees_more}

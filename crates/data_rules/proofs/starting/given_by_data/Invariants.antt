@@ -2,7 +2,7 @@ use Rattle.std.proofs.Common.{◌≡◌, map, take}
 use Rattle.roles.specs.RolesAt.{roles_at}
 use Rattle.data_rules.specs.DataPassed.{IsPassed}
 use Rattle.rule_passes.specs.Listed.{tree_at}
-use Rattle.number_rules.specs.Tables.{IsBehind}
+use Rattle.declarations.specs.Tables.{IsBehind}
 use Rattle.data_rules.proofs.starting.given_by_data.Given as goal
 
 abbrev pub invariant-loop-item : goal.invariant-loop-item

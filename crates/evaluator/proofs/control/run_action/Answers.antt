@@ -1,7 +1,7 @@
 use Rattle.std.proofs.Common.{sym, ap, ◌∙◌}
 use Rattle.meaning.specs.Syntax.{logical_if, shape_tree, expr_tree}
 use Rattle.meaning.specs.Execution.{simple, step}
-use Rattle.checker.specs.Checked.{items_in}
+use Rattle.numbering.specs.Checked.{items_in}
 use Rattle.values.specs.Programs.{map_at}
 use Rattle.evaluator.proofs.Executed.{step_as, unless_logical}
 use Rattle.evaluator.proofs.Composed.{does_so, moves_same, if_ok_so}

@@ -1,6 +1,6 @@
 use Rattle.meaning.specs.Syntax.{shape_tree, expr_tree}
 use Rattle.meaning.proofs.Stores.{does_read}
-use Rattle.checker.specs.Checked.{items_in}
+use Rattle.numbering.specs.Checked.{items_in}
 use Rattle.values.specs.Programs.{map_at}
 use Rattle.evaluator.proofs.Executed.{if_unexecuted, if_fails, if_true, if_false}
 use Rattle.evaluator.proofs.Composed.{does_nothing, reads_and_does, if_ok_so}

@@ -1,6 +1,6 @@
 use Rattle.std.proofs.Common.{◌≡◌, take}
 use Rattle.meaning.specs.NameRules.{greatest}
-use Rattle.roles.specs.UsesAt.{uses_at}
+use Rattle.name_uses.specs.UsesAt.{uses_at}
 use Rattle.function_rules.specs.Measured.{level_at}
 use Rattle.function_rules.proofs.measures.deepest.Given as goal
 

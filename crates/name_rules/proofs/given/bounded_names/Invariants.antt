@@ -2,7 +2,7 @@ use Rattle.std.proofs.Common.{◌≡◌, map, take}
 use Rattle.std.specs.List.{filter}
 use Rattle.meaning.specs.NameRules.{has_bounds}
 use Rattle.meaning.specs.Syntax.{DeclaratorTree, declarator_tree}
-use Rattle.rule_passes.specs.Held.{names_at}
+use Rattle.name_uses.specs.Held.{names_at}
 use Rattle.name_rules.proofs.given.bounded_names.Given as goal
 
 abbrev pub invariant-loop-declarator : goal.invariant-loop-declarator

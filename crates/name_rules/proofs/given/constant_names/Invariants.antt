@@ -1,6 +1,6 @@
 use Rattle.std.proofs.Common.{◌≡◌, map, take}
 use Rattle.meaning.specs.Syntax.{ConstantTree, constant_tree}
-use Rattle.rule_passes.specs.Held.{names_at}
+use Rattle.name_uses.specs.Held.{names_at}
 use Rattle.name_rules.proofs.given.constant_names.Given as goal
 
 abbrev pub invariant-loop-constant : goal.invariant-loop-constant

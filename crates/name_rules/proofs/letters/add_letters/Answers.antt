@@ -4,7 +4,7 @@ use Rattle.meaning.specs.Syntax.{letters_tree}
 use Rattle.roles.proofs.Passes.{pushed_more}
 use Rattle.name_rules.specs.Lettered.{letters_at}
 use Rattle.name_rules.proofs.Lettering.{letterless}
-use Rattle.rule_passes.proofs.Seeing.{read_is}
+use Rattle.name_uses.proofs.Seeing.{read_is}
 use Rattle.name_rules.proofs.letters.add_letters.Goals as goal
 
 pub loop-one-preserved : goal.loop-one-preserved

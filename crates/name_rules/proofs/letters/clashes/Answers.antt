@@ -4,7 +4,7 @@ use Rattle.std.specs.BTreeSet.{contains}
 use Rattle.roles.proofs.Passes.{map_left}
 use Rattle.name_rules.specs.Lettered.{clash_from, letters_at}
 use Rattle.name_rules.proofs.Lettering.{clash_found, clash_more, clash_start, lent, none_taken}
-use Rattle.rule_passes.proofs.Seeing.{read_is}
+use Rattle.name_uses.proofs.Seeing.{read_is}
 use Rattle.name_rules.proofs.letters.clashes.Goals as goal
 
 pub loop-one-init : goal.loop-one-init

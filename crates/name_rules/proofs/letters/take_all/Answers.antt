@@ -2,7 +2,7 @@ use Rattle.std.proofs.Common.{get_or}
 use Rattle.meaning.specs.Types.{is_among}
 use Rattle.name_rules.specs.Lettered.{letters_at}
 use Rattle.name_rules.proofs.Lettering.{lent, told_more}
-use Rattle.rule_passes.proofs.Seeing.{read_is}
+use Rattle.name_uses.proofs.Seeing.{read_is}
 use Rattle.name_rules.proofs.letters.take_all.Goals as goal
 
 pub loop-one-preserved : goal.loop-one-preserved

@@ -4,7 +4,7 @@ use Rattle.meaning.specs.Scopes.{with_constant}
 use Rattle.meaning.specs.Syntax.{constant_tree, expr_tree}
 use Rattle.roles.specs.RolesAt.{roles_at}
 use Rattle.roles.proofs.Passes.{map_left}
-use Rattle.number_rules.specs.Tables.{scope_known, scope_types}
+use Rattle.declarations.specs.Tables.{scope_known, scope_types}
 use Rattle.number_rules.proofs.numbers.are_bad.Goals as goal
 
 pub returns-then-is_no_constant : goal.returns-then-is_no_constant

@@ -1,7 +1,7 @@
 use Rattle.std.proofs.Common.{◌≡◌, map, drop}
 use Rattle.meaning.specs.NumberRules.{is_bad_constant}
 use Rattle.meaning.specs.Syntax.{constant_tree}
-use Rattle.number_rules.specs.Tables.{scope_known, scope_types}
+use Rattle.declarations.specs.Tables.{scope_known, scope_types}
 use Rattle.number_rules.proofs.numbers.are_bad.Given as goal
 
 abbrev pub invariant-loop-constant : goal.invariant-loop-constant

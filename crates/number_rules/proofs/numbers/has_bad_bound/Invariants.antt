@@ -1,7 +1,7 @@
 use Rattle.std.proofs.Common.{◌≡◌, map, drop}
 use Rattle.meaning.specs.NumberRules.{has_bad_bound}
 use Rattle.meaning.specs.Syntax.{declarator_tree}
-use Rattle.number_rules.specs.Tables.{known_at, types_in}
+use Rattle.declarations.specs.Tables.{known_at, types_in}
 use Rattle.number_rules.proofs.numbers.has_bad_bound.Given as goal
 
 abbrev pub invariant-loop-declarator : goal.invariant-loop-declarator

@@ -4,7 +4,7 @@ use Rattle.std.specs.List.{list_any}
 use Rattle.meaning.specs.NumberRules.{is_no_constant}
 use Rattle.meaning.specs.Syntax.{bounds_tree}
 use Rattle.meaning.specs.Typing.{in_bounds}
-use Rattle.number_rules.specs.Tables.{known_at, types_in}
+use Rattle.declarations.specs.Tables.{known_at, types_in}
 use Rattle.number_rules.proofs.numbers.in_declarator.Given as goal
 
 abbrev pub invariant-loop-bounds : goal.invariant-loop-bounds

@@ -3,7 +3,7 @@ use Rattle.std.specs.List.{list_any}
 use Rattle.meaning.specs.NumberRules.{is_reversed}
 use Rattle.meaning.specs.Scopes.{dimension_of}
 use Rattle.meaning.specs.Syntax.{bounds_tree}
-use Rattle.number_rules.specs.Tables.{known_at, types_in}
+use Rattle.declarations.specs.Tables.{known_at, types_in}
 use Rattle.number_rules.proofs.sizes.has_reversed.Given as goal
 
 abbrev pub invariant-loop-one : goal.invariant-loop-one

@@ -1,6 +1,6 @@
 use Rattle.meaning.specs.NumberRules.{elements_of}
 use Rattle.meaning.specs.Syntax.{declarator_tree}
-use Rattle.number_rules.specs.Tables.{known_at, types_in}
+use Rattle.declarations.specs.Tables.{known_at, types_in}
 use Rattle.number_rules.proofs.CappedBy.{above_sum}
 use Rattle.number_rules.proofs.sizes.has_too_many.Goals as goal
 

@@ -1,5 +1,5 @@
 use Rattle.std.proofs.Common.{◌+◌}
-use Rattle.number_rules.specs.Tables.{known_at, types_in}
+use Rattle.declarations.specs.Tables.{known_at, types_in}
 use Rattle.number_rules.proofs.Sizing.{behind, elements_more, large_here, large_later, large_nowhere}
 use Rattle.number_rules.proofs.sizes.have_too_large.Goals as goal
 

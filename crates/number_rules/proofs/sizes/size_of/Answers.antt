@@ -4,7 +4,7 @@ use Rattle.meaning.specs.Arrays.{extent}
 use Rattle.meaning.specs.Scopes.{dimension_of}
 use Rattle.meaning.specs.Syntax.{bounds_tree}
 use Rattle.roles.proofs.Passes.{map_more}
-use Rattle.number_rules.specs.Tables.{known_at, types_in}
+use Rattle.declarations.specs.Tables.{known_at, types_in}
 use Rattle.expressions.proofs.Capped.{size_more}
 use Rattle.number_rules.proofs.sizes.size_of.Goals as goal
 

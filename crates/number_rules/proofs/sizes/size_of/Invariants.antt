@@ -3,7 +3,7 @@ use Rattle.meaning.specs.Arrays.{size}
 use Rattle.meaning.specs.Scopes.{dimension_of}
 use Rattle.meaning.specs.Syntax.{bounds_tree}
 use Rattle.expressions.specs.Places.{capped}
-use Rattle.number_rules.specs.Tables.{known_at, types_in}
+use Rattle.declarations.specs.Tables.{known_at, types_in}
 use Rattle.number_rules.proofs.sizes.size_of.Given as goal
 
 abbrev pub invariant-loop-one : goal.invariant-loop-one

@@ -1,4 +1,4 @@
-use Rattle.number_rules.specs.Tables.{known_at, types_in}
+use Rattle.declarations.specs.Tables.{known_at, types_in}
 use Rattle.number_rules.proofs.Sizing.{elements_more}
 use Rattle.number_rules.proofs.sizes.with_elements.Goals as goal
 

@@ -2,7 +2,7 @@ use Rattle.std.proofs.Common.{◌≡◌, ◌+◌, ℕ, map, take, sum_by}
 use Rattle.meaning.specs.Syntax.{declarator_tree}
 use Rattle.meaning.specs.NumberRules.{elements_of}
 use Rattle.expressions.specs.Places.{capped}
-use Rattle.number_rules.specs.Tables.{known_at, types_in}
+use Rattle.declarations.specs.Tables.{known_at, types_in}
 use Rattle.number_rules.proofs.sizes.with_elements.Given as goal
 
 abbrev pub invariant-loop-declarator : goal.invariant-loop-declarator

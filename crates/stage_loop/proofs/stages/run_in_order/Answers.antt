@@ -1,12 +1,12 @@
 use Rattle.std.proofs.Common.{◌≡◌, ◌-◌, FitsSigned, rules, subst, to_z, of_z}
 use Rattle.std.specs.Int.{w32}
 use Rattle.std.proofs.lemmas.Int.{to_z-of_z}
-use Rattle.checker.specs.Checked.{items_in}
-use Rattle.checker.specs.Starts.{map_of}
+use Rattle.numbering.specs.Checked.{items_in}
+use Rattle.numbering.specs.Starts.{map_of}
 use Rattle.values.specs.Programs.{map_at}
 use Rattle.evaluator.specs.Over.{repeated_as}
 use Rattle.evaluator.specs.Statements.{Leaves, ran_by}
-use Rattle.evaluator.proofs.Wholes.{does_whole}
+use Rattle.whole_runs.proofs.Wholes.{does_whole}
 use Rattle.stage_loop.proofs.Advances.{leaves_of_run}
 use Rattle.stage_loop.proofs.stages.run_in_order.Goals as goal
 

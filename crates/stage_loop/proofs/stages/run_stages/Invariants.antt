@@ -1,7 +1,7 @@
 use Rattle.std.proofs.Common.{◌≡◌, ◌<◌, [], length}
 use Rattle.std.specs.Prelude.{IfSome}
-use Rattle.checker.specs.Checked.{items_in}
-use Rattle.checker.specs.Starts.{map_of}
+use Rattle.numbering.specs.Checked.{items_in}
+use Rattle.numbering.specs.Starts.{map_of}
 use Rattle.evaluator.specs.Statements.{Reaches}
 use Rattle.block_stage.specs.Jobs.{variable_in}
 use Rattle.stage_loop.specs.Loops.{AreIntegers}

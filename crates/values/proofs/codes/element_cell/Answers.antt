@@ -2,7 +2,7 @@ use Rattle.std.proofs.Common.{rules, subst, to_z, of_z}
 use Rattle.std.specs.Prelude.{FitsSigned}
 use Rattle.std.specs.Int.{w32}
 use Rattle.std.proofs.lemmas.Int.{to_z-of_z}
-use Rattle.checker.specs.Checked.{count_in}
+use Rattle.numbering.specs.Checked.{count_in}
 use Rattle.meaning.proofs.Stores.{reads_so}
 use Rattle.values.specs.Stacked.{IsCellBy}
 use Rattle.values.proofs.Running.{cell_led, cell_fails}

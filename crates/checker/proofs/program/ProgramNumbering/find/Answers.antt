@@ -1,5 +1,5 @@
 use Rattle.std.proofs.Common.{subst}
-use Rattle.checker.specs.Whereabouts.{IsPlace, where_in}
+use Rattle.numbering.specs.Whereabouts.{IsPlace, where_in}
 use Rattle.checker.proofs.program.ProgramNumbering.find.Goals as goal
 
 pub returns : goal.returns

@@ -1,6 +1,6 @@
 use Rattle.std.proofs.Common.{subst}
 use Rattle.expressions.specs.Names.{IsFunction}
-use Rattle.checker.specs.Checked.{names_in}
+use Rattle.numbering.specs.Checked.{names_in}
 use Rattle.checker.proofs.program.ProgramNumbering.function.Goals as goal
 
 pub returns : goal.returns

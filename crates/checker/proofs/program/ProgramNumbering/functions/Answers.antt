@@ -1,5 +1,5 @@
 use Rattle.std.proofs.Common.{◌≡◌, length, subst}
-use Rattle.checker.specs.Checked.{names_in}
+use Rattle.numbering.specs.Checked.{names_in}
 use Rattle.checker.proofs.program.ProgramNumbering.functions.Goals as goal
 
 pub returns : goal.returns

@@ -1,6 +1,6 @@
 use Rattle.std.proofs.Common.{subst}
 use Rattle.expressions.specs.Names.{IsNamed}
-use Rattle.checker.specs.Checked.{names_in, numbers_in, count_in}
+use Rattle.numbering.specs.Checked.{names_in, numbers_in, count_in}
 use Rattle.checker.proofs.program.ProgramNumbering.named.Goals as goal
 
 pub returns : goal.returns

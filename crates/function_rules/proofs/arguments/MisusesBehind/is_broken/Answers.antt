@@ -5,7 +5,7 @@ use Rattle.meaning.specs.NameRules.{is_misused_array, is_misused_function}
 use Rattle.meaning.specs.Syntax.{shape_tree}
 use Rattle.meaning.specs.Uses.{is_defining, parts_of}
 use Rattle.roles.specs.RolesAt.{roles_at}
-use Rattle.roles.specs.UsesAt.{uses_at}
+use Rattle.name_uses.specs.UsesAt.{uses_at}
 use Rattle.function_rules.proofs.arguments.MisusesBehind.is_broken.Goals as goal
 
 pub returns : goal.returns

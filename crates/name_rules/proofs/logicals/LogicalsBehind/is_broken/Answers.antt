@@ -1,12 +1,12 @@
-use Rattle.name_rules.specs.NamesIn.{logical as logical_in}
+use Rattle.name_uses.specs.NamesIn.{logical as logical_in}
 use Rattle.std.proofs.Common.{◌≡◌, Bool, List, [], ap, ◌∙◌}
 use Rattle.meaning.specs.NameRules.{is_intrinsic_use, names_used}
 use Rattle.meaning.specs.Syntax.{ItemTree, shape_tree}
 use Rattle.meaning.specs.Trees.{item_tree}
 use Rattle.meaning.specs.Uses.{parts_at, parts_from}
 use Rattle.roles.specs.RolesAt.{roles_at}
-use Rattle.rule_passes.specs.Held.{names_at}
-use Rattle.rule_passes.specs.UsesIn.{reads_in}
+use Rattle.name_uses.specs.Held.{names_at}
+use Rattle.name_uses.specs.UsesIn.{reads_in}
 use Rattle.rule_passes.proofs.Answering.{ok_then}
 use Rattle.name_rules.specs.Disputed.{is_logical_intrinsic}
 use Rattle.name_rules.specs.HeldNames.{IsLogical, KnowsLogical}

@@ -1,4 +1,4 @@
-use Rattle.name_rules.specs.NamesIn.{logical as logical_in}
+use Rattle.name_uses.specs.NamesIn.{logical as logical_in}
 use Rattle.std.proofs.Common.{[], ◌∷◌, ◌++◌, refl, ap, ◌∙◌}
 use Rattle.meaning.specs.NameRules.{is_intrinsic_use, names_used}
 use Rattle.meaning.specs.Syntax.{shape_tree}
@@ -6,7 +6,7 @@ use Rattle.meaning.specs.Trees.{item_tree}
 use Rattle.roles.specs.NameSets.{texts, with_names}
 use Rattle.roles.specs.RolesAt.{roles_at}
 use Rattle.roles.specs.Stages.{IsBehind}
-use Rattle.rule_passes.specs.UsesIn.{reads_in}
+use Rattle.name_uses.specs.UsesIn.{reads_in}
 use Rattle.name_rules.proofs.Parting.{logical_more}
 use Rattle.name_rules.proofs.logicals.LogicalsBehind.pass.Goals as goal
 

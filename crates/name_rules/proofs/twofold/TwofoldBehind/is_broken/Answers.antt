@@ -4,8 +4,8 @@ use Rattle.meaning.specs.Syntax.{ItemTree, shape_tree}
 use Rattle.meaning.specs.Trees.{item_tree}
 use Rattle.meaning.specs.Uses.{parts_at, parts_from}
 use Rattle.roles.specs.RolesAt.{roles_at}
-use Rattle.rule_passes.specs.Held.{names_at}
-use Rattle.rule_passes.specs.UsesIn.{reads_in, uses_in}
+use Rattle.name_uses.specs.Held.{names_at}
+use Rattle.name_uses.specs.UsesIn.{reads_in, uses_in}
 use Rattle.rule_passes.proofs.Answering.{ok_then}
 use Rattle.name_rules.specs.Disputed.{is_used_twofold}
 use Rattle.name_rules.specs.HeldNames.{IsTwofold, KnowsUsed}

@@ -5,7 +5,7 @@ use Rattle.meaning.specs.Trees.{item_tree}
 use Rattle.roles.specs.NameSets.{texts, with_names}
 use Rattle.roles.specs.RolesAt.{roles_at}
 use Rattle.roles.specs.Stages.{IsBehind}
-use Rattle.rule_passes.specs.UsesIn.{reads_in, uses_in}
+use Rattle.name_uses.specs.UsesIn.{reads_in, uses_in}
 use Rattle.name_rules.proofs.Parting.{used_more}
 use Rattle.name_rules.proofs.twofold.TwofoldBehind.pass.Goals as goal
 

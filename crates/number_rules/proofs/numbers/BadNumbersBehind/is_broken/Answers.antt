@@ -3,7 +3,7 @@ use Rattle.meaning.specs.NumberRules.{has_bad_bound, has_too_great, is_bad_const
 use Rattle.meaning.specs.Scopes.{constants_in, declarators_in}
 use Rattle.meaning.specs.Syntax.{shape_tree}
 use Rattle.roles.specs.RolesAt.{roles_at}
-use Rattle.number_rules.specs.Tables.{known_at}
+use Rattle.declarations.specs.Tables.{known_at}
 use Rattle.number_rules.proofs.numbers.BadNumbersBehind.is_broken.Goals as goal
 
 pub returns-then-has_too_great : goal.returns-then-has_too_great

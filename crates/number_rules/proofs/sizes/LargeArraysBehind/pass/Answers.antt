@@ -5,9 +5,9 @@ use Rattle.meaning.specs.Scopes.{declarators_in}
 use Rattle.meaning.specs.Trees.{item_tree}
 use Rattle.roles.specs.RolesAt.{roles_at}
 use Rattle.expressions.specs.Places.{capped}
-use Rattle.number_rules.specs.Tables.{known_at, types_in}
+use Rattle.declarations.specs.Tables.{known_at, types_in}
 use Rattle.rule_passes.proofs.Answering.{on_ok_then}
-use Rattle.number_rules.proofs.Both.{both_ok}
+use Rattle.rule_passes.proofs.Both.{both_ok}
 use Rattle.number_rules.proofs.Sizing.{elements_push}
 use Rattle.number_rules.proofs.sizes.LargeArraysBehind.pass.Goals as goal
 

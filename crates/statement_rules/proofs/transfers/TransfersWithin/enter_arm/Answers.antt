@@ -1,7 +1,7 @@
 use Rattle.meaning.specs.Surroundings.{own_items}
 use Rattle.meaning.specs.Trees.{members_tree}
 use Rattle.statement_rules.specs.Counted.{count_in}
-use Rattle.number_rules.proofs.Both.{both_ok}
+use Rattle.rule_passes.proofs.Both.{both_ok}
 use Rattle.statement_rules.proofs.Counting.{counts_more}
 use Rattle.statement_rules.proofs.transfers.TransfersWithin.enter_arm.Goals as goal
 

@@ -1,0 +1,2 @@
+pub mod ArraysBy
+pub mod KnownBy

@@ -1,0 +1,5 @@
+pub mod ArraysKept
+pub mod KnownNames
+pub mod Tables
+pub mod Dimensioned
+pub mod Unknown

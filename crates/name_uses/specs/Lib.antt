@@ -1,0 +1,4 @@
+pub mod UsesAt
+pub mod Held
+pub mod UsesIn
+pub mod NamesIn

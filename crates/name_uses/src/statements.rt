@@ -1,0 +1,383 @@
+//! Uses of names in statements (ANSI X3.9-1978, chapters 5 to 15).
+
+ghost use Rattle.std.specs.Prelude.{◌≡◌, ◌++◌, flat_map, map, option_map, OnOk};
+ghost use Rattle.meaning.specs.Scopes.{listed};
+ghost use Rattle.meaning.specs.Syntax.{bounds_tree, constant_tree, data_constant_tree, data_set_tree, data_value_tree, declarator_tree, expr_tree, exprs_tree, list_items_tree, repeat_tree, shape_tree, unit_tree};
+ghost use Rattle.meaning.specs.Typing.{in_bounds, option_list};
+ghost use Rattle.meaning.specs.Uses.{Roles as NameRoles, data_constant_uses, data_item_uses, data_set_uses, data_value_uses, item_uses, parts_of, repeat_uses, shown, target_use, unit_uses, uses_in, uses_in_all, value_uses};
+ghost use Rattle.roles.specs.RolesAt.{roles_at};
+ghost use Rattle.name_uses.specs.UsesAt.{use_at, uses_at};
+
+use crate::hiding::{Outside, Shown};
+use crate::uses::{
+    Arguments, NameUse, add_all_uses, add_limit_uses, add_option_uses, add_passing, add_unit_uses,
+    add_use, add_uses,
+};
+use meaning::syntax::{
+    Bounds, DataConstant, DataSet, DataValue, Declarator, Expr, Exprs, ListItem, ListItems,
+    NamedConstant, RepeatCount, Shape, Unit,
+};
+use roles::{Roles, is_array_name};
+use std::alloc::{AllocError, Global};
+
+/// Puts the uses in an item behind those that are there; a whole array is none.
+#[tactic(auto, using(roles::proofs::Passes::nothing_more))]
+fn add_value_uses<'a>(
+    uses: &mut Vec<NameUse<'a>>,
+    roles: &Roles,
+    value: &'a Expr,
+) -> Result<(), AllocError>
+    ensures { OnOk result (uses_at uses.new.items ≡ uses_at uses.old.items ++ value_uses (roles_at roles.now) (expr_tree value.now)) }
+{
+    match value {
+        Expr::Name(name) => {
+            if is_array_name(roles, name) {
+                Ok(())
+            } else {
+                add_use(uses, name, Arguments::Bare)
+            }
+        }
+        Expr::Number(_) => add_uses(uses, value),
+        Expr::Truth(_) => add_uses(uses, value),
+        Expr::Signed(_, _) => add_uses(uses, value),
+        Expr::Not(_) => add_uses(uses, value),
+        Expr::Binary(_, _, _) => add_uses(uses, value),
+        Expr::Paren(_) => add_uses(uses, value),
+        Expr::Element(_, _) => add_uses(uses, value),
+        Expr::Call(_) => add_uses(uses, value),
+    }
+}
+
+/// Puts the uses in the list of a WRITE or PRINT statement behind those that are there; an implied DO sets its variable.
+#[tactic(auto, using(roles::proofs::Passes::appended, roles::proofs::Passes::nothing_more))]
+fn add_item_uses<'a>(
+    uses: &mut Vec<NameUse<'a>>,
+    roles: &Roles,
+    items: &'a ListItems,
+) -> Result<(), AllocError>
+    ensures { OnOk result (uses_at uses.new.items ≡ uses_at uses.old.items ++ item_uses (roles_at roles.now) (list_items_tree items.now)) }
+{
+    match items {
+        ListItems::Empty => Ok(()),
+        ListItems::More(item, rest) => match item {
+            ListItem::Value(value) => {
+                add_value_uses(uses, roles, value)?;
+                add_item_uses(uses, roles, rest)
+            }
+            ListItem::Loop {
+                items,
+                variable,
+                limits,
+            } => {
+                add_item_uses(uses, roles, items)?;
+                add_use(uses, variable, Arguments::Bare)?;
+                add_limit_uses(uses, limits)?;
+                add_item_uses(uses, roles, rest)
+            }
+        },
+    }
+}
+
+/// Puts the uses in the list of a DATA statement behind those that are there; the variable of an implied DO is its own (ANSI X3.9-1978, 9.3).
+#[tactic(auto, using(roles::proofs::Passes::appended, roles::proofs::Passes::nothing_more))]
+fn add_data_item_uses<'a>(
+    uses: &mut Vec<NameUse<'a>>,
+    alloc: Global,
+    roles: &Roles,
+    items: &'a ListItems,
+) -> Result<(), AllocError>
+    ensures { OnOk result (uses_at uses.new.items ≡ uses_at uses.old.items ++ data_item_uses (roles_at roles.now) (list_items_tree items.now)) }
+{
+    match items {
+        ListItems::Empty => Ok(()),
+        ListItems::More(item, rest) => match item {
+            ListItem::Value(value) => {
+                add_value_uses(uses, roles, value)?;
+                add_data_item_uses(uses, alloc, roles, rest)
+            }
+            ListItem::Loop {
+                items,
+                variable,
+                limits,
+            } => {
+                let mut inner = Vec::new(alloc);
+                add_data_item_uses(&mut inner, alloc, roles, items)?;
+                add_passing(uses, &inner, &Outside { variable })?;
+                add_limit_uses(uses, limits)?;
+                add_data_item_uses(uses, alloc, roles, rest)?;
+                Ok(())
+            }
+        },
+    }
+}
+
+/// Puts the uses in a constant of a DATA statement behind those that are there.
+#[tactic(auto, using(roles::proofs::Passes::appended, roles::proofs::Passes::nothing_more))]
+fn add_data_value_uses<'a>(
+    uses: &mut Vec<NameUse<'a>>,
+    value: &'a DataValue,
+) -> Result<(), AllocError>
+    ensures { OnOk result (uses_at uses.new.items ≡ uses_at uses.old.items ++ data_value_uses (data_value_tree value.now)) }
+{
+    add_repeat_uses(uses, &value.repeat_count)?;
+    add_data_constant_uses(uses, &value.constant)
+}
+
+/// Puts the uses in a repeat count behind those that are there.
+#[tactic(auto, using(roles::proofs::Passes::nothing_more))]
+fn add_repeat_uses<'a>(
+    uses: &mut Vec<NameUse<'a>>,
+    count: &'a Option<RepeatCount>,
+) -> Result<(), AllocError>
+    ensures { OnOk result (uses_at uses.new.items ≡ uses_at uses.old.items ++ flat_map repeat_uses (option_list (option_map repeat_tree count.now))) }
+{
+    match count {
+        Some(RepeatCount::Name(name)) => add_use(uses, name, Arguments::Bare),
+        Some(RepeatCount::Number(_)) => Ok(()),
+        None => Ok(()),
+    }
+}
+
+/// Puts the uses in a constant behind those that are there.
+#[tactic(auto, using(roles::proofs::Passes::nothing_more))]
+fn add_data_constant_uses<'a>(
+    uses: &mut Vec<NameUse<'a>>,
+    constant: &'a DataConstant,
+) -> Result<(), AllocError>
+    ensures { OnOk result (uses_at uses.new.items ≡ uses_at uses.old.items ++ data_constant_uses (data_constant_tree constant.now)) }
+{
+    match constant {
+        DataConstant::Number(_, _) => Ok(()),
+        DataConstant::Truth(_) => Ok(()),
+        DataConstant::Name(name) => add_use(uses, name, Arguments::Bare),
+    }
+}
+
+/// Puts the uses in constants of a DATA statement behind those that are there.
+fn add_data_values_uses<'a>(
+    uses: &mut Vec<NameUse<'a>>,
+    values: &'a [DataValue],
+) -> Result<(), AllocError>
+    ensures { OnOk result (uses_at uses.new.items ≡ uses_at uses.old.items ++ flat_map data_value_uses (map data_value_tree values.now)) }
+{
+    for value in values {
+        add_data_value_uses(uses, value)?;
+    }
+    Ok(())
+}
+
+/// Puts the uses in a list and its constants behind those that are there.
+#[tactic(auto, using(roles::proofs::Passes::appended))]
+fn add_data_set_uses<'a>(
+    uses: &mut Vec<NameUse<'a>>,
+    alloc: Global,
+    roles: &Roles,
+    set: &'a DataSet,
+) -> Result<(), AllocError>
+    ensures { OnOk result (uses_at uses.new.items ≡ uses_at uses.old.items ++ data_set_uses (roles_at roles.now) (data_set_tree set.now)) }
+{
+    add_data_item_uses(uses, alloc, roles, &set.list)?;
+    add_data_values_uses(uses, &set.values)
+}
+
+/// Puts the uses in a DATA statement behind those that are there.
+fn add_data_uses<'a>(
+    uses: &mut Vec<NameUse<'a>>,
+    alloc: Global,
+    roles: &Roles,
+    sets: &'a [DataSet],
+) -> Result<(), AllocError>
+    ensures { OnOk result (uses_at uses.new.items ≡ uses_at uses.old.items ++ flat_map (data_set_uses (roles_at roles.now)) (map data_set_tree sets.now)) }
+{
+    for set in sets {
+        add_data_set_uses(uses, alloc, roles, set)?;
+    }
+    Ok(())
+}
+
+/// Puts the uses in a PARAMETER statement behind those that are there.
+fn add_constant_uses<'a>(
+    uses: &mut Vec<NameUse<'a>>,
+    constants: &'a [NamedConstant],
+) -> Result<(), AllocError>
+    ensures { OnOk result (uses_at uses.new.items ≡ uses_at uses.old.items ++ flat_map (λ c. uses_in c.value) (map constant_tree constants.now)) }
+{
+    for constant in constants {
+        add_uses(uses, &constant.value)?;
+    }
+    Ok(())
+}
+
+/// Puts the uses in the bounds of a dimension behind those that are there.
+#[tactic(auto, using(roles::proofs::Passes::appended, roles::proofs::Passes::nothing_more))]
+fn add_bound_uses<'a>(uses: &mut Vec<NameUse<'a>>, bounds: &'a Bounds) -> Result<(), AllocError>
+    ensures { OnOk result (uses_at uses.new.items ≡ uses_at uses.old.items ++ flat_map (λ x. uses_in x.expr) (in_bounds (bounds_tree bounds.now))) }
+{
+    match &bounds.lower {
+        Some(lower) => add_uses(uses, lower)?,
+        None => (),
+    }
+    add_uses(uses, &bounds.upper)
+}
+
+/// Puts the uses in the bounds of an array behind those that are there.
+fn add_bounds_uses<'a>(
+    uses: &mut Vec<NameUse<'a>>,
+    declarator: &'a Declarator,
+) -> Result<(), AllocError>
+    ensures { OnOk result (uses_at uses.new.items ≡ uses_at uses.old.items ++ flat_map (λ b. flat_map (λ x. uses_in x.expr) (in_bounds b)) (declarator_tree declarator.now).bounds) }
+{
+    for bounds in &declarator.bounds {
+        add_bound_uses(uses, bounds)?;
+    }
+    Ok(())
+}
+
+/// Puts the uses in the bounds of arrays behind those that are there.
+fn add_declarator_uses<'a>(
+    uses: &mut Vec<NameUse<'a>>,
+    declarators: &'a [Declarator],
+) -> Result<(), AllocError>
+    ensures { OnOk result (uses_at uses.new.items ≡ uses_at uses.old.items ++ flat_map (λ d. flat_map (λ b. flat_map (λ x. uses_in x.expr) (in_bounds b)) d.bounds) (map declarator_tree declarators.now)) }
+{
+    for declarator in declarators {
+        add_bounds_uses(uses, declarator)?;
+    }
+    Ok(())
+}
+
+/// Puts the uses in the expression of a statement function behind those that are there, its dummies aside.
+fn add_shown_uses<'a>(
+    uses: &mut Vec<NameUse<'a>>,
+    alloc: Global,
+    dummies: &Exprs,
+    body: &'a Expr,
+) -> Result<(), AllocError>
+    ensures { OnOk result (uses_at uses.new.items ≡ uses_at uses.old.items ++ shown (listed (exprs_tree dummies.now)) (uses_in (expr_tree body.now))) }
+{
+    let mut inner = Vec::new(alloc);
+    add_uses(&mut inner, body)?;
+    add_passing(uses, &inner, &Shown { dummies })
+}
+
+/// Puts the uses that an assignment has values of behind those that are there.
+#[tactic(auto, using(roles::proofs::Passes::appended))]
+fn add_assigned_uses<'a>(
+    uses: &mut Vec<NameUse<'a>>,
+    subscripts: &'a Exprs,
+    value: &'a Expr,
+) -> Result<(), AllocError>
+    ensures { OnOk result (uses_at uses.new.items ≡ uses_at uses.old.items ++ (uses_in_all (exprs_tree subscripts.now) ++ uses_in (expr_tree value.now))) }
+{
+    add_all_uses(uses, subscripts)?;
+    add_uses(uses, value)
+}
+
+/// Puts the uses in a WRITE statement behind those that are there.
+#[tactic(auto, using(roles::proofs::Passes::appended))]
+fn add_written_uses<'a>(
+    uses: &mut Vec<NameUse<'a>>,
+    roles: &Roles,
+    unit: &'a Unit,
+    list: &'a ListItems,
+) -> Result<(), AllocError>
+    ensures { OnOk result (uses_at uses.new.items ≡ uses_at uses.old.items ++ (unit_uses (unit_tree unit.now) ++ item_uses (roles_at roles.now) (list_items_tree list.now))) }
+{
+    add_unit_uses(uses, unit)?;
+    add_item_uses(uses, roles, list)
+}
+
+/// Puts the uses that a statement has values of behind those that are there; it defines a statement function or doesn't.
+#[tactic(auto, using(roles::proofs::Passes::appended, roles::proofs::Passes::nothing_more, crate::proofs::Reading::either_reads))]
+pub fn add_reads<'a>(
+    uses: &mut Vec<NameUse<'a>>,
+    alloc: Global,
+    roles: &Roles,
+    defines: bool,
+    shape: &'a Shape,
+) -> Result<(), AllocError>
+    ensures { OnOk result (uses_at uses.new.items ≡ uses_at uses.old.items ++ (parts_of (roles_at roles.now) defines (shape_tree shape.now)).reads) }
+{
+    match shape {
+        Shape::Assignment {
+            subscripts,
+            value,
+            ..
+        } => {
+            if defines {
+                add_shown_uses(uses, alloc, subscripts, value)
+            } else {
+                add_assigned_uses(uses, subscripts, value)
+            }
+        }
+        Shape::Definition(_, value) => add_uses(uses, value),
+        Shape::Write { control, list } => add_written_uses(uses, roles, &control.unit, list),
+        Shape::Print { list, .. } => add_item_uses(uses, roles, list),
+        Shape::Do { limits, .. } => add_limit_uses(uses, limits),
+        Shape::Parameter(constants) => add_constant_uses(uses, constants),
+        Shape::Data(sets) => add_data_uses(uses, alloc, roles, sets),
+        Shape::ComputedGoTo { value, .. } => add_uses(uses, value),
+        Shape::ArithmeticIf { value, .. } => add_uses(uses, value),
+        Shape::LogicalIf(condition, statement) => {
+            add_uses(uses, condition)?;
+            add_reads(uses, alloc, roles, false, statement)
+        }
+        Shape::IfThen(condition) => add_uses(uses, condition),
+        Shape::ElseIf(condition) => add_uses(uses, condition),
+        Shape::Integer(declarators) => add_declarator_uses(uses, declarators),
+        Shape::Logical(declarators) => add_declarator_uses(uses, declarators),
+        Shape::Dimension(declarators) => add_declarator_uses(uses, declarators),
+        _ => Ok(()),
+    }
+}
+
+/// The use that a statement sets, if it sets one; it defines a statement function or doesn't.
+pub fn set_by(defines: bool, shape: &Shape) -> Option<NameUse>
+    ensures { (roles : NameRoles) → option_list (option_map use_at result) ≡ (parts_of roles defines (shape_tree shape.now)).sets }
+{
+    match shape {
+        Shape::Assignment {
+            name,
+            subscripts,
+            ..
+        } => {
+            if defines {
+                None
+            } else {
+                Some(target(name, subscripts))
+            }
+        }
+        Shape::Definition(name, _) => {
+            if defines {
+                None
+            } else {
+                Some(NameUse {
+                    name,
+                    arguments: Arguments::Without,
+                })
+            }
+        }
+        Shape::Do { variable, .. } => Some(NameUse {
+            name: variable,
+            arguments: Arguments::Bare,
+        }),
+        Shape::LogicalIf(_, statement) => set_by(false, statement),
+        _ => None,
+    }
+}
+
+/// The use that an assignment makes of its target.
+fn target<'a>(name: &'a [u8], subscripts: &'a Exprs) -> NameUse<'a>
+    ensures { use_at result ≡ target_use name.now (exprs_tree subscripts.now) }
+{
+    match subscripts {
+        Exprs::Empty => NameUse {
+            name,
+            arguments: Arguments::Bare,
+        },
+        Exprs::More(_, _) => NameUse {
+            name,
+            arguments: Arguments::With(subscripts),
+        },
+    }
+}

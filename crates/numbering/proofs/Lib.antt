@@ -1,0 +1,5 @@
+pub mod Appearance
+pub mod Calling
+pub mod Finding
+pub mod Placing
+pub mod Texts

@@ -1,0 +1,40 @@
+-- Names put behind others, where they are those of variables or arrays.
+use Rattle.std.specs.Prelude.{◌≡◌, ℕ, List, ◌++◌, map, Bool}
+use Rattle.std.specs.Global.{Vec}
+use Rattle.meaning.specs.declared.syntax.Declarator.{Declarator}
+use Rattle.meaning.specs.declared.syntax.Item.{Item}
+use Rattle.meaning.specs.declared.syntax.Shape.{Shape}
+use Rattle.meaning.specs.Syntax.{ItemTree, declarator_tree, shape_tree}
+use Rattle.meaning.specs.Trees.{item_tree}
+use Rattle.meaning.specs.Uses.{Use, parts_of}
+use Rattle.roles.specs.declared.names.Roles.{Roles}
+use Rattle.roles.specs.declared.stage.Stage.{Stage}
+use Rattle.name_uses.specs.declared.uses.NameUse.{NameUse}
+use Rattle.roles.specs.Listed.{trees_at}
+use Rattle.roles.specs.NameSets.{texts}
+use Rattle.roles.specs.RolesAt.{roles_at}
+use Rattle.roles.specs.Stages.{IsBehind}
+use Rattle.name_uses.specs.UsesAt.{uses_at}
+use Rattle.numbering.specs.Numbered.{names_at, variables_by, with_variables}
+
+abbrev pub Puts : Roles → List (Vec ℕ) → List (Vec ℕ) → List (List ℕ) → Type 0
+Puts r old new names = texts new ≡ with_variables (roles_at r) (texts old) names
+
+-- the names that are declared, and those that are used
+abbrev pub named : List Declarator → List (List ℕ)
+named ds = map (λ d. d.name) (map declarator_tree ds)
+
+abbrev pub used : List NameUse → List (List ℕ)
+used us = map (λ u. u.name) (uses_at us)
+
+-- what a statement sets and what it has values of
+abbrev pub uses_in : Roles → Bool → Shape → List Use
+uses_in r defines s = (parts_of (roles_at r) defines (shape_tree s)).sets ++ (parts_of (roles_at r) defines (shape_tree s)).reads
+
+-- the names of a statement that stands behind others
+abbrev pub PutsNames : Roles → Stage → Item → List (Vec ℕ) → List (Vec ℕ) → Type 0
+PutsNames r s x old new = (before : List ItemTree) → IsBehind r s before → Puts r old new (names_at (roles_at r) before (item_tree x))
+
+-- the variables and arrays of the statements, in the order of their first appearance
+abbrev pub variables_at : Roles → List (List ℕ)
+variables_at r = variables_by (roles_at r) (trees_at r.items.now)

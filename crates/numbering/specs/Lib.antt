@@ -1,0 +1,9 @@
+pub mod Agreed
+pub mod Appearing
+pub mod Checked
+pub mod FunctionsFound
+pub mod Kept
+pub mod Numbered
+pub mod Starts
+pub mod Told
+pub mod Whereabouts

@@ -1,7 +1,0 @@
-use Rattle.std.proofs.Common.{◌≡◌, take}
-use Rattle.roles.specs.NameSets.{texts, with_names}
-use Rattle.rule_passes.specs.Held.{names_at}
-use Rattle.rule_passes.proofs.seen.add_names.Given as goal
-
-abbrev pub invariant-loop-name : goal.invariant-loop-name
-invariant-loop-name l = texts l.seen.keys ≡ with_names (texts l.initial.seen.keys) (names_at (take l.name-index l.names))

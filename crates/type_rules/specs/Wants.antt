@@ -1,0 +1,11 @@
+-- The types that arguments should have, behind references.
+use Rattle.std.specs.Prelude.{[], map, None}
+use Rattle.meaning.specs.Syntax.{exprs_tree}
+use Rattle.meaning.specs.Scopes.{listed}
+use Rattle.meaning.specs.Typing.{Names, Wanted, type_of}
+use Rattle.type_rules.specs.declared.typing.Wanting.{Wanting}
+use Rattle.type_rules.specs.declared.typing.Wanting.TheVariants.{All, Dummies}
+
+abbrev pub wanted_at : Names → Wanting → Wanted
+wanted_at ns (All k) = record { first = []; others = k }
+wanted_at ns (Dummies es) = record { first = map (type_of ns) (listed (exprs_tree es.now)); others = None }
