@@ -1,10 +1,10 @@
 -- Worked examples of what is open behind some statements, and of the rules that a further one breaks.
-use Rattle.std.proofs.Common.{◌≡◌, ℕ, true, false, List, [], ◌∷◌, ◌++◌, Some, None, refl, arith, inl, inr}
+use Rattle.std.proofs.Common.{◌≡◌, ℕ, true, false, List, [], ◌∷◌, ◌++◌, Some, None, refl, arith}
 use Rattle.std.specs.Prelude.{codes}
 use Rattle.meaning.specs.Syntax.{ItemTree, ShapeTree, number, doing, continuing, ending, block_if, otherwise, end_if}
 use Rattle.meaning.specs.Trees.{none, plain, block, no_arms, arm, flat}
 use Rattle.meaning.specs.Nesting.{closes_unit, opens_arm}
-use Rattle.meaning.specs.RuleTold.{IsInnermost, InnermostIs, IsEarlierArm, HasBlockedRange, blocks_begun, blocks_ended, IsOutOfPlace, Crosses, ends_too_early, may_not_end, names_too_late, ends_in_range}
+use Rattle.meaning.specs.RuleTold.{IsInnermost, InnermostIs, IsDoTo, IsEarlierArm, IsOutOfPlace, Crosses, may_not_end, ends_in_range}
 
 abbrev at : ShapeTree → ItemTree
 at s = record { line = 1; label = None; shape = s }
@@ -21,6 +21,10 @@ if_then = at (block_if (number (codes "1")))
 -- behind a block IF in a range the DO statement is the innermost thing
 innermost_do : IsInnermost (do_to (codes "10") ∷ if_then ∷ at end_if ∷ []) (do_to (codes "10"))
 innermost_do = record { front = []; inside = block (arm if_then none no_arms) (at end_if) none; depth = 1; parts = refl; well = (omega arith, (refl, tt, tt), refl, tt); unended = (refl, (refl, tt)) }
+
+-- it names 10, so a statement with that label isn't barred from ending its range
+named_do : InnermostIs (IsDoTo 10) (do_to (codes "10") ∷ if_then ∷ at end_if ∷ [])
+named_do = record { head = do_to (codes "10"); innermost = innermost_do; such = refl }
 
 -- END there stands in a range, and behind IF THEN it is out of place
 end_in_range : Crosses (do_to (codes "10") ∷ if_then ∷ at end_if ∷ []) (at ending)
@@ -43,26 +47,6 @@ nothing_open P i = by_front i.head (flat i.innermost.inside) i.innermost.front i
 
 else_alone : IsOutOfPlace opens_arm []
 else_alone = nothing_open IsEarlierArm
-
--- the range of DO 10 can't end within the range of DO 20, nor within a block IF
-range_in_range : HasBlockedRange 10 (do_to (codes "10") ∷ do_to (codes "20") ∷ [])
-range_in_range = record {
-  range = record { front = []; head = do_to (codes "10"); rest = do_to (codes "20") ∷ []; parts = refl; names = refl; unended = (refl, tt) };
-  within = inl (record { other = 20; apart = λ e. omega arith; opened = record { front = []; head = do_to (codes "20"); rest = []; parts = refl; names = refl; unended = tt } });
-}
-
-block_in_range : HasBlockedRange 10 (do_to (codes "10") ∷ if_then ∷ [])
-unfolding blocks_begun blocks_ended
-block_in_range = record {
-  range = record { front = []; head = do_to (codes "10"); rest = if_then ∷ []; parts = refl; names = refl; unended = (refl, tt) };
-  within = inr (omega arith);
-}
-
-crossing : Crosses (do_to (codes "10") ∷ do_to (codes "20") ∷ []) (labelled 10 continuing)
-crossing = ends_too_early range_in_range
-
-reopened : Crosses (do_to (codes "10") ∷ do_to (codes "20") ∷ []) (do_to (codes "10"))
-reopened = names_too_late range_in_range
 
 -- ELSE may not end the range that has its label
 not_terminal : Crosses (do_to (codes "10") ∷ []) (labelled 10 otherwise)

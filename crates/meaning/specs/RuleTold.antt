@@ -1,6 +1,6 @@
 -- Which rule the first statement breaks up to which no program unit begins, said of the statements before it as they stand one
 -- behind the other (ANSI X3.9-1978, 3.5 and 11.6 to 11.10).
-use Rattle.std.specs.Prelude.{◌≡◌, ◌≢◌, ℕ, ◌<◌, Bool, true, false, List, [], ◌∷◌, ◌++◌, Option, Some, None, count_by, IsTrue, IsFalse, ◌⊎◌}
+use Rattle.std.specs.Prelude.{◌≡◌, ℕ, ◌<◌, Bool, true, false, List, [], ◌∷◌, ◌++◌, Option, Some, None, IsTrue, IsFalse, ◌⊎◌}
 use Rattle.std.specs.List.{AllByRecursion}
 use Rattle.meaning.specs.declared.refusal.Broken.{Broken}
 use Rattle.meaning.specs.declared.refusal.Rule.{Rule}
@@ -66,35 +66,14 @@ pub record HasRange (label : ℕ) (items : List ItemTree) : Type 0 where
   pub names : effect_of head.shape ≡ opens_range label
   pub unended : LackLabel label rest
 
--- an open range that ends with another label
-pub record HasOtherRange (label : ℕ) (items : List ItemTree) : Type 0 where
-  pub other : ℕ
-  pub apart : other ≢ label
-  pub opened : HasRange other items
-
--- IF THEN and END IF statements among them
-abbrev pub begins_block : Effect → Bool
-begins_block opens_block = true
-begins_block e = false
-
-abbrev pub ends_block : Effect → Bool
-ends_block closes_block = true
-ends_block e = false
-
-unfoldable pub blocks_begun : List ItemTree → ℕ
-blocks_begun items = count_by (λ (x : ItemTree). begins_block (effect_of x.shape)) items
-
-unfoldable pub blocks_ended : List ItemTree → ℕ
-blocks_ended items = count_by (λ (x : ItemTree). ends_block (effect_of x.shape)) items
-
--- a range with another label is open among them, or a block IF is: more begin than end (11.6, 11.9)
-abbrev pub HasMoreOpen : ℕ → List ItemTree → Type 0
-HasMoreOpen label items = HasOtherRange label items ⊎ (blocks_ended items < blocks_begun items)
+-- the innermost open thing is the range of a DO statement that names the label
+abbrev pub IsDoTo : ℕ → ItemTree → Type 0
+IsDoTo label head = effect_of head.shape ≡ opens_range label
 
 -- an open range that can't end yet, since something else is open within
 pub record HasBlockedRange (label : ℕ) (items : List ItemTree) : Type 0 where
   pub range : HasRange label items
-  pub within : HasMoreOpen label range.rest
+  pub within : ¬ InnermostIs (IsDoTo label) items
 
 abbrev pub AtLabel : (ℕ → List ItemTree → Type 0) → Option ℕ → List ItemTree → Type 0
 AtLabel P (Some label) items = P label items

@@ -1,11 +1,11 @@
 -- Well nested members end the ranges and block IFs that they begin.
 use Rattle.std.proofs.Common.{◌≡◌, ℕ, suc, ◌+◌, ◌<◌, ◌≤◌, Bool, true, false, cond, List, [], ◌∷◌, ◌++◌, refl, sym, ap, subst, ◌∙◌, arith, inl, inr, append_assoc}
-use Rattle.std.specs.Prelude.{◌⊎◌, IsTrue}
+use Rattle.std.specs.Prelude.{◌⊎◌, IsTrue, count_by}
 use Rattle.std.proofs.lemmas.List.Sums.{sum_by-cons, sum_by-append}
 use Rattle.meaning.specs.Syntax.{ItemTree}
 use Rattle.meaning.specs.Trees.{Members, none, plain, loop, block, Arms, no_arms, arm, flat, flat_arms}
 use Rattle.meaning.specs.Nesting.{Effect, opens_range, opens_block, opens_arm, closes_block, closes_unit, stands, effect_of, is_else, IsRange, IsWell, AreFurther}
-use Rattle.meaning.specs.RuleTold.{LackLabel, IsOpenBehind, IsInnermost, begins_block, ends_block, blocks_begun, blocks_ended}
+use Rattle.meaning.specs.RuleTold.{LackLabel, IsOpenBehind, IsInnermost}
 use Rattle.nesting_laws.proofs.Names.{all_left, all_right}
 
 -- ---- where a statement of two lists stands
@@ -42,6 +42,21 @@ place (x ∷ xs) ys (y ∷ g) h q e = let p = both_cons x y (xs ++ ys) (g ++ (h 
     by_rest f (inr p) = inr (record { more = p.more; first = cons_is y x g (xs ++ p.more) (sym f) p.first; last = p.last })
 
 -- ---- numbers of block IFs
+
+-- IF THEN and END IF statements among them
+abbrev pub begins_block : Effect → Bool
+begins_block opens_block = true
+begins_block e = false
+
+abbrev pub ends_block : Effect → Bool
+ends_block closes_block = true
+ends_block e = false
+
+unfoldable pub blocks_begun : List ItemTree → ℕ
+blocks_begun items = count_by (λ (x : ItemTree). begins_block (effect_of x.shape)) items
+
+unfoldable pub blocks_ended : List ItemTree → ℕ
+blocks_ended items = count_by (λ (x : ItemTree). ends_block (effect_of x.shape)) items
 
 pub begun_cons : (x : ItemTree) (xs : List ItemTree) → blocks_begun (x ∷ xs) ≡ cond (begins_block (effect_of x.shape)) 1 0 + blocks_begun xs
 unfolding blocks_begun

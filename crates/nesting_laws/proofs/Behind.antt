@@ -6,11 +6,11 @@ use Rattle.meaning.specs.LabelRules.{is_label_at, has_label}
 use Rattle.meaning.specs.Syntax.{ItemTree}
 use Rattle.meaning.specs.Trees.{Members, Arms, no_arms, arm, flat, flat_arms}
 use Rattle.meaning.specs.Nesting.{Unfinished, ended, body, range, branch, Level, in_range, Effect, opens_range, opens_block, opens_arm, closes_block, closes_unit, stands, effect_of, levels, is_ended, is_else, is_named, is_hidden, is_stray, is_end_in_range, is_crossing, named, may_end, joined_arms, IsWell, AreArms, AreFurther}
-use Rattle.meaning.specs.RuleTold.{begins_arm, LackLabel, IsOpenBehind, IsInnermost, InnermostIs, IsArm, IsEarlierArm, IsDo, HasRange, blocks_begun, blocks_ended, HasMoreOpen, HasBlockedRange, AtLabel, IsOutOfPlace, Crosses, ends_too_early, may_not_end, names_too_late, ends_in_range}
+use Rattle.meaning.specs.RuleTold.{begins_arm, LackLabel, IsOpenBehind, IsInnermost, InnermostIs, IsArm, IsEarlierArm, IsDo, IsDoTo, HasRange, HasBlockedRange, AtLabel, IsOutOfPlace, Crosses, ends_too_early, may_not_end, names_too_late, ends_in_range}
 use Rattle.nesting_laws.proofs.Joined.{flat_with_arm}
 use Rattle.nesting_laws.proofs.Names.{IsFresh, or_left, or_right, and_not, none_named, none_hidden, same_label, label_is, hidden_behind_same, hidden_behind_other, named_behind_other, fresh_unhidden, all_append, all_left, all_follow, fresh_around, fresh_other}
 use Rattle.nesting_laws.proofs.Sound.{IsOpenRange, IsOpenBlock, IsSound, text}
-use Rattle.nesting_laws.proofs.Balance.{InFirst, InSecond, both_cons, place, begun_append, ended_append, begun_as, ended_as, IsBalanced, balanced_append, balanced, further, none_innermost, one_innermost}
+use Rattle.nesting_laws.proofs.Balance.{InFirst, InSecond, both_cons, place, blocks_begun, blocks_ended, begun_append, ended_append, begun_as, ended_as, IsBalanced, balanced_append, balanced, further, none_innermost, one_innermost}
 
 clash : (b : Bool) → b ≡ true → b ≡ false → ⊥
 clash b p q = cc
@@ -198,13 +198,6 @@ block_open : (arms : Arms) (head : ItemTree) (ms : Members) (around : Unfinished
 block_open arms head ms around r =
     subst IsOpenList (flat_with_arm arms head ms) (arms_open (length (levels around)) (joined_arms arms (arm head ms no_arms)) (are_arms arms head ms around r))
 
-range_even : (head : ItemTree) (s : ℕ) (ms : Members) (around : Unfinished) → IsOpenRange head s ms around → blocks_begun (head ∷ flat ms) ≡ blocks_ended (head ∷ flat ms)
-range_even head s ms around r =
-    let c = begun_as head (flat ms) (opens_range s) r.names_it in
-    let d = ended_as head (flat ms) (opens_range s) r.names_it in
-    let even = (balanced (suc (length (levels around))) 0 ms r.well).even in
-    omega arith
-
 -- ---- an open range, with more statements and with fewer
 
 abbrev longer : (s : ℕ) (items more : List ItemTree) → HasRange s items → LackLabel s more → HasRange s (items ++ more)
@@ -289,58 +282,30 @@ lacks_of s opened n xs f = all_follow (IsFresh opened) (λ y. IsFalse (has_label
 range_fresh : (head : ItemTree) (s : ℕ) (ms : Members) (around : Unfinished) → IsOpenRange head s ms around → AllByRecursion (IsFresh (levels around)) (head ∷ flat ms)
 range_fresh head s ms around r = (r.head_fresh, all_follow (IsFresh (in_range s ∷ levels around)) (IsFresh (levels around)) (λ y f. fresh_around s (levels around) y f) (flat ms) r.fresh)
 
--- no more block IFs end behind the DO statement than begin there
-record IsNamed (s : ℕ) (items : List ItemTree) : Type 0 where
-  range : HasRange s items
-  low : blocks_ended range.rest ≤ blocks_begun range.rest
-
-longer_low : (a b : List ItemTree) → blocks_ended a ≤ blocks_begun a → blocks_ended b ≤ blocks_begun b → blocks_ended (a ++ b) ≤ blocks_begun (a ++ b)
-longer_low a b h k = let c = begun_append a b in let d = ended_append a b in omega arith
-
 some_label : (s t : ℕ) → Some s ≡ Some t → s ≡ t
 some_label s t e = cc
 
-named_of : (z : Unfinished) (s : ℕ) → IsSound z → is_named (Some s) (levels z) ≡ true → IsNamed s (text z)
+named_of : (z : Unfinished) (s : ℕ) → IsSound z → is_named (Some s) (levels z) ≡ true → HasRange s (text z)
 named_of (ended ms) s h n = absurd (clash false n refl)
 named_of (body ms) s h n = absurd (clash false n refl)
 named_of (range head t ms around) s h n = by_test (either (is_label_at (Some s) t)) (named_of around s h.1)
   where
-    even : blocks_begun (head ∷ flat ms) ≡ blocks_ended (head ∷ flat ms)
-    even = range_even head t ms around h.0
-
-    by_test : (is_label_at (Some s) t ≡ true) ⊎ (is_label_at (Some s) t ≡ false) → (is_named (Some s) (levels around) ≡ true → IsNamed s (text around)) → IsNamed s (text (range head t ms around))
+    by_test : (is_label_at (Some s) t ≡ true) ⊎ (is_label_at (Some s) t ≡ false) → (is_named (Some s) (levels around) ≡ true → HasRange s (text around)) → HasRange s (text (range head t ms around))
     by_test (inl b) rec =
         let same : t ≡ s = sym (some_label s t (label_is (Some s) t b)) in
-        let inner = (balanced (suc (length (levels around))) 0 ms h.0.well).even in
         record {
-          range = record {
-            front = text around;
-            head = head;
-            rest = flat ms;
-            parts = refl;
-            names = h.0.names_it ∙ ap (λ (l : ℕ). opens_range l) same;
-            unended = subst (λ (l : ℕ). LackLabel l (flat ms)) same (range_lacks head t ms around h.0);
-          };
-          low = omega arith;
+          front = text around;
+          head = head;
+          rest = flat ms;
+          parts = refl;
+          names = h.0.names_it ∙ ap (λ (l : ℕ). opens_range l) same;
+          unended = subst (λ (l : ℕ). LackLabel l (flat ms)) same (range_lacks head t ms around h.0);
         }
     by_test (inr b) rec =
         let m : is_named (Some s) (levels around) ≡ true = sym (named_behind_other (Some s) t (levels around) b) ∙ n in
-        let o = rec m in
-        let e = even in
-        let low : blocks_ended (head ∷ flat ms) ≤ blocks_begun (head ∷ flat ms) = omega arith in
-        record {
-          range = longer s (text around) (head ∷ flat ms) o.range (lacks_of s (levels around) m (head ∷ flat ms) (range_fresh head t ms around h.0));
-          low = longer_low o.range.rest (head ∷ flat ms) o.low low;
-        }
+        longer s (text around) (head ∷ flat ms) (rec m) (lacks_of s (levels around) m (head ∷ flat ms) (range_fresh head t ms around h.0))
 named_of (branch arms head ms around) s h n =
-    let o = named_of around s h.1 n in
-    let ys = flat_arms arms ++ (head ∷ flat ms) in
-    let e = (block_open arms head ms around h.0).more in
-    let low : blocks_ended ys ≤ blocks_begun ys = omega arith in
-    record {
-      range = longer s (text around) ys o.range (lacks_of s (levels around) n ys h.0.fresh);
-      low = longer_low o.range.rest ys o.low low;
-    }
+    longer s (text around) (flat_arms arms ++ (head ∷ flat ms)) (named_of around s h.1 n) (lacks_of s (levels around) n (flat_arms arms ++ (head ∷ flat ms)) h.0.fresh)
 
 named_not : (z : Unfinished) (s : ℕ) → IsSound z → is_ended z ≡ false → is_named (Some s) (levels z) ≡ false → HasRange s (text z) → ⊥
 named_not (ended ms) s h o n p = absurd cc
@@ -370,89 +335,34 @@ hidden_named l opened h = by_test (either (is_named l opened))
     by_test (inl b) = b
     by_test (inr b) = absurd (clash (is_hidden l opened) h (fresh_unhidden l opened b))
 
--- behind more statements that lack the labels of the open ranges and begin as many block IFs as they end
-more_open : (s : ℕ) (rest more : List ItemTree) → ((t : ℕ) → HasRange t rest → LackLabel t more) → blocks_begun more ≡ blocks_ended more → HasMoreOpen s rest → HasMoreOpen s (rest ++ more)
-more_open s rest more lack even (inl p) = inl (record { other = p.other; apart = p.apart; opened = longer p.other rest more p.opened (lack p.other p.opened) })
-more_open s rest more lack even (inr p) = inr (let c = begun_append rest more in let d = ended_append rest more in omega arith)
+-- the innermost thing is a range that another DO statement's label names
+not_top : (z : Unfinished) (s : ℕ) → IsSound z → is_ended z ≡ false → is_hidden (Some s) (levels z) ≡ true → InnermostIs (IsDoTo s) (text z) → ⊥
+not_top (ended ms) s h o n i = absurd (clash false n refl)
+not_top (body ms) s h o n i = absurd (clash false n refl)
+not_top (range head t ms around) s h o n i =
+    let same : i.head ≡ head = one_innermost (text (range head t ms around)) i.head head i.innermost (range_innermost head t ms around h.0) in
+    let is : effect_of head.shape ≡ opens_range s = subst (IsDoTo s) same i.such in
+    let own : t ≡ s = range_label t s (sym h.0.names_it ∙ is) in
+    let named : is_label_at (Some s) t ≡ true = subst (λ (l : ℕ). is_label_at (Some s) l ≡ true) (sym own) (same_label s) in
+    clash (is_hidden (Some s) (levels around)) (sym (hidden_behind_same (Some s) t (levels around) named) ∙ n) (subst (λ (l : ℕ). is_hidden (Some l) (levels around) ≡ false) own h.0.unhidden)
+not_top (branch arms head ms around) s h o n i =
+    block_do arms head ms around h.0 (record { head = i.head; innermost = i.innermost; such = record { label = s; names = i.such } })
 
--- without them
-fewer_open : (s t : ℕ) (rest : List ItemTree) (head : ItemTree) (inside : List ItemTree) → s ≡ t → effect_of head.shape ≡ opens_range t → EndsRanges inside
-    → blocks_begun (head ∷ inside) ≡ blocks_ended (head ∷ inside) → HasMoreOpen s (rest ++ (head ∷ inside)) → HasMoreOpen s rest
-fewer_open s t rest head inside same e ends even (inl p) = by_place (in_range_or_first p.other t rest head inside e ends p.opened)
+is_top : (z : Unfinished) (s : ℕ) → IsSound z → is_ended z ≡ false → is_named (Some s) (levels z) ≡ true → is_hidden (Some s) (levels z) ≡ false → InnermostIs (IsDoTo s) (text z)
+is_top (ended ms) s h o n f = absurd (clash false n refl)
+is_top (body ms) s h o n f = absurd (clash false n refl)
+is_top (range head t ms around) s h o n f = by_test (either (is_label_at (Some s) t))
   where
-    by_place : FirstRange p.other rest (head ∷ inside) p.opened.rest ⊎ IsTop p.other t p.opened.rest inside → HasMoreOpen s rest
-    by_place (inl q) = inl (record { other = p.other; apart = p.apart; opened = q.range })
-    by_place (inr q) = absurd (p.apart (q.same ∙ sym same))
-fewer_open s t rest head inside same e ends even (inr p) =
-    inr (let c = begun_append rest (head ∷ inside) in let d = ended_append rest (head ∷ inside) in omega arith)
-
-nothing_open : (s : ℕ) (inside : List ItemTree) → EndsRanges inside → blocks_begun inside ≡ blocks_ended inside → HasMoreOpen s inside → ⊥
-nothing_open s inside ends even (inl p) = ends p.opened.front p.opened.head p.opened.rest p.opened.parts p.other p.opened.names p.opened.unended
-nothing_open s inside ends even (inr p) = omega arith
+    by_test : (is_label_at (Some s) t ≡ true) ⊎ (is_label_at (Some s) t ≡ false) → InnermostIs (IsDoTo s) (text (range head t ms around))
+    by_test (inl b) = record { head = head; innermost = range_innermost head t ms around h.0; such = h.0.names_it ∙ ap (λ (l : ℕ). opens_range l) (sym (some_label s t (label_is (Some s) t b))) }
+    by_test (inr b) = absurd (clash (is_named (Some s) (levels around)) (sym (named_behind_other (Some s) t (levels around) b) ∙ n) (sym (hidden_behind_other (Some s) t (levels around) b) ∙ f))
+is_top (branch arms head ms around) s h o n f = absurd (clash (is_named (Some s) (levels around)) n f)
 
 hidden_of : (z : Unfinished) (s : ℕ) → IsSound z → is_ended z ≡ false → is_hidden (Some s) (levels z) ≡ true → HasBlockedRange s (text z)
-hidden_of (ended ms) s h o n = absurd (clash false n refl)
-hidden_of (body ms) s h o n = absurd (clash false n refl)
-hidden_of (range head t ms around) s h o n = by_test (either (is_label_at (Some s) t)) (hidden_of around s h.1 h.0.goes_on)
-  where
-    lacks : (l : ℕ) → is_named (Some l) (levels around) ≡ true → LackLabel l (head ∷ flat ms)
-    lacks l m = lacks_of l (levels around) m (head ∷ flat ms) (range_fresh head t ms around h.0)
-
-    by_test : (is_label_at (Some s) t ≡ true) ⊎ (is_label_at (Some s) t ≡ false) → (is_hidden (Some s) (levels around) ≡ true → HasBlockedRange s (text around))
-        → HasBlockedRange s (text (range head t ms around))
-    by_test (inl b) rec =
-        let m : is_hidden (Some s) (levels around) ≡ true = sym (hidden_behind_same (Some s) t (levels around) b) ∙ n in
-        let k = rec m in
-        record {
-          range = longer s (text around) (head ∷ flat ms) k.range (lacks s (hidden_named (Some s) (levels around) m));
-          within = more_open s k.range.rest (head ∷ flat ms)
-              (λ l p. lacks l (named_yes around l h.1 h.0.goes_on (behind_others l k.range.front k.range.head k.range.rest (text around) k.range.parts p)))
-              (range_even head t ms around h.0) k.within;
-        }
-    by_test (inr b) rec =
-        let m : is_named (Some s) (levels around) ≡ true = sym (hidden_behind_other (Some s) t (levels around) b) ∙ n in
-        let k = named_of around s h.1 m in
-        record {
-          range = longer s (text around) (head ∷ flat ms) k.range (lacks s m);
-          within = inl (record {
-            other = t;
-            apart = λ e. clash (is_label_at (Some s) t) (subst (λ (l : ℕ). is_label_at (Some s) l ≡ true) (sym e) (same_label s)) b;
-            opened = record { front = k.range.rest; head = head; rest = flat ms; parts = refl; names = h.0.names_it; unended = range_lacks head t ms around h.0 };
-          });
-        }
-hidden_of (branch arms head ms around) s h o n =
-    let k = named_of around s h.1 n in
-    let ys = flat_arms arms ++ (head ∷ flat ms) in
-    let e = (block_open arms head ms around h.0).more in
-    let low = k.low in
-    let c = begun_append k.range.rest ys in
-    let d = ended_append k.range.rest ys in
-    record { range = longer s (text around) ys k.range (lacks_of s (levels around) n ys h.0.fresh); within = inr (omega arith) }
+hidden_of z s h o n = record { range = named_of z s h (hidden_named (Some s) (levels z) n); within = not_top z s h o n }
 
 hidden_not : (z : Unfinished) (s : ℕ) → IsSound z → is_ended z ≡ false → is_hidden (Some s) (levels z) ≡ false → HasBlockedRange s (text z) → ⊥
-hidden_not (ended ms) s h o n p = absurd cc
-hidden_not (body ms) s h o n p = members_end 0 ms h p.range.front p.range.head p.range.rest p.range.parts s p.range.names p.range.unended
-hidden_not (range head t ms around) s h o n p = by_place (in_range_or_first s t (text around) head (flat ms) h.0.names_it ends p.range) (hidden_not around s h.1 h.0.goes_on)
-  where
-    ends : EndsRanges (flat ms)
-    ends = members_end (suc (length (levels around))) ms h.0.well
-
-    even : blocks_begun (flat ms) ≡ blocks_ended (flat ms)
-    even = (balanced (suc (length (levels around))) 0 ms h.0.well).even
-
-    by_test : (is_label_at (Some s) t ≡ true) ⊎ (is_label_at (Some s) t ≡ false) → FirstRange s (text around) (head ∷ flat ms) p.range.rest
-        → (is_hidden (Some s) (levels around) ≡ false → HasBlockedRange s (text around) → ⊥) → ⊥
-    by_test (inl b) q rec =
-        let same : s ≡ t = some_label s t (label_is (Some s) t b) in
-        rec (sym (hidden_behind_same (Some s) t (levels around) b) ∙ n)
-        (record { range = q.range; within = fewer_open s t q.range.rest head (flat ms) same h.0.names_it ends (range_even head t ms around h.0) (subst (HasMoreOpen s) q.last p.within) })
-    by_test (inr b) q rec = clash (is_named (Some s) (levels around)) (named_yes around s h.1 h.0.goes_on q.range) (sym (hidden_behind_other (Some s) t (levels around) b) ∙ n)
-
-    by_place : FirstRange s (text around) (head ∷ flat ms) p.range.rest ⊎ IsTop s t p.range.rest (flat ms) → (is_hidden (Some s) (levels around) ≡ false → HasBlockedRange s (text around) → ⊥) → ⊥
-    by_place (inl q) rec = by_test (either (is_label_at (Some s) t)) q rec
-    by_place (inr q) rec = nothing_open s (flat ms) ends even (subst (HasMoreOpen s) q.all p.within)
-hidden_not (branch arms head ms around) s h o n p =
-    named_not around s h.1 h.0.goes_on n (in_first s (text around) (flat_arms arms ++ (head ∷ flat ms)) (block_open arms head ms around h.0).ends p.range).range
+hidden_not z s h o n p = p.within (is_top z s h o (named_yes z s h o p.range) n)
 
 -- ---- ranges that cross
 
@@ -466,7 +376,7 @@ at_hidden_not z (Some s) h o n p = hidden_not z s h o n p
 
 at_named : (z : Unfinished) (l : Option ℕ) → IsSound z → is_named l (levels z) ≡ true → AtLabel HasRange l (text z)
 at_named z None h n = clash (is_named None (levels z)) n (none_named (levels z))
-at_named z (Some s) h n = (named_of z s h n).range
+at_named z (Some s) h n = named_of z s h n
 
 at_named_not : (z : Unfinished) (l : Option ℕ) → IsSound z → is_ended z ≡ false → is_named l (levels z) ≡ false → AtLabel HasRange l (text z) → ⊥
 at_named_not z None h o n p = p
