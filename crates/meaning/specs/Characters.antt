@@ -31,10 +31,10 @@ number_of digits = fold (λ n c. 10 * n + (c - 48)) 0 digits
 abbrev pub is_number : List ℕ → Bool
 is_number digits = nat_lt 0 (length digits) && list_all is_digit digits
 
--- a symbolic name: a letter and up to five letters or digits (2.2)
+-- a symbolic name: a letter and up to thirty letters or digits (2.2; the number is own)
 abbrev pub is_name : List ℕ → Bool
 is_name [] = nat_lt 0 0
-is_name (c ∷ cs) = is_letter c && list_all is_alphanumeric cs && nat_le (length cs) 5
+is_name (c ∷ cs) = is_letter c && list_all is_alphanumeric cs && nat_le (length cs) 30
 
 -- the digits of a statement label: one to five, not all zero (3.4)
 abbrev pub is_label : List ℕ → Bool

@@ -106,7 +106,8 @@ pub fn is_number(text: &[u8]) -> bool
     !text.is_empty() && are_digits(text)
 }
 
-/// Whether a text is a symbolic name: a letter and up to five letters or digits (ANSI X3.9-1978, 2.2).
+/// Whether a text is a symbolic name: a letter and up to thirty letters or digits (ANSI X3.9-1978, 2.2; the
+/// number is the program's own).
 pub fn is_symbolic_name(text: &[u8]) -> bool
     ensures { result ≡ is_name text.now }
 {
@@ -114,7 +115,7 @@ pub fn is_symbolic_name(text: &[u8]) -> bool
         None => false,
         Some((first, rest)) => first.is_ascii_uppercase()
             && are_alphanumeric(rest)
-            && rest.len() <= 5,
+            && rest.len() <= 30,
     }
 }
 

@@ -16,7 +16,7 @@ const NO_STATEMENTS: &[&str] = &[
     "I=3)",
     "I=3A",
     "1A=2",
-    "ABCDEFG=1",
+    "ABCDEFGHIJKLMNOPQRSTUVWXYZABCDEF=1",
     "TOOLONGNAME=1",
     "I_J=1",
     "i=1",
@@ -85,7 +85,7 @@ const NO_TYPE_STATEMENTS: &[&str] = &[
     "INTEGERI(1",
     "INTEGERI(1))",
     "INTEGERI:2",
-    "INTEGERABCDEFG",
+    "INTEGERABCDEFGHIJKLMNOPQRSTUVWXYZABCDEF",
 ];
 
 const NO_ASSIGNMENTS: &[&str] = &[
@@ -110,7 +110,7 @@ const NO_DO_STATEMENTS: &[&str] = &[
     "DOI=1,2",
     "DO0I=1,2",
     "DO100000I=1,2",
-    "DO10ABCDEFG=1,2",
+    "DO10ABCDEFGHIJKLMNOPQRSTUVWXYZABCDEF=1,2",
     "CONTINUE=1",
     "CONTINUE=1,2",
     "CONTINUE1",

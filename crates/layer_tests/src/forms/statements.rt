@@ -12,6 +12,11 @@ const ASSIGNMENTS: &[(&str, &str)] = &[
     ("I=-A+B", "assign I ((-A)+B)"),
     ("I=+3", "assign I (+3)"),
     ("ABCDEF=1", "assign ABCDEF 1"),
+    (
+        "ABCDEFGHIJKLMNOPQRSTUVWXYZABCDE=1",
+        "assign ABCDEFGHIJKLMNOPQRSTUVWXYZABCDE 1",
+    ),
+    ("INTEGERI=5", "assign INTEGERI 5"),
     ("DO10I=1", "assign DO10I 1"),
     ("END=1", "assign END 1"),
     ("WRITE=2", "assign WRITE 2"),
@@ -97,7 +102,7 @@ const SPECIFICATION_STATEMENTS: &[(&str, &str)] = &[
     ("PROGRAMPROGRA", "program PROGRA"),
     ("PROGRAM", "G1 7"),
     ("PROGRAM1", "G1 7"),
-    ("PROGRAMABCDEFG", "G1 7"),
+    ("PROGRAMABCDEFGHIJKLMNOPQRSTUVWXYZABCDEF", "G1 7"),
     ("IMPLICITINTEGER(A-Z)", "implicit integer:AZ"),
     (
         "IMPLICITINTEGER(A,C-E),LOGICAL(L)",
