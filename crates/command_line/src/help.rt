@@ -19,7 +19,7 @@ Options, with their ranges and what stands for those that are not given:
   --turns N      1 to 1000000000000, 1000000000: the turns that the program has
   -h, --help     shows this text
   -V, --version  shows the version
-Until the parallel runner stands all loops run in order, whatever --workers, --block and --window say.
+With two workers or more, DO loops without output are tried in parallel; the answer is that of one worker.
 
 Exit statuses, with the line on standard error:
   0  END was reached, or a text was asked for: none; a STOP statement was executed: STOP, STOP 7 or STOP TEXT
