@@ -246,7 +246,7 @@ fn help_has_each_option_and_status(rt: HostRuntime) {
         "  --turns N      1 to 1000000000000, 1000000000: ",
         "  -h, --help     ",
         "  -V, --version  ",
-        "all loops run in order, whatever --workers, --block and --window say",
+        "the answer is that of one worker",
         "\n  0  ",
         "STOP",
         "\n  1  a fault: FAULT F2 LINE 7\n",
