@@ -225,41 +225,6 @@ const FAULTS: &[(&str, &str)] = &[
     ),
 ];
 
-#[test]
-fn refusals(rt: HostRuntime) {
-    for &(source, line) in REFUSALS {
-        let mut input = source.as_bytes();
-        expect_line(&rt, &mut input, 2, line);
-    }
-}
-
-#[test]
-fn deepest_ranges(rt: HostRuntime) -> Result<(), Fail> {
-    let mut source = Vec::new(rt.alloc());
-    for _ in 0..33 {
-        source.extend_from_slice(b"      DO 10 I=1,2\n")?;
-    }
-    source.extend_from_slice(b"   10 CONTINUE\n      END\n")?;
-    let mut input = source.as_slice();
-    expect_line(&rt, &mut input, 2, "REFUSED N5 LINE 33\n");
-    Ok(())
-}
-
-#[test]
-fn faults(rt: HostRuntime) {
-    for &(source, line) in FAULTS {
-        let mut input = source.as_bytes();
-        expect_line(&rt, &mut input, 1, line);
-    }
-}
-
-#[test]
-fn runs_to_its_end(rt: HostRuntime) {
-    let mut input = ANSWER.as_bytes();
-    let run = run_of(&rt, &[b"f77run"], &mut input);
-    assert!(rt; run.left(0, b"", b"    42\n"));
-}
-
 // A source that a STOP statement ends before it writes anything, and the line of the program.
 const STOPS: &[(&str, &str)] = &[
     ("      STOP\n      END\n", "STOP\n"),
@@ -290,23 +255,27 @@ const STOPS: &[(&str, &str)] = &[
     ),
 ];
 
-#[test]
-fn stops(rt: HostRuntime) {
-    for &(source, line) in STOPS {
-        let mut input = source.as_bytes();
-        expect_line(&rt, &mut input, 0, line);
+// Runs the program over each source, and expects the status and its line.
+fn expect_lines<R: Files + AllocGlobal + Threads + Wait + Sync + Abort>(
+    rt: &R,
+    table: &[(&str, &str)],
+    status: u8,
+) {
+    for &(source, line) in table {
+        expect_line(rt, &mut source.as_bytes(), status, line);
     }
+}
+
+#[test]
+fn lines_without_records(rt: HostRuntime) {
+    expect_lines(&rt, STOPS, 0);
+    expect_lines(&rt, FAULTS, 1);
+    expect_lines(&rt, REFUSALS, 2);
 }
 
 // A value past the labels of a computed GO TO, a record, an arithmetic IF that goes past a STOP statement, and another.
 const NEXT_AND_STOP: &str =
     "      GO TO (30,40),3\n      WRITE (6,10)\n   10 FORMAT ('NEXT')\n   30 IF (0) 40,50,40\n   40 STOP 'WRONG'\n   50 STOP 7\n      END\n";
-
-#[test]
-fn a_record_and_then_a_stop(rt: HostRuntime) {
-    let run = run_of(&rt, &[b"f77run"], &mut NEXT_AND_STOP.as_bytes());
-    assert!(rt; run.left(0, b"STOP 7\n", b"NEXT\n"));
-}
 
 // The exit status and the records of the program that stops, where a line on standard error has so much room.
 fn left_beside<R: Files + AllocGlobal + Threads + Wait + Sync>(rt: &R, room: usize) -> Run {
@@ -374,14 +343,6 @@ const FAULTY: &[(&[&[u8]], &str)] = &[
     (&[b"f77run", b"a.f", b"\xff"], "an argument is not UTF-8\n"),
 ];
 
-#[test]
-fn command_lines(rt: HostRuntime) {
-    for &(words, line) in FAULTY {
-        let run = run_of(&rt, words, &mut io::empty());
-        assert!(rt; run.left(3, line.as_bytes(), b""), "{line}");
-    }
-}
-
 // A request, and the text that answers it.
 const REQUESTS: &[(&[u8], &str)] = &[
     (b"--help", HELP),
@@ -400,8 +361,10 @@ fn requests(rt: HostRuntime) {
     }
 }
 
-// The words behind the program's name, a source, its exit status, its line and its records.
+// The words of a command line, a source, its exit status, its line and its records.
 const PLANNED: &[(&[&[u8]], &str, u8, &str, &str)] = &[
+    (&[b"f77run"], ANSWER, 0, "", "    42\n"),
+    (&[b"f77run"], NEXT_AND_STOP, 0, "STOP 7\n", "NEXT\n"),
     // the DO statement and three assignments take four turns
     (&[b"f77run", b"--turns=4"], THREE_TRIPS, 0, "", ""),
     (
@@ -467,6 +430,14 @@ const ARMS: &str =
     "      I=0\n   10 I=I+1\n      IF (I.EQ.2) THEN\n      K=K+10\n      ELSE IF (I.EQ.3) THEN\n      K=K+100\n      ELSE\n      K=K+1\n      END IF\n      IF (I.LT.4) GO TO 10\n      WRITE (6,20) I,K\n   20 FORMAT (2I5)\n      END\n";
 
 #[test]
+fn command_lines(rt: HostRuntime) {
+    for &(words, line) in FAULTY {
+        let run = run_of(&rt, words, &mut io::empty());
+        assert!(rt; run.left(3, line.as_bytes(), b""), "{line}");
+    }
+}
+
+#[test]
 fn turns_of_a_plan(rt: HostRuntime) {
     for &(words, source, status, line, records) in PLANNED {
         let run = run_of(&rt, words, &mut source.as_bytes());
@@ -518,10 +489,7 @@ fn writes_that_are_refused(rt: HostRuntime) {
         let run = left_narrow(&rt, &[b"f77run"], &mut ANSWER.as_bytes(), room);
         assert!(rt; run.left(5, b"WRITE REFUSED\n", b""), "{room}");
     }
-}
-
-#[test]
-fn a_flush_that_is_refused_behind_a_stop(rt: HostRuntime) {
+    // at the flush behind a STOP statement
     let run = left_narrow(&rt, &[b"f77run"], &mut NEXT_AND_STOP.as_bytes(), 5);
     assert!(rt; run.left(5, b"WRITE REFUSED\n", b""));
 }
