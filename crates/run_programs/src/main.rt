@@ -1,10 +1,9 @@
-//! Runs each FORTRAN program of the folder `data` and compares how it ends and what it writes with the file beside it: a line
-//! with the ending, and the records. The records are those that another compiler's program writes (gfortran 12.2, by
-//! `gfortran -std=legacy -w -finit-local-zero`) where it takes the program and means the same by it; which rule is told and which
-//! fault comes from docs/LANGUAGE.md. A first line `C TURNS n` gives the program n turns; any other has 1,000,000,000.
-//! The examples, in the folder `examples` there, end without a fault; the files beside them hold their records alone.
-//! A program whose name's bytes (without `.f`) sum up to a multiple of 3 is run by 32 plans, unless its name says that it has a
-//! million elements, which take long to fill; any other is run by two plans, and so is each example. By each plan it comes to the same.
+//! Runs each FORTRAN program of `data`, where each module has a folder, and compares how it ends and what it writes with the
+//! file beside it: a line with the ending, and the records. The records are those that another compiler's program writes
+//! (gfortran 12.2, by `gfortran -std=legacy -w -finit-local-zero`) where it takes the program and means the same by it; which
+//! rule is told and which fault comes from docs/LANGUAGE.md. A first line `C TURNS n` gives the program n turns; any other has
+//! 1,000,000,000. The examples, in the folder `examples` there, end without a fault; the files beside them hold their records alone.
+//! A program with a DO statement is run by 32 plans; any other by two, and so is each example. By each plan it comes to the same.
 #![tactic(auto)]
 
 use executor::run::run;
@@ -24,10 +23,10 @@ const TURNS: u64 = 1_000_000_000;
 /// How many workers, how many trips in a block, and how many blocks at a time.
 type Numbers = (u64, u64, u64);
 
-/// The plans of most programs.
+/// The plans of a program without a DO statement.
 const FEW: &[Numbers] = &[(1, 1, 1), (4, 2, 8)];
 
-/// Workers 1, 2, 4, 8, each with blocks of 1, 2, 7, 64 trips, each with 1 and 8 blocks at a time.
+/// The plans of a program with one: workers 1, 2, 4, 8, each with blocks of 1, 2, 7, 64 trips, each with 1 and 8 blocks at a time.
 const ALL: &[Numbers] = &[
     (1, 1, 1),
     (1, 1, 8),
@@ -126,32 +125,44 @@ fn comes_to<R: AllocGlobal + Threads + Wait + Sync>(
     }
 }
 
-// The first of some plans by which the program with a name doesn't come to what the file beside it holds, if there is one.
-fn missed_by<R: Files + AllocGlobal + Threads + Wait + Sync>(
+// The first of some plans by which a source doesn't come to what is wanted, if there is one.
+fn missed_by<R: AllocGlobal + Threads + Wait + Sync>(
     rt: &R,
-    name: &str,
+    source: &[u8],
+    wanted: &[u8],
     plans: &[Numbers],
 ) -> io::Result<Option<Numbers>> {
-    let source = fs::read(rt, format!(in rt.alloc(); "{name}.f")?)?;
-    let wanted = fs::read(rt, format!(in rt.alloc(); "{name}.out")?)?;
     for &numbers in plans {
-        if !comes_to(rt, &source, &wanted, numbers)? {
+        if !comes_to(rt, source, wanted, numbers)? {
             return Ok(Some(numbers));
         }
     }
     Ok(None)
 }
 
-// Whether a program is run by all plans, by its name.
-fn is_run_by_all(name: &str) -> bool {
-    if name.contains("_million_") {
+// Whether a line is no comment, and its columns 7 to 72 begin with DO, blanks aside.
+fn begins_with_do(line: &[u8]) -> bool {
+    if let Some(b'C' | b'c' | b'*') = line.first() {
         return false;
     }
-    let mut sum = 0u64;
-    for &byte in name.as_bytes() {
-        sum = sum.wrapping_add(u64::from(byte));
+    let mut is_behind_d = false;
+    for &c in line.iter().skip(6).take(66) {
+        match c {
+            b' ' => {}
+            b'D' | b'd' if !is_behind_d => is_behind_d = true,
+            b'O' | b'o' => return is_behind_d,
+            _ => return false,
+        }
     }
-    sum % 3 == 0
+    false
+}
+
+// Whether a source has a DO statement. What else begins so, as an assignment to DO10I, is taken for one: by more plans it comes to
+// the same as well.
+fn has_do(source: &[u8]) -> bool {
+    source
+        .split(|&c| c == b'\n')
+        .any(|line| begins_with_do(line))
 }
 
 // Whether a source ends at END or by a STOP statement by the plan with these numbers, and writes what is wanted.
@@ -197,7 +208,44 @@ struct Counts {
     by_all: u64,
 }
 
-// How many programs of this folder come to what is wanted; the others are told, with the plan.
+// Counts the program at a path if it comes to what is wanted by its plans; else it is told, with the plan.
+fn count_program<R: Files + AllocGlobal + Threads + Wait + Sync + Print>(
+    rt: &R,
+    path: &str,
+    counts: &mut Counts,
+) -> io::Result<()> {
+    let source = fs::read(rt, format!(in rt.alloc(); "{path}.f")?)?;
+    let wanted = fs::read(rt, format!(in rt.alloc(); "{path}.out")?)?;
+    let by_all = has_do(&source);
+    match missed_by(rt, &source, &wanted, if by_all { ALL } else { FEW })? {
+        None if by_all => counts.by_all = counts.by_all.saturating_add(1),
+        None => counts.by_few = counts.by_few.saturating_add(1),
+        Some((workers, block, window)) => {
+            println!(rt;
+                "{path}.f doesn't come to what stands in {path}.out by the plan {workers} {block} {window}"
+            )?;
+        }
+    }
+    Ok(())
+}
+
+// Counts the programs of a module's folder.
+fn count_module<R: Files + AllocGlobal + Threads + Wait + Sync + Print + Clone + Drop>(
+    rt: &R,
+    module: &str,
+    counts: &mut Counts,
+) -> io::Result<()> {
+    for entry in fs::read_dir(rt, module)? {
+        let entry = entry?;
+        if let Some(name) = entry.file_name().strip_suffix(".f") {
+            let path = format!(in rt.alloc(); "{module}/{name}")?;
+            count_program(rt, path.as_str(), counts)?;
+        }
+    }
+    Ok(())
+}
+
+// How many programs of all modules come to what is wanted; the others are told.
 fn count_programs<R: Files + AllocGlobal + Threads + Wait + Sync + Print + Clone + Drop>(
     rt: &R,
 ) -> io::Result<Counts> {
@@ -207,17 +255,9 @@ fn count_programs<R: Files + AllocGlobal + Threads + Wait + Sync + Print + Clone
     };
     for entry in fs::read_dir(rt, ".")? {
         let entry = entry?;
-        if let Some(name) = entry.file_name().strip_suffix(".f") {
-            let by_all = is_run_by_all(name);
-            match missed_by(rt, name, if by_all { ALL } else { FEW })? {
-                None if by_all => counts.by_all = counts.by_all.saturating_add(1),
-                None => counts.by_few = counts.by_few.saturating_add(1),
-                Some((workers, block, window)) => {
-                    println!(rt;
-                        "{name}.f doesn't come to what stands in {name}.out by the plan {workers} {block} {window}"
-                    )?;
-                }
-            }
+        let name = entry.file_name();
+        if name != "examples" && entry.file_type()?.is_dir() {
+            count_module(rt, name, &mut counts)?;
         }
     }
     Ok(counts)
