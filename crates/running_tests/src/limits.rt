@@ -1,17 +1,52 @@
 //! Turn limits of loops by stages: at each turn the next statement's line is told, with the records written so far.
 
-use crate::outcomes::{Plans, comes_to_by, end_or_stop};
+use crate::outcomes::{agrees_by_stages, stopped_with};
+use executor::Open;
 use meaning::ending::{Ending, Fault, FaultKind};
+use meaning::plan::Plan;
 use std::alloc::Global;
 use std::process::Abort;
 use std::sync::Wait;
 use std::thread::Threads;
 
-const PLANS: Plans = Plans {
-    workers: &[1, 2, 4],
-    blocks: &[1, 2, 7],
-    windows: &[1, 8],
-};
+/// How many workers, how many trips in a block, and how many blocks at a time.
+const PLANS: &[(u64, u64, u64)] = &[
+    (1, 1, 1),
+    (1, 1, 8),
+    (1, 2, 1),
+    (1, 2, 8),
+    (1, 7, 1),
+    (1, 7, 8),
+    (2, 1, 1),
+    (2, 1, 8),
+    (2, 2, 1),
+    (2, 2, 8),
+    (2, 7, 1),
+    (2, 7, 8),
+    (4, 1, 1),
+    (4, 1, 8),
+    (4, 2, 1),
+    (4, 2, 8),
+    (4, 7, 1),
+    (4, 7, 8),
+];
+
+/// Compares the ending of a source by each of these plans with so many turns, and the records that it writes.
+fn comes_to_by<R: Abort + Threads + Wait + Sync>(
+    rt: &R,
+    alloc: Global,
+    source: &str,
+    turns: u64,
+    want: &Ending,
+    records: &str,
+) {
+    let text = source.as_bytes();
+    for &(workers, block, window) in PLANS {
+        let plan = Plan::new(workers, block, window, turns).expect(rt, "a plan");
+        let same = agrees_by_stages(rt, alloc, text, &plan, &Open, want, records.as_bytes());
+        assert!(rt; same, "{plan:?}: {source}");
+    }
+}
 
 /// The line of the statement that takes a turn, and what it writes.
 type Turn = (u32, &'static str);
@@ -249,15 +284,8 @@ fn runs_out<R: Abort + Threads + Wait + Sync>(
     let kind = FaultKind::F4;
     let want = Ending::Fault(Fault { kind, line });
     let records = written_in(rt, alloc, taken);
-    comes_to_by(
-        rt,
-        alloc,
-        PLANS,
-        source,
-        taken.len() as u64,
-        &want,
-        records.as_str(),
-    );
+    let turns = taken.len() as u64;
+    comes_to_by(rt, alloc, source, turns, &want, records.as_str());
 }
 
 /// Compares a source by each limit that is too short, by the one that is just enough, and by one more.
@@ -277,7 +305,7 @@ fn meets_each_limit<R: Abort + Threads + Wait + Sync>(
     let enough = turns.len() as u64;
     for more in 0..2 {
         let limit = enough.saturating_add(more);
-        comes_to_by(rt, alloc, PLANS, source, limit, want, records.as_str());
+        comes_to_by(rt, alloc, source, limit, want, records.as_str());
     }
 }
 
@@ -290,7 +318,7 @@ fn limits_of_sources_that_end(rt: HostRuntime) {
 
 #[test]
 fn limits_before_a_stop(rt: HostRuntime) {
-    let told = end_or_stop(&rt, rt.alloc(), Some("SIXTH"));
+    let told = stopped_with(&rt, rt.alloc(), "SIXTH");
     meets_each_limit(&rt, rt.alloc(), STOPPED, TURNS_TO_STOP, &told);
 }
 

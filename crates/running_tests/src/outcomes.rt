@@ -1,16 +1,14 @@
 //! Sources over writers in memory, and what comes of them. Expected bytes come from the rules of docs/LANGUAGE.md.
 
 use executor::run::{run, run_in_order};
-use executor::{Gate, Open, Out};
-use meaning::ending::{Ending, Fault, FaultKind, StopMessage};
+use executor::{Gate, Out};
+use meaning::ending::{Ending, StopMessage};
 use meaning::plan::Plan;
-use meaning::refusal::Rule;
 use std::alloc::Global;
 use std::io;
 use std::io::{ErrorKind, Write};
 use std::process::Abort;
 use std::sync::Wait;
-use std::test::*;
 use std::thread::Threads;
 
 /// A writer in memory that takes at most `step` bytes a call and `room` bytes in all; past that it answers 0, or an
@@ -55,9 +53,6 @@ pub fn make_meter(alloc: Global, step: usize, room: usize, errs: bool) -> Meter 
 pub const ANSWER: &str = "      WRITE (6,10) 42\n   10 FORMAT (1X,I5)\n      END\n";
 
 pub const FORTY_TWO: &str = "    42\n";
-
-pub const TWO_NUMBERS: &str =
-    "      I=3\n      J=2-I*4\n      WRITE (6,10) I,J\n   10 FORMAT (2I4)\n      END\n";
 
 /// More turns than a test takes.
 pub const MANY: u64 = 1_000_000_000;
@@ -104,48 +99,6 @@ pub fn agrees_by_stages<R: Threads + Wait + Sync, G: Gate + Sync>(
     ending == *want && bytes.as_slice() == records
 }
 
-/// Plans: each number of workers with each number of trips in a block and each number of blocks at a time.
-#[derive(Clone, Copy)]
-pub struct Plans {
-    pub workers: &'static [u64],
-    pub blocks: &'static [u64],
-    pub windows: &'static [u64],
-}
-
-/// Compares the ending of a source by a plan, and the records that it writes.
-fn comes_to_by_one<R: Abort + Threads + Wait + Sync>(
-    rt: &R,
-    alloc: Global,
-    plan: &Plan,
-    source: &str,
-    want: &Ending,
-    records: &str,
-) {
-    let text = source.as_bytes();
-    let same = agrees_by_stages(rt, alloc, text, plan, &Open, want, records.as_bytes());
-    assert!(rt; same, "{plan:?}: {source}");
-}
-
-/// Compares the ending of a source by each of these plans with so many turns, and the records that it writes.
-pub fn comes_to_by<R: Abort + Threads + Wait + Sync>(
-    rt: &R,
-    alloc: Global,
-    plans: Plans,
-    source: &str,
-    turns: u64,
-    want: &Ending,
-    records: &str,
-) {
-    for &workers in plans.workers {
-        for &block in plans.blocks {
-            for &window in plans.windows {
-                let plan = Plan::new(workers, block, window, turns).expect(rt, "a plan");
-                comes_to_by_one(rt, alloc, &plan, source, want, records);
-            }
-        }
-    }
-}
-
 /// Compares the ending of a source with so many turns, and the records that it writes.
 pub fn comes_to_in(
     rt: &impl Abort,
@@ -165,55 +118,8 @@ pub fn comes_to(rt: &impl Abort, alloc: Global, source: &str, want: &Ending, rec
     comes_to_in(rt, alloc, source, MANY, want, records);
 }
 
-/// The ending at END, or at a STOP statement that tells this.
-pub fn end_or_stop(rt: &impl Abort, alloc: Global, message: Option<&str>) -> Ending {
-    match message {
-        None => Ending::Ended,
-        Some(text) => {
-            let text = Vec::from_slice(alloc, text.as_bytes()).expect(rt, "memory");
-            Ending::Stopped(StopMessage::new(text))
-        }
-    }
-}
-
-/// Sources that end, and their records.
-pub fn all_end(rt: &impl Abort, alloc: Global, table: &[(&str, &str)]) {
-    for &(source, records) in table {
-        comes_to(rt, alloc, source, &Ending::Ended, records);
-    }
-}
-
-/// Sources that a STOP statement ends, what it tells, and the records before it.
-pub fn all_stop(rt: &impl Abort, alloc: Global, table: &[(&str, &str, &str)]) {
-    for &(source, message, records) in table {
-        let want = end_or_stop(rt, alloc, Some(message));
-        comes_to(rt, alloc, source, &want, records);
-    }
-}
-
-/// Sources that fault, the fault, its line, and the records before it.
-pub fn all_fault(rt: &impl Abort, alloc: Global, table: &[(&str, FaultKind, u32, &str)]) {
-    for &(source, kind, line, records) in table {
-        let want = Ending::Fault(Fault { kind, line });
-        comes_to(rt, alloc, source, &want, records);
-    }
-}
-
-/// Sources that are refused, the rule that is told, and its line.
-pub fn all_refused(rt: &impl Abort, alloc: Global, table: &[(&str, Rule, u32)]) {
-    for &(source, rule, line) in table {
-        comes_to(rt, alloc, source, &Ending::Refused(rule, line), "");
-    }
-}
-
-/// Sources that end by each of these plans, and their records.
-pub fn all_end_by<R: Abort + Threads + Wait + Sync>(
-    rt: &R,
-    alloc: Global,
-    plans: Plans,
-    table: &[(&str, &str)],
-) {
-    for &(source, records) in table {
-        comes_to_by(rt, alloc, plans, source, MANY, &Ending::Ended, records);
-    }
+/// The ending at a STOP statement that tells this.
+pub fn stopped_with(rt: &impl Abort, alloc: Global, text: &str) -> Ending {
+    let text = Vec::from_slice(alloc, text.as_bytes()).expect(rt, "memory");
+    Ending::Stopped(StopMessage::new(text))
 }

@@ -1,6 +1,6 @@
 //! Sinks over writers that take all, some or nothing of what they are given.
 
-use crate::outcomes::{MANY, Meter, end_or_stop, make_meter, plan_with};
+use crate::outcomes::{MANY, Meter, make_meter, plan_with, stopped_with};
 use executor::run::run_in_order;
 use executor::{Out, Refused, Sink, put_all};
 use meaning::ending::Ending;
@@ -51,7 +51,7 @@ fn runs(rt: &impl Abort, alloc: Global, step: usize, room: usize, errs: bool) {
     let both = BOTH.as_bytes();
     let taken = both.get(..room).unwrap_or(both);
     let same = agrees_over(rt, alloc, TWO_WRITES, meter, &want, taken);
-    assert!(rt; same, "room {room}");
+    assert!(rt; same);
 }
 
 #[test]
@@ -87,7 +87,7 @@ const THREE_RECORDS: &str =
 fn records_in(rt: &impl Abort, alloc: Global, room: usize, want: &Ending, taken: &str) {
     let meter = make_meter(alloc, usize::MAX, room, true);
     let same = agrees_over(rt, alloc, THREE_RECORDS, meter, want, taken.as_bytes());
-    assert!(rt; same, "room {room}");
+    assert!(rt; same);
 }
 
 /// Room for all records but one byte, and for all: what stands behind a refused write isn't executed.
@@ -95,7 +95,7 @@ fn records_in(rt: &impl Abort, alloc: Global, room: usize, want: &Ending, taken:
 fn records_before_a_refused_write(rt: HostRuntime) {
     let kept = "     1\n     2\n     3";
     records_in(&rt, rt.alloc(), 20, &Ending::WriteRefused, kept);
-    let stopped = end_or_stop(&rt, rt.alloc(), Some("LATER"));
+    let stopped = stopped_with(&rt, rt.alloc(), "LATER");
     records_in(&rt, rt.alloc(), 21, &stopped, "     1\n     2\n     3\n");
 }
 
@@ -127,7 +127,7 @@ fn puts_once(rt: &impl Abort, piece: &[u8], meter: Meter) {
     let told = sink.put(piece);
     let want = if refuses { Err(Refused) } else { Ok(taken) };
     let same = has_front(sink, refuses, piece, taken);
-    assert!(rt; told == want && same, "of {}", piece.len());
+    assert!(rt; told == want && same);
 }
 
 /// Puts the whole of a piece: the writer has it, or as much as it has room for, and the sink has refused then.
@@ -137,7 +137,7 @@ fn puts_whole(rt: &impl Abort, piece: &[u8], meter: Meter) {
     let mut sink = Out::new(meter);
     let told = put_all(&mut sink, piece);
     let same = has_front(sink, refuses, piece, kept);
-    assert!(rt; told.is_err() == refuses && same, "of {}", piece.len());
+    assert!(rt; told.is_err() == refuses && same);
 }
 
 /// Puts a piece into writers with this room, that answer 0 or an error past it.

@@ -1,142 +1,11 @@
-//! Sources and their records, refusals and faults.
+//! Sources by their bytes: the longest ones, each front of a source, statements that are cut into lines anywhere, and sources with a byte
+//! changed.
 
-use crate::outcomes::{
-    ANSWER, FORTY_TWO, MANY, TWO_NUMBERS, agrees, all_end, all_fault, all_refused, comes_to_in,
-};
-use meaning::ending::{Ending, Fault, FaultKind};
+use crate::outcomes::{ANSWER, FORTY_TWO, MANY, agrees, outcome};
+use meaning::ending::Ending;
 use meaning::refusal::Rule;
 use std::alloc::{AllocError, Global};
 use std::process::Abort;
-
-/// Sources that end, and their records.
-const WORKED: &[(&str, &str)] = &[
-    (ANSWER, FORTY_TWO),
-    (TWO_NUMBERS, "   3 -10\n"),
-    // a trailing X writes nothing, and control goes back for each value
-    (
-        "      WRITE (*,7) 1,22,333\n    7 FORMAT (I2,3X)\n      END\n",
-        " 1\n22\n**\n",
-    ),
-    // no list: one empty record
-    ("      WRITE (6,1)\n    1 FORMAT ()\n      END", "\n"),
-    // blanks and case have no meaning, nor has what stands past column 72
-    (
-        "C \u{e9}\n      k = 2 * 3 - 10\n      w r i t e (6, 0 1 0) k                                               X\n   10 f o r m a t (i 3)\n* THE END\n      e n d\n",
-        " -4\n",
-    ),
-    // nor has where a statement is cut into lines
-    (
-        "      WRI\n* here\n     1TE (6,1\n     20) 4\n     X2\n   10 FORMAT (1X,\n\n     1I5)\n      END\n",
-        FORTY_TWO,
-    ),
-    // a sign takes a whole term, and operators of one level group from the left
-    (
-        "      I=5\n      WRITE (6,10) -I*2+1,I-1-2,+7\n   10 FORMAT (3I4)\n      END\n",
-        "  -9   2   7\n",
-    ),
-    // a name that nothing gave a value is 0, and FORMAT may stand before the WRITE that uses it
-    (
-        "   10 FORMAT (I1)\r\n      WRITE (6,10) N\r\n      END\r\n",
-        "0\n",
-    ),
-];
-
-/// Sources that are refused.
-const REFUSED: &[(&str, Rule, u32)] = &[
-    ("", Rule::N2, 1),
-    ("      I=\t1\n      END\n", Rule::C1, 1),
-    ("   A  I=1\n      END\n", Rule::C2, 1),
-    ("  00  I=1\n      END\n", Rule::C2, 1),
-    ("      I=1\n1    1+2\n      END\n", Rule::C3, 2),
-    ("     1+2\n      END\n", Rule::C4, 1),
-    (
-        "      I=1\n     1+1\n     1+1\n     1+1\n     1+1\n     1+1\n     1+1\n     1+1\n     1+1\n     1+1\n     1+1\n     1+1\n     1+1\n     1+1\n     1+1\n     1+1\n     1+1\n     1+1\n     1+1\n     1+1\n     1+1\n      END\n",
-        Rule::C5,
-        21,
-    ),
-    ("      I='A\n      END\n", Rule::C6, 1),
-    ("      I='A'\n      END\n", Rule::G1, 1),
-    ("      READ (5,*) N\n      END\n", Rule::G2, 1),
-    ("      I=1\n      GO TO 10\n      END\n", Rule::K2, 2),
-    (
-        "      I=((((((((((((((((((((((((((((((((((((((((((((((((((((((((((((\n",
-        Rule::G1,
-        1,
-    ),
-    // 65 parentheses open at once
-    (
-        "      (((((((((((((((((((((((((((((((((((((((((((((((((((((((((((((((((\n",
-        Rule::G3,
-        1,
-    ),
-    ("      I=1\n", Rule::N2, 1),
-    ("      END\n      I=1\n      END\n", Rule::N2, 2),
-    ("   10 I=1\n   10 J=1\n      END\n", Rule::K1, 2),
-    ("      X=1\n      END\n", Rule::K3, 1),
-    ("      I=1\n      J=2147483648\n      END\n", Rule::K6, 2),
-    (
-        "      WRITE (5,10)\n   10 FORMAT ()\n      END\n",
-        Rule::K11,
-        1,
-    ),
-    ("      WRITE (6,10)\n      END\n", Rule::K11, 1),
-    ("   10 FORMAT (A5)\n      END\n", Rule::K11, 1),
-    ("      FORMAT (I5)\n      END\n", Rule::K11, 1),
-    // two broken: the earlier phase, then the lesser line, then the lesser rule
-    ("      X=1\n      I=\n", Rule::G1, 2),
-    ("      J=9999999999\n      X=1\n      END\n", Rule::K6, 1),
-    ("      X=9999999999\n      END\n", Rule::K3, 1),
-    ("  00  I=\t'\n      END\n", Rule::C1, 1),
-];
-
-/// Sources that fault, and what they wrote before.
-const FAULTY: &[(&str, FaultKind, u32, &str)] = &[
-    (
-        "      I=2147483647\n      I=I+1\n      END\n",
-        FaultKind::F2,
-        2,
-        "",
-    ),
-    (
-        "      I=-2147483647-1\n      J=-I\n      END\n",
-        FaultKind::F2,
-        2,
-        "",
-    ),
-    (
-        "      WRITE (6,10) 1\n   10 FORMAT (3X)\n      END\n",
-        FaultKind::F7,
-        1,
-        "",
-    ),
-    (
-        "      WRITE (6,1) 1,1,1,1,1,1,1,1,1,1,1,1,1,1,1,1\n    1 FORMAT (9999X,9999X,9999X,9999X,9999X,9999X,9999X,9999X,I1)\n      END\n",
-        FaultKind::F8,
-        1,
-        "",
-    ),
-    // nothing of a WRITE goes out where a later item faults
-    (
-        "      WRITE (6,10) 1,2147483647+1\n   10 FORMAT (I1)\n      END\n",
-        FaultKind::F2,
-        1,
-        "",
-    ),
-    // not even a first record, where a later value meets a descriptor of the other type
-    (
-        "      WRITE (6,10) 7,.TRUE.\n   10 FORMAT (I3)\n      END\n",
-        FaultKind::F7,
-        1,
-        "",
-    ),
-];
-
-#[test]
-fn sources(rt: HostRuntime) {
-    all_end(&rt, rt.alloc(), WORKED);
-    all_refused(&rt, rt.alloc(), REFUSED);
-    all_fault(&rt, rt.alloc(), FAULTY);
-}
 
 /// A source with comment lines up to so many bytes.
 fn long_source(alloc: Global, length: usize) -> Result<Vec<u8>, AllocError> {
@@ -159,24 +28,7 @@ fn long_sources(rt: HostRuntime) {
     let read = is_read(&rt, rt.alloc(), 1_048_576, &Ending::Ended, FORTY_TWO);
     let too_long = Ending::Refused(Rule::C7, 1);
     let refused = is_read(&rt, rt.alloc(), 1_048_577, &too_long, "");
-    assert!(rt; read && refused, "{read} {refused}");
-}
-
-#[test]
-fn turn_limit(rt: HostRuntime) {
-    let fourth = Ending::Fault(Fault {
-        kind: FaultKind::F4,
-        line: 3,
-    });
-    comes_to_in(&rt, rt.alloc(), TWO_NUMBERS, 2, &fourth, "");
-    comes_to_in(
-        &rt,
-        rt.alloc(),
-        TWO_NUMBERS,
-        3,
-        &Ending::Ended,
-        "   3 -10\n",
-    );
+    assert!(rt; read && refused);
 }
 
 /// What comes of the first bytes of a source.
@@ -201,9 +53,129 @@ fn front_agrees(rt: &impl Abort, alloc: Global, front: &[u8]) -> bool {
 #[test]
 fn fronts_of_a_source(rt: HostRuntime) {
     let source = ANSWER.as_bytes();
-    assert!(rt; source.len() == 53);
     for kept in 0..54usize {
-        let same = front_agrees(&rt, rt.alloc(), &source[..kept]);
-        assert!(rt; same, "{kept} bytes");
+        let front = source.get(..kept).unwrap_or(source);
+        assert!(rt; front_agrees(&rt, rt.alloc(), front));
+    }
+}
+
+/// The source of a statement that is cut in two, or whole where nothing is left behind the cut.
+fn cut_at(alloc: Global, statement: &str, place: usize) -> Result<Vec<u8>, AllocError> {
+    let text = statement.as_bytes();
+    let mut source = Vec::from_slice(alloc, text.get(..place).unwrap_or(text))?;
+    if let Some(rest) = text.get(place..) {
+        source.extend_from_slice(b"\n     1")?;
+        source.extend_from_slice(rest)?;
+    }
+    source.extend_from_slice(b"\n   10 CONTINUE\n      END\n")?;
+    Ok(source)
+}
+
+/// The ending of a statement that is cut in two.
+fn ending_of_cut(rt: &impl Abort, alloc: Global, statement: &str, place: usize) -> Ending {
+    let source = cut_at(alloc, statement, place).expect(rt, "memory");
+    let (ending, _) = outcome(rt, alloc, &source, MANY);
+    ending
+}
+
+/// Whether where a statement without apostrophes is cut into lines has no meaning.
+fn is_cut_anywhere(rt: &impl Abort, alloc: Global, statement: &str) -> bool {
+    let whole = ending_of_cut(rt, alloc, statement, usize::MAX);
+    for place in 7..statement.len() {
+        if ending_of_cut(rt, alloc, statement, place) != whole {
+            return false;
+        }
+    }
+    true
+}
+
+/// Statements without apostrophes.
+const STATEMENTS: &[&str] = &[
+    // without transfers of control
+    "      NUMBER=12345+TOTAL(67)**89",
+    "      WRITE (UNIT=6,FMT=12345) NUMBER,(67+89)/12",
+    "12345 FORMAT (12I34.5,67X,2(L8/):)",
+    "      DO 10, NUMBER = 123, 4567, 89",
+    "      INTEGER NUMBER,TOTAL(-12:345,67)",
+    "      CONTINUE",
+    // not executable
+    "      PROGRAM TEST",
+    "      IMPLICIT INTEGER (A-C,X), LOGICAL (L)",
+    "      LOGICAL L,M(3)",
+    "      DIMENSION A(3),B(0:2,2)",
+    "      PARAMETER (N=3,M=N+1)",
+    "      DATA I,A(2)/3,-4/(B(K),K=1,3)/3*.TRUE./",
+    "      INTEGER A(-.TRUE.)",
+    // executable
+    "      F()=1",
+    "      GO TO 10",
+    "      GO TO (10,20) I",
+    "      GO TO (10),I+1",
+    "      GO TO (10,10),1",
+    "      IF (I) 10,20,30",
+    "      IF (I) 10,10,10",
+    "      IF (I.EQ.0) J=2",
+    "      IF(I.EQ.1)IF(2)=3",
+    "      STOP",
+    "      STOP 77",
+    "      IF (I.EQ.0) STOP 12345",
+    "      PRINT 10,I,(K,K=1,2)",
+    "      DATA I/1/",
+    "      WRITE (6,10) (K,K=1,2)",
+    "      WRITE (6,10) I,((A(K,J),K=1,2),J=1,3,2)",
+    "      WRITE (6,10) .TRUE.",
+    "      I=F()",
+    "      L=.NOT.L",
+    "      L=I.LT.2",
+    "      L=M.AND..FALSE.",
+    "      A(I.EQ.J)=1",
+    "      DO 10 K=1,-F(.TRUE.)",
+];
+
+#[test]
+fn cut_statements(rt: HostRuntime) {
+    for &statement in STATEMENTS {
+        assert!(rt; is_cut_anywhere(&rt, rt.alloc(), statement));
+    }
+}
+
+/// Sources of which each byte is changed.
+const WHOLE: &[&str] = &[
+    "      INTEGER A(9)\n      DO 10 I=2,9\n   10 A(I)=A(I-1)+1\n      WRITE (6,20) A(9)\n   20 FORMAT (I3)\n      END\n",
+    "      K=2**3/4\n      WRITE (FMT=20,UNIT=6) K,-K\n   20 FORMAT (I4.2,2(:,'-',I3)/)\n      END\n",
+    "      IF (I.EQ.1) GO TO 10\n     1\n   10 PRINT '(''A'')', (I,I=1,2)\n      STOP\n      END\n",
+];
+
+/// Whether a source with one byte changed is refused or run, whatever it says then.
+fn is_answered(rt: &impl Abort, alloc: Global, text: &str, place: usize, byte: u8) -> bool {
+    let mut source = Vec::from_slice(alloc, text.as_bytes()).expect(rt, "memory");
+    if let Some(here) = source.get_mut(place) {
+        *here = byte;
+    }
+    let (ending, _) = outcome(rt, alloc, &source, 1000);
+    ending != Ending::Memory && ending != Ending::WriteRefused
+}
+
+/// Whether a source is refused or run whichever of its bytes is changed to another.
+fn is_answered_everywhere(rt: &impl Abort, alloc: Global, text: &str, byte: u8) -> bool {
+    for place in 0..text.len() {
+        if !is_answered(rt, alloc, text, place, byte) {
+            return false;
+        }
+    }
+    true
+}
+
+/// What stands in place of a byte.
+const BYTES: &[u8] = &[
+    0, b'\n', b'\'', b'(', b')', b',', b'.', b'0', b'=', b'A', 200,
+];
+
+#[test]
+fn changed_sources(rt: HostRuntime) {
+    for &text in WHOLE {
+        for &byte in BYTES {
+            assert!(rt; is_answered_everywhere(&rt, rt.alloc(), text, byte));
+        }
     }
 }

@@ -1,6 +1,6 @@
 //! Turns: which statements take one, and what is told where none is left.
 
-use crate::outcomes::{MANY, comes_to_in, end_or_stop};
+use crate::outcomes::{MANY, comes_to_in, stopped_with};
 use meaning::ending::{Ending, Fault, FaultKind};
 use std::alloc::Global;
 use std::process::Abort;
@@ -142,7 +142,7 @@ const STOPPED: &str = "      I=1\n      IF (I.EQ.1) STOP 'HERE'\n      END\n";
 /// A STOP statement takes a turn, also one under a logical IF.
 #[test]
 fn turns_of_a_stop(rt: HostRuntime) {
-    let told = end_or_stop(&rt, rt.alloc(), Some("HERE"));
+    let told = stopped_with(&rt, rt.alloc(), "HERE");
     comes_to_in(&rt, rt.alloc(), STOPPED, 3, &told, "");
     comes_to_in(&rt, rt.alloc(), STOPPED, 2, &limit_at(2), "");
     comes_to_in(&rt, rt.alloc(), STOPPED, 1, &limit_at(2), "");

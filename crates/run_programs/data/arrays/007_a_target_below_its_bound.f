@@ -1,0 +1,3 @@
+      INTEGER A(3)
+      A(0)=5
+      END

@@ -1,0 +1,3 @@
+      I=1
+      INTEGER A(2)
+      END

@@ -1,0 +1,3 @@
+      INTEGER A(2)
+      INTEGER A
+      END

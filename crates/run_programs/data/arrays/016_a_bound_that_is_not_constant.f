@@ -1,0 +1,2 @@
+      INTEGER A(N)
+      END

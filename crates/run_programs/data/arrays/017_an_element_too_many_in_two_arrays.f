@@ -1,0 +1,3 @@
+      INTEGER A(1048575)
+      INTEGER B(2)
+      END

@@ -1,0 +1,3 @@
+      INTEGER A(2)
+      I=A
+      END

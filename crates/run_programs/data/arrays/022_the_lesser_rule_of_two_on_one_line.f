@@ -1,0 +1,3 @@
+      INTEGER A(2)
+      A(1,1)=N(1)
+      END

@@ -1,0 +1,2 @@
+      INTEGER A(3:2),A(1)
+      END

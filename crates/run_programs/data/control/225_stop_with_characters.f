@@ -1,0 +1,2 @@
+      STOP 'It''s  done'
+      END

@@ -1,0 +1,3 @@
+      GO TO 10
+   10 FORMAT (I2)
+      END

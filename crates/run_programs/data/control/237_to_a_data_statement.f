@@ -1,0 +1,3 @@
+   10 DATA I/1/
+      GO TO 10
+      END

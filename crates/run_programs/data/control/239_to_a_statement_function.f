@@ -1,0 +1,3 @@
+   10 J(N)=N
+      GO TO 10
+      END

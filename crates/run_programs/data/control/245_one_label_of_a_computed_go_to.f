@@ -1,0 +1,3 @@
+   10 CONTINUE
+      GO TO (10,20) I
+      END

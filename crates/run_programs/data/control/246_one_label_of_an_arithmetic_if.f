@@ -1,0 +1,3 @@
+   10 CONTINUE
+      IF (I) 10,10,20
+      END

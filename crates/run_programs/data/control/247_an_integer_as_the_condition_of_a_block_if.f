@@ -1,0 +1,3 @@
+      IF (I) THEN
+      END IF
+      END

@@ -1,0 +1,2 @@
+      IF (I) GO TO 20
+      END

@@ -1,0 +1,8 @@
+      INTEGER A(12)
+      DO 10 I=1,12
+      A(I)=I
+   10 GO TO (20) I-4
+      I=99
+   20 WRITE (6,30) I,A(4),A(5),A(6)
+   30 FORMAT (4I3)
+      END

@@ -1,0 +1,2 @@
+      WRITE (FMT='(''IT''''S'')',UNIT=6)
+      END

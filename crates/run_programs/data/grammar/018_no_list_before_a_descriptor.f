@@ -1,0 +1,3 @@
+      WRITE (6,10)
+   10 FORMAT (L3,'A')
+      END

@@ -1,0 +1,4 @@
+      I=1
+      GO TO (10,10) I
+   10 CONTINUE
+      END

@@ -1,0 +1,4 @@
+      I=1
+      IF (I) 10,10,10
+   10 CONTINUE
+      END

@@ -1,0 +1,4 @@
+      I=1
+      STOP
+   10 CONTINUE
+      END

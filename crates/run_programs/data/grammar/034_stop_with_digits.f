@@ -1,0 +1,4 @@
+      I=1
+      STOP 77
+   10 CONTINUE
+      END

@@ -1,0 +1,4 @@
+      I=1
+      IF (I) 10,20,30
+   10 CONTINUE
+      END

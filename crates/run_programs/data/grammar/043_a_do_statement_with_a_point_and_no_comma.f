@@ -1,0 +1,3 @@
+      DO 10 I=1.5
+   10 CONTINUE
+      END

@@ -1,0 +1,2 @@
+      L=I.LT.J.LT.K
+      END

@@ -1,0 +1,2 @@
+      IF (I) END
+      END

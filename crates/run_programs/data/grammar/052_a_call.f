@@ -1,0 +1,2 @@
+      CALL F(1)
+      END

@@ -1,0 +1,2 @@
+      DOUBLE PRECISION X
+      END

@@ -1,0 +1,2 @@
+      PRINT '(A5)'
+      END

@@ -1,0 +1,2 @@
+      PRINT 'I5',1
+      END

@@ -1,0 +1,2 @@
+      PRINT '(I5) X',1
+      END

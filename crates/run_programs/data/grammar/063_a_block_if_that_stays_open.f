@@ -1,0 +1,2 @@
+      IF (I.EQ.1) THEN
+      END

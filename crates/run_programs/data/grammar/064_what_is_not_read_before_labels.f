@@ -1,0 +1,3 @@
+      GO TO 10
+      I=J+
+      END

@@ -1,0 +1,2 @@
+      IF (X) GO TO 10
+      END

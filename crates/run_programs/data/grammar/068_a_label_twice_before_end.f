@@ -1,0 +1,3 @@
+   10 STOP
+   10 STOP
+      END

@@ -1,0 +1,3 @@
+      END
+      STOP
+      END

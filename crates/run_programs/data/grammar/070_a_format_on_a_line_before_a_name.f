@@ -1,0 +1,3 @@
+   10 FORMAT (I5,A5)
+      X=1
+      END

@@ -1,0 +1,4 @@
+      INTEGER A(65536)
+      WRITE (6,10) A
+   10 FORMAT (256(256I1))
+      END

@@ -1,0 +1,4 @@
+      INTEGER A(65536)
+      WRITE (6,10) A,1
+   10 FORMAT (I1)
+      END

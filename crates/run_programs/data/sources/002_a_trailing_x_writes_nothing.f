@@ -1,0 +1,3 @@
+      WRITE (*,7) 1,22,333
+    7 FORMAT (I2,3X)
+      END

@@ -1,0 +1,3 @@
+      WRITE (6,1)
+    1 FORMAT ()
+      END

@@ -1,0 +1,3 @@
+   10 FORMAT (I1)
+      WRITE (6,10) N
+      END

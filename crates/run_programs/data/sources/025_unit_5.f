@@ -1,0 +1,3 @@
+      WRITE (5,10)
+   10 FORMAT ()
+      END

@@ -1,0 +1,2 @@
+   10 FORMAT (A5)
+      END

@@ -1,0 +1,5 @@
+      DO 20 I=1,9
+      DO 10 J=2147483647-IABS(5-I),2147483647-IABS(5-I)
+   10 K=K+1
+   20 CONTINUE
+      END
