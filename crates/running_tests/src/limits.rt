@@ -317,13 +317,9 @@ fn limits_of_sources_that_end(rt: HostRuntime) {
 }
 
 #[test]
-fn limits_before_a_stop(rt: HostRuntime) {
+fn limits_before_a_stop_and_a_fault(rt: HostRuntime) {
     let told = stopped_with(&rt, rt.alloc(), "SIXTH");
     meets_each_limit(&rt, rt.alloc(), STOPPED, TURNS_TO_STOP, &told);
-}
-
-#[test]
-fn limits_before_a_fault(rt: HostRuntime) {
     let kind = FaultKind::F1;
     let want = Ending::Fault(Fault { kind, line: 3 });
     meets_each_limit(&rt, rt.alloc(), FAULTY, TURNS_TO_FAULT, &want);

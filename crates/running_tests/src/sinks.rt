@@ -64,39 +64,37 @@ fn refused_writes(rt: HostRuntime) {
     }
 }
 
-#[test]
-fn a_record_broken_off(rt: HostRuntime) {
-    let source = "      WRITE (6,10)\n   10 FORMAT ('ABCDEFGHIJ')\n      END\n";
-    let meter = make_meter(rt.alloc(), usize::MAX, 3, true);
-    let same = agrees_over(
-        &rt,
-        rt.alloc(),
-        source,
-        meter,
-        &Ending::WriteRefused,
-        b"ABC".as_slice(),
-    );
-    assert!(rt; same);
-}
+/// One record, of 11 bytes.
+const ONE_RECORD: &str = "      WRITE (6,10)\n   10 FORMAT ('ABCDEFGHIJ')\n      END\n";
 
 /// Three records, of 7 bytes each, and a statement behind them.
 const THREE_RECORDS: &str =
     "      DO 10 I=1,3\n   10 WRITE (6,20) I\n   20 FORMAT (I6)\n      STOP 'LATER'\n      END\n";
 
-/// Runs the three records over a writer with so much room.
-fn records_in(rt: &impl Abort, alloc: Global, room: usize, want: &Ending, taken: &str) {
+/// Runs a source over a writer with so much room.
+fn records_in(
+    rt: &impl Abort,
+    alloc: Global,
+    source: &str,
+    room: usize,
+    want: &Ending,
+    taken: &str,
+) {
     let meter = make_meter(alloc, usize::MAX, room, true);
-    let same = agrees_over(rt, alloc, THREE_RECORDS, meter, want, taken.as_bytes());
+    let same = agrees_over(rt, alloc, source, meter, want, taken.as_bytes());
     assert!(rt; same);
 }
 
-/// Room for all records but one byte, and for all: what stands behind a refused write isn't executed.
+/// Room for a part of a record, for all records but one byte, and for all: what stands behind a refused write isn't executed.
 #[test]
 fn records_before_a_refused_write(rt: HostRuntime) {
+    let broken = Ending::WriteRefused;
+    records_in(&rt, rt.alloc(), ONE_RECORD, 3, &broken, "ABC");
     let kept = "     1\n     2\n     3";
-    records_in(&rt, rt.alloc(), 20, &Ending::WriteRefused, kept);
+    records_in(&rt, rt.alloc(), THREE_RECORDS, 20, &broken, kept);
     let stopped = stopped_with(&rt, rt.alloc(), "LATER");
-    records_in(&rt, rt.alloc(), 21, &stopped, "     1\n     2\n     3\n");
+    let all = "     1\n     2\n     3\n";
+    records_in(&rt, rt.alloc(), THREE_RECORDS, 21, &stopped, all);
 }
 
 /// How many bytes a piece has.
