@@ -3,7 +3,7 @@
 //! (gfortran 12.2, by `gfortran -std=legacy -w -finit-local-zero`) where it takes the program and means the same by it; which
 //! rule is told and which fault comes from docs/LANGUAGE.md. A first line `C TURNS n` gives the program n turns; any other has
 //! 1,000,000,000. The examples, in the folder `examples` there, end without a fault; the files beside them hold their records alone.
-//! A program with a DO statement is run by 36 plans; any other by two, and so is each example. By each plan it comes to the same.
+//! A program with a DO statement is run by 40 plans; any other by two, and so is each example. By each plan it comes to the same.
 #![tactic(auto)]
 
 use executor::run::run;
@@ -26,8 +26,8 @@ type Numbers = (u64, u64, u64);
 /// The plans of a program without a DO statement.
 const FEW: &[Numbers] = &[(1, 1, 1), (4, 2, 8)];
 
-/// The plans of a program with one: workers 1, 2, 4, 8, each with blocks of 1, 2, 7, 64 trips, each with 1 and 8 blocks at a time; and
-/// blocks of 3 and 5 trips.
+/// The plans of a program with one: workers 1, 2, 4, 8, each with blocks of 1, 2, 7, 64 trips, each with 1 and 8 blocks at a time;
+/// blocks of 3 and 5 trips; and 3 and 64 workers.
 const ALL: &[Numbers] = &[
     (1, 1, 1),
     (1, 1, 8),
@@ -65,6 +65,10 @@ const ALL: &[Numbers] = &[
     (4, 3, 8),
     (4, 5, 1),
     (2, 5, 3),
+    (3, 2, 16),
+    (3, 1_000_000, 16),
+    (64, 1, 256),
+    (64, 7, 1),
 ];
 
 // The number behind `C TURNS` in a source's first line, if that is what stands there.
@@ -294,7 +298,7 @@ fn main(rt: HostRuntime) -> io::Result<()> {
     let both = counts.by_few.saturating_add(counts.by_all);
     println!(rt; "{both} programs come to what is wanted")?;
     println!(rt;
-        "{} of them by 36 plans each, {} by 2",
+        "{} of them by 40 plans each, {} by 2",
         counts.by_all, counts.by_few
     )?;
     let count = count_examples(&rt)?;
