@@ -11,7 +11,7 @@ use Rattle.meaning.specs.Arrays.{cell_of, cells_of, place, size}
 use Rattle.meaning.specs.Initial.{starts_from}
 use Rattle.meaning.specs.Scopes.{arrays_of}
 use Rattle.meaning.specs.Syntax.{ItemTree}
-use Rattle.meaning.specs.Types.{declared_by, types_of}
+use Rattle.meaning.specs.Types.{declared_by, types_of, has_implicit_none}
 use Rattle.meaning.specs.Uses.{roles_of}
 use Rattle.meaning.specs.Values.{Arrays, dimensions_in}
 use Rattle.roles.specs.declared.names.Roles.{Roles}
@@ -180,5 +180,5 @@ module _ (t : Tree) (f : Facts) (r : Roles) (k : Names) (items : trees_at r.item
       by_letters : (n : List ℕ) → StartsWithByte n → declared_by (typed_names all) n ≡ None → by_first k.letters.items n ≡ types_of all n
       by_letters [] byte none = sym (ap (λ o. option_or o None) none)
       by_letters (c ∷ cs) byte none =
-          ap type_if (names.letters c byte) ∙ ap (λ xs. letter_type (implicit_parts xs) c) items
-          ∙ sym (ap (λ o. option_or o (letter_type (implicit_parts all) c)) none)
+          ap type_if (names.letters c byte) ∙ ap (λ xs. letter_type (has_implicit_none xs) (implicit_parts xs) c) items
+          ∙ sym (ap (λ o. option_or o (letter_type (has_implicit_none all) (implicit_parts all) c)) none)

@@ -10,6 +10,7 @@ use Rattle.k_rules.specs.declared.verdict.Facts.{Facts}
 use Rattle.k_rules.specs.Judged.{arrays_in, constant_in, starts_in}
 use Rattle.data_rules.specs.DataSets.{given_by}
 use Rattle.meaning.specs.Initial.{starts_from}
+use Rattle.meaning.specs.Types.{has_implicit_none}
 use Rattle.meaning.specs.Rules.{checked}
 use Rattle.meaning.specs.Trees.{nested}
 use Rattle.meaning.specs.Uses.{roles_of}
@@ -36,7 +37,7 @@ pub record AreNames (f : Facts) (r : Roles) (k : Names) : Type 0 where
   pub said : AreSaidOf f r k.entries
   pub given : AreGiven (firsts_in k.entries) (starts_in f) (replicate (count_at f r) (pos 0)) k.starts.items
   pub few : count_at f r < 2 ^ 64 - 1
-  pub letters : (c : ℕ) → c < 256 → slice_get k.letters.items c ≡ Some (letter_type (implicit_parts (trees_at r.items.now)) c)
+  pub letters : (c : ℕ) → c < 256 → slice_get k.letters.items c ≡ Some (letter_type (has_implicit_none (trees_at r.items.now)) (implicit_parts (trees_at r.items.now)) c)
 
 -- a tree with what is kept beside it
 abbrev pub parts_by : Tree → Kept → Parts

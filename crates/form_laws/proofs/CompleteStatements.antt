@@ -5,15 +5,15 @@ use Rattle.std.specs.Prelude.{codes}
 use Rattle.std.proofs.lemmas.Bool.{eqb-true, true≢false, cases_Bool, and_parts, and_from}
 use Rattle.std.proofs.lemmas.List.{append-nil}
 use Rattle.meaning.specs.Characters.{is_digit, is_letter, is_alphanumeric, is_name, is_label}
-use Rattle.meaning.specs.Syntax.{ExprTree, ExprsTree, no_exprs, exprs, BoundsTree, DeclaratorTree, UnitTree, LimitsTree, ListItemsTree, no_items, more_items, FormatTree, format_label, format_constant, ControlTree, LettersTree, ImplicitTree, ConstantTree, ShapeTree, assignment, writing, printing, format, doing, continuing, typing, ending, naming, implying, logical_typing, dimensioning, parameter, definition, going, computed_going, otherwise, end_if}
-use Rattle.meaning.specs.Spelling.{spell_expr, spell_exprs, IsWellExpr, AreWellSubscripts, spell_unit, IsWellUnit, IsWellStep, spell_limits, spell_comma, spell_subscripts, spell_lower, spell_bounds, spell_dimensions, spell_declarator, IsWellBounds, IsWellDeclarator, spell, IsWell}
-use Rattle.meaning.specs.Reading.{Text, Reader, ◌>>=◌, when, either, name_at, label_at, subscripts_at, whole_expression_at, list_of, source_at, format_first_at, unit_first_at, behind_unit_at, control_at, printing_of, unit_at, at_end, after, value_of, target_of, assignment_of, writing_of, format_of, alone_of, limits_at, comma_at, doing_of, bounds_at, separated_at, dimensions_at, declarator_at, declarators_of, typing_of, logical_typing_of, has_bounds, dimensioning_of, naming_of, letter_at, letters_at, type_at, implicit_at, implying_of, constant_at, parameter_of, going_of, computed_going_of, quoted_at}
+use Rattle.meaning.specs.Syntax.{ExprTree, ExprsTree, no_exprs, exprs, BoundsTree, DeclaratorTree, UnitTree, LimitsTree, ListItemsTree, no_items, more_items, FormatTree, format_label, format_constant, ControlTree, LettersTree, ImplicitTree, ConstantTree, ShapeTree, assignment, writing, printing, format, doing, doing_while, end_do, implicit_none, continuing, typing, ending, naming, implying, logical_typing, dimensioning, parameter, definition, going, computed_going, otherwise, end_if}
+use Rattle.meaning.specs.Spelling.{spell_expr, spell_exprs, IsWellExpr, AreWellSubscripts, spell_unit, IsWellUnit, IsWellStep, spell_limits, spell_comma, spell_subscripts, spell_lower, spell_bounds, spell_dimensions, spell_declarator, IsWellBounds, IsWellDeclarator, spell, IsWell, spell_range_label, IsWellRangeLabel}
+use Rattle.meaning.specs.Reading.{Text, Reader, ◌>>=◌, when, either, name_at, label_at, subscripts_at, whole_expression_at, list_of, source_at, format_first_at, unit_first_at, behind_unit_at, control_at, printing_of, unit_at, at_end, after, value_of, target_of, assignment_of, writing_of, format_of, alone_of, limits_at, comma_at, RangeLabel, range_label_at, doing_of, doing_while_of, bounds_at, separated_at, dimensions_at, declarator_at, declarators_of, typing_of, logical_typing_of, has_bounds, dimensioning_of, naming_of, letter_at, letters_at, type_at, implicit_at, implying_of, constant_at, parameter_of, going_of, computed_going_of, quoted_at}
 use Rattle.meaning.specs.declared.syntax.DataType.{DataType}
 use Rattle.meaning.specs.declared.syntax.DataType.TheVariants as types
 use Rattle.meaning.specs.Spelling.{joined_more, joined, AreWell, spell_letters, IsWellLast, IsWellLetters, type_text, spell_implicit, IsWellImplicit, spell_quoted, spell_item, spell_items, spell_items_behind, spell_source, IsWellSource, spell_control_by, spell_control, spell_constant, IsWellConstant, IsWellArray, spell_label, IsWellLabel, is_paired, spell_last, spell_declarators}
 use Rattle.meaning.specs.declared.syntax.ControlOrder.{ControlOrder}
 use Rattle.meaning.specs.declared.syntax.ControlOrder.TheVariants as orders
-use Rattle.meaning.specs.Kinds.{marks_at}
+use Rattle.meaning.specs.Kinds.{marks_at, begins_with_digit}
 use Rattle.form_laws.proofs.Joined.{has_some, joined_bounds, joined_declarators}
 use Rattle.form_laws.proofs.Words.{after_again, after_takes, before_again, stops_at}
 use Rattle.form_laws.proofs.Marks.{bounded_too, head_is_equals, marks, unit_passes}
@@ -222,21 +222,64 @@ unfolding format_of ◌>>=◌ after when
 format_again t well = rw (before_again t, well) refl
 
 -- a DO statement is read where its parts are, if the text ends behind them
-doing_is : (t rest : Text) (l v : Text × Text) (behind : Text) (limits : LimitsTree × Text) → after (codes "DO") t ≡ Some rest → label_at rest ≡ Some l → name_at (comma_at l.1).1 ≡ Some v
-    → after (61 ∷ []) v.1 ≡ Some behind → limits_at behind ≡ Some limits → doing_of t ≡ at_end (doing l.0 (comma_at l.1).0 v.0 limits.0, limits.1)
+-- a label with a comma or none, or neither, before a name
+digits_begin : (l t : Text) → is_label l ≡ true → begins_with_digit (l ++ t) ≡ true
+digits_begin [] t well = absurd cc
+digits_begin (c ∷ l) t well =
+    let digits : list_all is_digit (c ∷ l) ≡ true = (and_parts _ _ (and_parts _ _ (and_parts _ _ well).0).0).1 in (and_parts _ _ digits).0
+
+name_begins : (v t : Text) → is_name v ≡ true → begins_with_digit (v ++ t) ≡ false
+name_begins [] t well = absurd cc
+name_begins (c ∷ v) t well = comma_ends false (c ∷ v) t well
+
+label_is : (t : Text) (l : Text × Text) (c : Bool × Text) → begins_with_digit t ≡ true → label_at t ≡ Some l → comma_at l.1 ≡ c → range_label_at t ≡ Some ((Some l.0, c.0), c.1)
+unfolding range_label_at ◌>>=◌
+label_is t l c a b d = rw (a, b, d) refl
+
+no_label_is : (t : Text) → begins_with_digit t ≡ false → range_label_at t ≡ Some ((None, false), t)
+unfolding range_label_at
+no_label_is t a = rw a refl
+
+range_label_again : (label : Option Text) (comma : Bool) (v t : Text) → IsWellRangeLabel label comma → is_name v ≡ true → range_label_at (spell_range_label label comma ++ (v ++ t)) ≡ Some ((label, comma), v ++ t)
+range_label_again None true v t well named = absurd cc
+range_label_again None false v t well named = no_label_is (v ++ t) (name_begins v t named)
+range_label_again (Some l) comma v t well named =
+    let behind = spell_comma comma ++ (v ++ t) in
+    ap range_label_at (append_assoc l (spell_comma comma) (v ++ t)) ∙ label_is (l ++ behind) (l, behind) (comma, v ++ t) (digits_begin l behind well) (label_again l behind well (comma_ends comma v t named)) (comma_again comma v t named)
+
+doing_is : (t rest : Text) (l : RangeLabel × Text) (v : Text × Text) (behind : Text) (limits : LimitsTree × Text) → after (codes "DO") t ≡ Some rest → range_label_at rest ≡ Some l → name_at l.1 ≡ Some v
+    → after (61 ∷ []) v.1 ≡ Some behind → limits_at behind ≡ Some limits → doing_of t ≡ at_end (doing l.0.0 l.0.1 v.0 limits.0, limits.1)
 unfolding doing_of ◌>>=◌
 doing_is t rest l v behind limits a b c d e = rw (a, b, c, d, e) refl
 
-pub doing_again : (l : Text) (comma : Bool) (v : Text) (m : LimitsTree) → IsWell (doing l comma v m) → doing_of (spell (doing l comma v m)) ≡ Some (doing l comma v m)
+pub doing_again : (l : Option Text) (comma : Bool) (v : Text) (m : LimitsTree) → IsWell (doing l comma v m) → doing_of (spell (doing l comma v m)) ≡ Some (doing l comma v m)
 unfolding after when
 doing_again l comma v m well =
     let limits = spell_limits m in
     let behind = v ++ (61 ∷ limits) in
-    let comma_is = comma_again comma v (61 ∷ limits) well.1.0 in
-    let named : name_at (comma_at (spell_comma comma ++ behind)).1 ≡ Some (v, 61 ∷ limits) = ap (λ c. name_at c.1) comma_is ∙ name_again v (61 ∷ limits) well.1.0 refl in
-    doing_is (spell (doing l comma v m)) (l ++ (spell_comma comma ++ behind)) (l, spell_comma comma ++ behind) (v, 61 ∷ limits) limits (m, []) refl
-    (label_again l (spell_comma comma ++ behind) well.0 (comma_ends comma v (61 ∷ limits) well.1.0)) named refl
-    (limits_again m.first m.last m.step well.1.1.0 well.1.1.1.0 well.1.1.1.1) ∙ ap (λ c. Some (doing l c.0 v m)) comma_is
+    doing_is (spell (doing l comma v m)) (spell_range_label l comma ++ behind) ((l, comma), behind) (v, 61 ∷ limits) limits (m, []) refl
+    (range_label_again l comma v (61 ∷ limits) well.0 well.1.0) (name_again v (61 ∷ limits) well.1.0 refl) refl
+    (limits_again m.first m.last m.step well.1.1.0 well.1.1.1.0 well.1.1.1.1)
+
+while_is : (t rest : Text) (l : RangeLabel × Text) (opened : Text) (e : ExprTree × Text) (behind : Text) → after (codes "DO") t ≡ Some rest → range_label_at rest ≡ Some l → after (codes "WHILE(") l.1 ≡ Some opened
+    → whole_expression_at opened ≡ Some e → after (41 ∷ []) e.1 ≡ Some behind → doing_while_of t ≡ at_end (doing_while l.0.0 l.0.1 e.0, behind)
+unfolding doing_while_of ◌>>=◌
+while_is t rest l opened e behind a b c d f = rw (a, b, c, d, f) refl
+
+pub doing_while_again : (l : Option Text) (comma : Bool) (e : ExprTree) → IsWell (doing_while l comma e) → doing_while_of (spell (doing_while l comma e)) ≡ Some (doing_while l comma e)
+unfolding after when
+doing_while_again l comma e well =
+    let opened = spell_expr e ++ 41 ∷ [] in
+    while_is (spell (doing_while l comma e)) (spell_range_label l comma ++ (codes "WHILE(" ++ opened)) ((l, comma), codes "WHILE(" ++ opened) opened (e, 41 ∷ []) [] refl
+    (range_label_again l comma (codes "WHILE") (40 ∷ opened) well.0 refl) refl (whole_again e (41 ∷ []) well.1 (parenthesis_follows [])) refl
+
+pub end_do_again : alone_of (codes "ENDDO") end_do (codes "ENDDO") ≡ Some end_do
+unfolding alone_of ◌>>=◌ after when
+end_do_again = refl
+
+pub implicit_none_again : alone_of (codes "IMPLICITNONE") implicit_none (codes "IMPLICITNONE") ≡ Some implicit_none
+unfolding alone_of ◌>>=◌ after when
+implicit_none_again = refl
 
 pub continuing_again : alone_of (codes "CONTINUE") continuing (codes "CONTINUE") ≡ Some continuing
 unfolding alone_of ◌>>=◌ after when

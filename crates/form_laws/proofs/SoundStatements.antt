@@ -1,17 +1,18 @@
 -- What is read as an assignment, or as an output, DO, type, PROGRAM, IMPLICIT or PARAMETER statement is spelled so, and well formed.
-use Rattle.std.proofs.Common.{◌≡◌, ℕ, zero, suc, true, List, [], ◌∷◌, ◌++◌, length, Option, Some, None, refl, sym, ap, subst, ◌∙◌, append_assoc}
+use Rattle.std.proofs.Common.{◌≡◌, ℕ, zero, suc, true, List, [], ◌∷◌, ◌++◌, length, Option, Some, None, refl, sym, ap, subst, ◌∙◌, append_assoc, Bool, false, if◌then◌else◌}
 use Rattle.std.specs.Prelude.{IsTrue, codes, nat_lt}
 use Rattle.std.specs.List.{AllByRecursion, list_all}
 use Rattle.std.proofs.lemmas.Bool.{and_parts}
 use Rattle.std.proofs.lemmas.List.{append-nil}
 use Rattle.meaning.specs.Characters.{is_letter, is_name}
-use Rattle.meaning.specs.Syntax.{ExprTree, BoundsTree, DeclaratorTree, UnitTree, FormatTree, format_label, format_constant, ControlTree, LettersTree, ImplicitTree, ConstantTree, ShapeTree, assignment, writing, printing, format, doing, typing, naming, implying, logical_typing, dimensioning, parameter, definition}
-use Rattle.meaning.specs.Spelling.{spell_expr, IsWellExpr, spell_unit, IsWellUnit, spell_limits, spell_comma, spell_bounds, spell_dimensions, spell_declarator, spell_declarators, IsWellBounds, IsWellDeclarator, Reads}
-use Rattle.meaning.specs.Reading.{Text, Reader, ◌>>=◌, either, whole_expression_at, source_at, format_first_at, unit_first_at, behind_unit_at, control_at, printing_of, unit_at, after, value_of, target_of, assignment_of, writing_of, format_of, alone_of, comma_at, doing_of, bounds_at, separated_at, dimensions_at, declarator_at, declarators_of, typing_of, logical_typing_of, has_bounds, dimensioning_of, naming_of, letter_at, letters_at, type_at, implicit_at, implying_of, constant_at, parameter_of}
+use Rattle.meaning.specs.Syntax.{ExprTree, BoundsTree, DeclaratorTree, UnitTree, FormatTree, format_label, format_constant, ControlTree, LettersTree, ImplicitTree, ConstantTree, ShapeTree, assignment, writing, printing, format, doing, doing_while, typing, naming, implying, logical_typing, dimensioning, parameter, definition}
+use Rattle.meaning.specs.Spelling.{spell_expr, IsWellExpr, spell_unit, IsWellUnit, spell_limits, spell_comma, spell_bounds, spell_dimensions, spell_declarator, spell_declarators, IsWellBounds, IsWellDeclarator, Reads, spell_range_label, IsWellRangeLabel}
+use Rattle.meaning.specs.Reading.{Text, Reader, ◌>>=◌, either, whole_expression_at, source_at, format_first_at, unit_first_at, behind_unit_at, control_at, printing_of, unit_at, after, value_of, target_of, assignment_of, writing_of, format_of, alone_of, comma_at, label_at, RangeLabel, range_label_at, doing_of, doing_while_of, bounds_at, separated_at, dimensions_at, declarator_at, declarators_of, typing_of, logical_typing_of, has_bounds, dimensioning_of, naming_of, letter_at, letters_at, type_at, implicit_at, implying_of, constant_at, parameter_of}
 use Rattle.meaning.specs.declared.syntax.ControlOrder.TheVariants as orders
 use Rattle.meaning.specs.declared.syntax.DataType.{DataType}
 use Rattle.meaning.specs.declared.syntax.DataType.TheVariants as types
 use Rattle.meaning.specs.Spelling.{joined_more, joined, AreWell, spell_letters, IsWellLetters, type_text, spell_implicit, IsWellImplicit, spell_items, spell_items_behind, spell_source, IsWellSource, spell_control, IsWellControl, spell_constant, IsWellConstant, IsWellArray, is_paired, is_simple, spell}
+use Rattle.meaning.specs.Kinds.{begins_with_digit}
 use Rattle.form_laws.proofs.Joined.{has_some, joined_bounds, joined_declarators}
 use Rattle.form_laws.proofs.Words.{after_takes, before_takes, bind_some, when_some, either_some, made_is}
 use Rattle.form_laws.proofs.SoundExpressions.{whole_takes, subscripts_take, name_takes, label_takes, Begins}
@@ -154,25 +155,61 @@ format_takes t s e =
     let b = before_takes rest text e2 in
     made_is (Reads t) (format text) s e (record { well = is_text; spelled = rw (a, b) refl }))))
 
+-- a label with a comma or none, or neither
+abbrev BeginsRange : Text → RangeLabel × Text → Type 0
+BeginsRange t x = (t ≡ spell_range_label x.0.0 x.0.1 ++ x.1) × IsWellRangeLabel x.0.0 x.0.1
+
+range_label_takes : (t : Text) (x : RangeLabel × Text) → range_label_at t ≡ Some x → BeginsRange t x
+unfolding range_label_at
+range_label_takes t x e = at_digit (begins_with_digit t) e
+  where
+    label_whole : (t l l1 comma c1 : Text) → t ≡ l ++ l1 → l1 ≡ comma ++ c1 → t ≡ (l ++ comma) ++ c1
+    label_whole t l l1 comma c1 a b = rw (a, b, append_assoc l comma c1) refl
+
+    at_digit : (b : Bool) → (if b then label_at t >>= (λ l. Some ((Some l.0, (comma_at l.1).0), (comma_at l.1).1)) else Some ((None, false), t)) ≡ Some x → BeginsRange t x
+    at_digit true e =
+        bind_some _ _ x e (λ l e1 e.
+        let b = label_takes t l e1 in
+        made_is (BeginsRange t) ((Some l.0, (comma_at l.1).0), (comma_at l.1).1) x e (label_whole t l.0 l.1 (spell_comma (comma_at l.1).0) (comma_at l.1).1 b.0 (comma_takes l.1), b.1))
+    at_digit false e = made_is (BeginsRange t) ((None, false), t) x e (refl, refl)
+
 pub doing_takes : (t : Text) (s : ShapeTree) → doing_of t ≡ Some s → Reads t s
 unfolding doing_of
 doing_takes t s e =
     bind_some _ _ s e (λ rest e1 e. bind_some _ _ s e (λ l e2 e. bind_some _ _ s e (λ v e3 e. bind_some _ _ s e (λ behind e4 e. bind_some _ _ s e (λ limits e5 e.
     let a = after_takes (codes "DO") t rest e1 in
-    let b = label_takes rest l e2 in
-    let c = comma_takes l.1 in
-    let d = name_takes (comma_at l.1).1 v e3 in
+    let b = range_label_takes rest l e2 in
+    let d = name_takes l.1 v e3 in
     let f = after_takes (61 ∷ []) v.1 behind e4 in
     let g = limits_take behind limits e5 in
-    let h = ends_takes (doing l.0 (comma_at l.1).0 v.0 limits.0, limits.1) s e in
+    let h = ends_takes (doing l.0.0 l.0.1 v.0 limits.0, limits.1) s e in
     subst (Reads t) h.0 (record {
       well = (b.1, (d.1, g.well));
-      spelled = doing_whole t rest l.0 l.1 (spell_comma (comma_at l.1).0) (comma_at l.1).1 v.0 v.1 behind (spell_limits limits.0) limits.1 a b.0 c d.0 f g.whole h.1;
+      spelled = doing_whole t rest (spell_range_label l.0.0 l.0.1) l.1 v.0 v.1 behind (spell_limits limits.0) limits.1 a b.0 d.0 f g.whole h.1;
     }))))))
   where
-    doing_whole : (t rest l l1 comma c1 v v1 behind limits end : Text) → t ≡ codes "DO" ++ rest → rest ≡ l ++ l1 → l1 ≡ comma ++ c1 → c1 ≡ v ++ v1 → v1 ≡ 61 ∷ behind → behind ≡ limits ++ end → end ≡ []
-        → codes "DO" ++ (l ++ (comma ++ (v ++ (61 ∷ limits)))) ≡ t
-    doing_whole t rest l l1 comma c1 v v1 behind limits end a b c d f g h = rw (a, b, c, d, f, g, h, append-nil) refl
+    doing_whole : (t rest l l1 v v1 behind limits end : Text) → t ≡ codes "DO" ++ rest → rest ≡ l ++ l1 → l1 ≡ v ++ v1 → v1 ≡ 61 ∷ behind → behind ≡ limits ++ end → end ≡ []
+        → codes "DO" ++ (l ++ (v ++ (61 ∷ limits))) ≡ t
+    doing_whole t rest l l1 v v1 behind limits end a b d f g h = rw (a, b, d, f, g, h, append-nil) refl
+
+pub doing_while_takes : (t : Text) (s : ShapeTree) → doing_while_of t ≡ Some s → Reads t s
+unfolding doing_while_of
+doing_while_takes t s e =
+    bind_some _ _ s e (λ rest e1 e. bind_some _ _ s e (λ l e2 e. bind_some _ _ s e (λ opened e3 e. bind_some _ _ s e (λ v e4 e. bind_some _ _ s e (λ behind e5 e.
+    let a = after_takes (codes "DO") t rest e1 in
+    let b = range_label_takes rest l e2 in
+    let d = after_takes (codes "WHILE(") l.1 opened e3 in
+    let f = whole_takes opened v e4 in
+    let g = after_takes (41 ∷ []) v.1 behind e5 in
+    let h = ends_takes (doing_while l.0.0 l.0.1 v.0, behind) s e in
+    subst (Reads t) h.0 (record {
+      well = (b.1, f.well);
+      spelled = while_whole t rest (spell_range_label l.0.0 l.0.1) l.1 opened (spell_expr v.0) v.1 behind a b.0 d f.whole g h.1;
+    }))))))
+  where
+    while_whole : (t rest l l1 opened v v1 behind : Text) → t ≡ codes "DO" ++ rest → rest ≡ l ++ l1 → l1 ≡ codes "WHILE(" ++ opened → opened ≡ v ++ v1 → v1 ≡ 41 ∷ behind → behind ≡ []
+        → codes "DO" ++ (l ++ (codes "WHILE(" ++ (v ++ 41 ∷ []))) ≡ t
+    while_whole t rest l l1 opened v v1 behind a b d f g h = rw (a, b, d, f, g, h) refl
 
 pub alone_takes : (word : Text) (one : ShapeTree) (t : Text) (s : ShapeTree) → spell one ≡ word → alone_of word one t ≡ Some s → (t ≡ spell one) × (one ≡ s)
 unfolding alone_of

@@ -9,4 +9,4 @@ mod statement_kind;
 pub use bare_text::{bare, bare_bytes};
 pub use laws::{balanced_by_counts, bare_by_places};
 pub use scan::{begins, has_equals_sign, is_balanced, is_too_deep};
-pub use statement_kind::{kind, kind_of_text};
+pub use statement_kind::{begins_with_digit, kind, kind_of_text};

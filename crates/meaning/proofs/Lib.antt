@@ -19,6 +19,7 @@ pub mod RuleExamples
 mod ControlExamples
 mod NameExamples
 mod DataExamples
+mod LoopExamples
 pub mod Doubled
 pub mod Repeats
 pub mod FirstBroken

@@ -13,7 +13,7 @@ abbrev labelled : ℕ → ℕ → ShapeTree → ItemTree
 labelled line s shape = record { line = line; label = Some s; shape = shape }
 
 abbrev do_to : List ℕ → ShapeTree
-do_to label = doing label false (codes "I") (record { first = number (codes "1"); last = number (codes "2"); step = None })
+do_to label = doing (Some label) false (codes "I") (record { first = number (codes "1"); last = number (codes "2"); step = None })
 
 -- one terminal statement of two ranges
 shared : nest (at 1 (do_to (codes "10")) ∷ at 2 (do_to (codes "010")) ∷ labelled 3 10 continuing ∷ at 4 ending ∷ [])

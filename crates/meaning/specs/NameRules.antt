@@ -8,8 +8,8 @@ use Rattle.meaning.specs.declared.refusal.Rule.TheVariants.{K3, K4, K5, K8, K12,
 use Rattle.meaning.specs.declared.syntax.DataType.{DataType}
 use Rattle.meaning.specs.declared.syntax.DataType.TheVariants as types
 use Rattle.meaning.specs.Statements.{broken_if}
-use Rattle.meaning.specs.Syntax.{LettersTree, DeclaratorTree, ExprTree, number, truth, name, signed, negated, binary, paren, element, call, ExprsTree, no_exprs, exprs, ShapeTree, assignment, definition, logical_if, ItemTree}
-use Rattle.meaning.specs.Types.{implied_in, typed_in, is_among}
+use Rattle.meaning.specs.Syntax.{LettersTree, DeclaratorTree, ExprTree, number, truth, name, signed, negated, binary, paren, element, call, ExprsTree, no_exprs, exprs, ShapeTree, assignment, definition, logical_if, implying, implicit_none, ItemTree}
+use Rattle.meaning.specs.Types.{implied_in, typed_in, is_among, is_implicit_none, has_implicit_none}
 use Rattle.meaning.specs.Intrinsics.{Intrinsic, intrinsic_named, takes}
 use Rattle.meaning.specs.Scopes.{constants_in, declarators_in, Definition, defined_by, definitions_of}
 use Rattle.meaning.specs.Typing.{has_wrong_type, option_list}
@@ -152,6 +152,16 @@ letters_clash earlier [] = false
 letters_clash earlier (l ∷ ls) =
     (is_reversed l || list_any (λ k. not (is_reversed k) && meet l k) earlier) || letters_clash (l ∷ earlier) ls
 
+-- IMPLICIT NONE beside another IMPLICIT statement, told at the later of the two (own)
+abbrev pub is_implicit : ShapeTree → Bool
+is_implicit (implying ps) = true
+is_implicit implicit_none = true
+is_implicit s = false
+
+abbrev pub has_rival : List ItemTree → ItemTree → Bool
+has_rival before x =
+    (is_implicit_none x.shape && list_any (λ (y : ItemTree). is_implicit y.shape) before) || (is_implicit x.shape && has_implicit_none before)
+
 abbrev pub is_disputed : Roles → List ItemTree → ItemTree → Bool
 is_disputed r before x =
     (given_twice (given_from r [] before) (given_by r (is_defining r before x) x.shape)
@@ -159,7 +169,7 @@ is_disputed r before x =
     || ((list_any (is_against_role r) (uses_at r before x) || sets_constant r x.shape)
     || (is_both r (parts_from r [] before) (parts_at r before x)
     || (is_logical_function r before (parts_from r [] before).reads x (parts_at r before x).reads
-    || letters_clash (flat_map letters_in before) (letters_in x))))
+    || (letters_clash (flat_map letters_in before) (letters_in x) || has_rival before x))))
 
 -- ---- K5: a wrong type
 

@@ -1,23 +1,24 @@
 -- How statements nest as a program unit: their order, the ranges of DO statements, block IFs, and END (ANSI X3.9-1978, 3.5 and
 -- 11.6 to 11.10).
-use Rattle.std.specs.Prelude.{◌≡◌, ℕ, suc, ◌<◌, ◌^◌, Bool, true, false, not, ◌&&◌, ◌||◌, List, [], ◌∷◌, ◌++◌, length, nat_le, min, if◌then◌else◌, Option, Some, None, Result, IsTrue, IsFalse, ◌⊎◌}
+use Rattle.std.specs.Prelude.{◌≡◌, ℕ, suc, ◌<◌, ◌^◌, Bool, true, false, not, ◌&&◌, ◌||◌, List, [], ◌∷◌, ◌++◌, length, nat_le, min, if◌then◌else◌, Option, Some, None, option_map, Result, IsTrue, IsFalse, ◌⊎◌}
 use Rattle.std.specs.List.{AllByRecursion, fold, list_any}
 use Rattle.meaning.specs.declared.refusal.Broken.{Broken}
 use Rattle.meaning.specs.declared.refusal.Rule.{Rule}
 use Rattle.meaning.specs.declared.refusal.Rule.TheVariants.{N1, N2, N3, N4, N5}
 use Rattle.meaning.specs.Characters.{number_of}
 use Rattle.meaning.specs.Trees.{Members, none, plain, loop, block, Arms, no_arms, arm, Nested, flat, flatten}
-use Rattle.meaning.specs.Syntax.{ShapeTree, assignment, writing, printing, format, doing, continuing, typing, ending, naming, implying, logical_typing, dimensioning, parameter, definition, computed_going, logical_if, block_if, else_if, otherwise, end_if, ItemTree}
+use Rattle.meaning.specs.Syntax.{ShapeTree, assignment, writing, printing, format, doing, doing_while, end_do, continuing, typing, ending, naming, implying, implicit_none, logical_typing, dimensioning, parameter, definition, computed_going, logical_if, block_if, else_if, otherwise, end_if, ItemTree}
 use Rattle.meaning.specs.Refusals.{merge, unless, is_less}
 use Rattle.meaning.specs.LabelRules.{is_label_at, has_label}
 
 -- ---- what a statement is
 
--- what a statement does to the lists of a program unit: DO opens a range and names its label, IF THEN opens a block IF, ELSE IF
--- and ELSE open the next arm of one, END IF closes one, END closes the program unit, and any other stands in a list and may end
--- a range or not
+-- what a statement does to the lists of a program unit: DO and DO WHILE open a range and name its label or none, END DO closes
+-- one, IF THEN opens a block IF, ELSE IF and ELSE open the next arm of one, END IF closes one, END closes the program unit, and
+-- any other stands in a list and may end a range or not
 pub data Effect : Type 0 where
-  opens_range : ℕ → Effect
+  opens_range : Option ℕ → Effect
+  closes_range : Effect
   opens_block : Effect
   opens_arm : Effect
   closes_block : Effect
@@ -26,8 +27,13 @@ pub data Effect : Type 0 where
 
 -- 4294967296 stands for a label that is more, which no statement has; the terminal statement of a range is executable and is no
 -- GO TO, arithmetic or block IF, ELSE IF, ELSE, END IF, STOP, END or DO (11.10)
+abbrev pub named_label : Option (List ℕ) → Option ℕ
+named_label label = option_map (λ digits. min (number_of digits) (2 ^ 32)) label
+
 abbrev pub effect_of : ShapeTree → Effect
-effect_of (doing label comma variable limits) = opens_range (min (number_of label) (2 ^ 32))
+effect_of (doing label comma variable limits) = opens_range (named_label label)
+effect_of (doing_while label comma e) = opens_range (named_label label)
+effect_of end_do = closes_range
 effect_of (block_if e) = opens_block
 effect_of (else_if e) = opens_arm
 effect_of otherwise = opens_arm
@@ -42,22 +48,27 @@ effect_of (logical_if e statement) = stands true
 effect_of continuing = stands true
 effect_of s = stands false
 
--- the label that a DO statement names
+-- the label that a DO or DO WHILE statement names
 abbrev pub named : Effect → Option ℕ
-named (opens_range s) = Some s
+named (opens_range label) = label
 named e = None
 
 abbrev pub may_end : Effect → Bool
 may_end (stands may) = may
+may_end closes_range = true
 may_end e = false
+
+abbrev pub is_end_do : Effect → Bool
+is_end_do closes_range = true
+is_end_do e = false
 
 abbrev pub is_end : Effect → Bool
 is_end closes_unit = true
 is_end e = false
 
--- DO or IF THEN
+-- DO, DO WHILE or IF THEN
 abbrev pub is_opening : Effect → Bool
-is_opening (opens_range s) = true
+is_opening (opens_range label) = true
 is_opening opens_block = true
 is_opening e = false
 
@@ -78,6 +89,7 @@ pub data Place : Type 0 where
 abbrev pub place_of : ShapeTree → Place
 place_of (naming letters) = at_program
 place_of (implying parts) = at_implicit
+place_of implicit_none = at_implicit
 place_of (parameter constants) = at_parameter
 place_of (typing declarators) = at_typing
 place_of (logical_typing declarators) = at_typing
@@ -120,38 +132,63 @@ pub record IsRange (label : ℕ) (range : List ItemTree) : Type 0 where
   pub labelled : IsTrue (has_label label last)
   pub terminal : IsTrue (may_end (effect_of last.shape))
 
--- the range of a DO statement
-pub record IsRangeOf (head : ShapeTree) (range : List ItemTree) : Type 0 where
-  pub label : ℕ
+-- END DO is the last member of a list
+abbrev pub ends_with_end_do : Members → Bool
+ends_with_end_do none = false
+ends_with_end_do (plain x none) = is_end_do (effect_of x.shape)
+ends_with_end_do (plain x ms) = ends_with_end_do ms
+ends_with_end_do (loop x range ms) = ends_with_end_do ms
+ends_with_end_do (block arms x ms) = ends_with_end_do ms
+
+-- END DO ends one range and no other: it is a member of the range that it ends (own)
+pub record IsRangeAt (label : ℕ) (range : Members) : Type 0 where
+  pub ends : IsRange label (flat range)
+  pub one : is_end_do (effect_of ends.last.shape) ≡ ends_with_end_do range
+
+-- a DO statement without a label is ended by END DO alone (own)
+abbrev pub IsEnded : Option ℕ → Members → Type 0
+IsEnded (Some label) range = IsRangeAt label range
+IsEnded None range = IsTrue (ends_with_end_do range)
+
+-- the range of a DO or DO WHILE statement
+pub record IsRangeOf (head : ShapeTree) (range : Members) : Type 0 where
+  pub label : Option ℕ
   pub names : effect_of head ≡ opens_range label
-  pub ends : IsRange label range
+  pub ends : IsEnded label range
 
 -- a statement by itself
 pub record IsPlain (s : ShapeTree) : Type 0 where
   pub may : Bool
   pub alone : effect_of s ≡ stands may
 
+-- END DO stands at the end of a range, before nothing
+pub record IsEndDo (in_range : Bool) (s : ShapeTree) (ms : Members) : Type 0 where
+  pub ranged : IsTrue in_range
+  pub closes : effect_of s ≡ closes_range
+  pub last : ms ≡ none
+
 abbrev mutual
-  -- members that stand in so many ranges and block IFs are well nested; 32 at most are open at once (own)
-  pub IsWell : ℕ → Members → Type 0
-  IsWell around none = Unit {0}
-  IsWell around (plain x ms) = IsPlain x.shape × IsWell around ms
-  IsWell around (loop x range ms) =
-      (around < 32) × IsRangeOf x.shape (flat range) × IsWell (suc around) range × IsWell around ms
-  IsWell around (block arms x ms) =
-      (around < 32) × AreArms around arms × (effect_of x.shape ≡ closes_block) × IsWell around ms
+  -- the members of a range, or of another list, that stand in so many ranges and block IFs are well nested; 32 at most are open at
+  -- once (own)
+  pub IsWell : Bool → ℕ → Members → Type 0
+  IsWell in_range around none = Unit {0}
+  IsWell in_range around (plain x ms) = (IsPlain x.shape ⊎ IsEndDo in_range x.shape ms) × IsWell in_range around ms
+  IsWell in_range around (loop x range ms) =
+      (around < 32) × IsRangeOf x.shape range × IsWell true (suc around) range × IsWell in_range around ms
+  IsWell in_range around (block arms x ms) =
+      (around < 32) × AreArms around arms × (effect_of x.shape ≡ closes_block) × IsWell in_range around ms
 
   -- the arm of IF THEN comes first (11.6)
   pub AreArms : ℕ → Arms → Type 0
   AreArms around no_arms = ⊥
   AreArms around (arm x ms arms) =
-      (effect_of x.shape ≡ opens_block) × IsWell (suc around) ms × AreFurther around false arms
+      (effect_of x.shape ≡ opens_block) × IsWell false (suc around) ms × AreFurther around false arms
 
   -- then those of ELSE IF and ELSE, and none behind that of ELSE (11.7, 11.8)
   pub AreFurther : ℕ → Bool → Arms → Type 0
   AreFurther around over no_arms = Unit {0}
   AreFurther around over (arm x ms arms) =
-      IsFalse over × (effect_of x.shape ≡ opens_arm) × IsWell (suc around) ms × AreFurther around (is_else x.shape) arms
+      IsFalse over × (effect_of x.shape ≡ opens_arm) × IsWell false (suc around) ms × AreFurther around (is_else x.shape) arms
 
 -- each statement may stand before all that follow it (3.5)
 abbrev pub IsOrdered : List ItemTree → Type 0
@@ -163,7 +200,7 @@ pub record IsProgram (t : Nested) : Type 0 where
   pub front : Members
   pub last : ItemTree
   pub parts : t.body ≡ joined front (plain last none)
-  pub well : IsWell 0 front
+  pub well : IsWell false 0 front
   pub closed : effect_of last.shape ≡ closes_unit
   pub ordered : IsOrdered (flatten t)
 
@@ -181,12 +218,12 @@ pub record IsViable (items : List ItemTree) : Type 0 where
 -- ---- what is open behind some statements
 
 -- a program unit as far as it was read: END was read, or nothing is open; or the innermost open range with its DO statement, the
--- label that this names, what stands in the range so far, and what the range stands in; or the innermost open block IF with its
+-- label that this names or none, what stands in the range so far, and what the range stands in; or the innermost open block IF with its
 -- earlier arms, the statement of the arm that is read, what stands in this so far, and what the block IF stands in
 pub data Unfinished : Type 0 where
   ended : Members → Unfinished
   body : Members → Unfinished
-  range : ItemTree → ℕ → Members → Unfinished → Unfinished
+  range : ItemTree → Option ℕ → Members → Unfinished → Unfinished
   branch : Arms → ItemTree → Members → Unfinished → Unfinished
 
 abbrev pub start : Unfinished
@@ -199,9 +236,9 @@ innermost (body ms) = ms
 innermost (range head s ms around) = ms
 innermost (branch arms head ms around) = ms
 
--- an open range with its label, or an open block IF, and whether ELSE was read
+-- an open range with its label or none, or an open block IF, and whether ELSE was read
 pub data Level : Type 0 where
-  in_range : ℕ → Level
+  in_range : Option ℕ → Level
   in_block : Bool → Level
 
 -- what is open, innermost first
@@ -211,13 +248,18 @@ levels (body ms) = []
 levels (range head s ms around) = in_range s ∷ levels around
 levels (branch arms head ms around) = in_block (is_else head.shape) ∷ levels around
 
+-- a statement's label is the one that a DO statement names
+abbrev pub is_label_named : Option ℕ → Option ℕ → Bool
+is_label_named label None = false
+is_label_named label (Some s) = is_label_at label s
+
 -- more members in the innermost list; their last statement has this label, or none, and ends the innermost ranges whose
 -- DO statements name it (11.10.1)
 abbrev pub add : Option ℕ → Members → Unfinished → Unfinished
 add label more (ended ms) = ended (joined ms more)
 add label more (body ms) = body (joined ms more)
 add label more (range head s ms around) =
-    if is_label_at label s then add label (loop head (joined ms more) none) around
+    if is_label_named label s then add label (loop head (joined ms more) none) around
     else range head s (joined ms more) around
 add label more (branch arms head ms around) = branch arms head (joined ms more) around
 
@@ -235,8 +277,14 @@ abbrev pub close_block : ItemTree → Unfinished → Unfinished
 close_block x (branch arms head ms around) = add x.label (block (with_arm arms head ms) x none) around
 close_block x z = z
 
+-- behind END DO, which closes the innermost range alone; no rule allows it elsewhere
+abbrev pub close_range : ItemTree → Unfinished → Unfinished
+close_range x (range head s ms around) = add None (loop head (joined ms (plain x none)) none) around
+close_range x z = z
+
 abbrev pub past_by : Unfinished → ItemTree → Effect → Unfinished
 past_by z x (opens_range s) = range x s none z
+past_by z x closes_range = close_range x z
 past_by z x opens_block = branch no_arms x none z
 past_by z x opens_arm = next_arm x z
 past_by z x closes_block = close_block x z
@@ -276,13 +324,14 @@ is_stray e opened = false
 
 -- an open DO statement names the label
 abbrev pub is_named_at : Option ℕ → Level → Bool
-is_named_at label (in_range s) = is_label_at label s
+is_named_at label (in_range s) = is_label_named label s
 is_named_at label (in_block over) = false
 
 abbrev pub is_named : Option ℕ → List Level → Bool
 is_named label opened = list_any (is_named_at label) opened
 
--- an open DO statement names the label, and within its range another that names another, or a block IF, is open: they would cross
+-- an open DO statement names the label, and within its range another that names another or none, or a block IF, is open: they would
+-- cross
 abbrev pub is_hidden : Option ℕ → List Level → Bool
 is_hidden label [] = false
 is_hidden label (l ∷ opened) = if is_named_at label l then is_hidden label opened else is_named label opened
@@ -292,11 +341,23 @@ abbrev pub is_end_in_range : Effect → List Level → Bool
 is_end_in_range closes_unit (in_range s ∷ around) = true
 is_end_in_range e opened = false
 
+-- the innermost open thing is a range that END DO with the label ends: its DO statement names no label, or this one
+abbrev pub may_close : Option ℕ → Level → Bool
+may_close label (in_range None) = true
+may_close label (in_range (Some s)) = is_label_at label s
+may_close label (in_block over) = false
+
+-- END DO where it ends no range, or where another open DO statement names its label (own)
+abbrev pub is_stray_end_do : Option ℕ → Effect → List Level → Bool
+is_stray_end_do label closes_range [] = true
+is_stray_end_do label closes_range (l ∷ around) = not (may_close label l) || is_named label around
+is_stray_end_do label e opened = false
+
 -- N4: the statement has the label of a range that it can't end, since something else is open within or since it may not end one;
--- or it is a DO statement whose range and an open one couldn't both end; or it is END in a range
+-- or it is a DO statement whose range and an open one couldn't both end; or it is END in a range; or END DO that can't end one
 abbrev pub is_crossing : List Level → Option ℕ → Effect → Bool
 is_crossing opened label e =
-    is_hidden label opened || ((is_named label opened && not (may_end e)) || (is_hidden (named e) opened || is_end_in_range e opened))
+    is_hidden label opened || ((is_named label opened && not (may_end e)) || (is_hidden (named e) opened || (is_end_in_range e opened || is_stray_end_do label e opened)))
 
 -- N5: 32 are open already
 abbrev pub is_too_deep : List Level → Effect → Bool

@@ -4,7 +4,7 @@ use Rattle.std.specs.Prelude.{ℕ, ℤ, pos, Bool, true, false, ◌&&◌, nat_lt
 use Rattle.std.specs.List.{fold}
 use Rattle.std.specs.Str.{bytes_eq}
 use Rattle.meaning.specs.declared.ending.Value.{Value}
-use Rattle.meaning.specs.Syntax.{ExprTree, name, ExprsTree, no_exprs, exprs, BoundsTree, DeclaratorTree, ConstantTree, ShapeTree, typing, logical_typing, dimensioning, parameter, format, naming, implying, initializing, assignment, definition, ItemTree}
+use Rattle.meaning.specs.Syntax.{ExprTree, name, ExprsTree, no_exprs, exprs, BoundsTree, DeclaratorTree, ConstantTree, ShapeTree, typing, logical_typing, dimensioning, parameter, format, naming, implying, implicit_none, initializing, assignment, definition, ItemTree}
 use Rattle.meaning.specs.Arrays.{Dimension}
 use Rattle.meaning.specs.Types.{Types, types_of}
 use Rattle.meaning.specs.Values.{Valued, Arrays, Known, Calls, Scope, value, as_integer}
@@ -113,10 +113,11 @@ defined_by arrays (assignment n (exprs e es) body) = definition_if (is_some (arr
 defined_by arrays (definition n body) = definition_if (is_some (arrays n)) n [] body
 defined_by arrays s = None
 
--- PROGRAM, IMPLICIT, PARAMETER, type, DIMENSION, DATA and FORMAT statements aren't executable (chapter 7)
+-- PROGRAM, IMPLICIT, IMPLICIT NONE, PARAMETER, type, DIMENSION, DATA and FORMAT statements aren't executable (chapter 7)
 abbrev pub is_specification : ShapeTree → Bool
 is_specification (naming letters) = true
 is_specification (implying parts) = true
+is_specification implicit_none = true
 is_specification (parameter constants) = true
 is_specification (typing ds) = true
 is_specification (logical_typing ds) = true

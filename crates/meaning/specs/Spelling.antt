@@ -10,7 +10,7 @@ use Rattle.meaning.specs.declared.syntax.ControlOrder.{ControlOrder}
 use Rattle.meaning.specs.declared.syntax.ControlOrder.TheVariants as orders
 use Rattle.meaning.specs.declared.syntax.DataType.{DataType}
 use Rattle.meaning.specs.declared.syntax.DataType.TheVariants as types
-use Rattle.meaning.specs.Syntax.{ExprTree, number, truth, name, signed, negated, binary, paren, element, call, ExprsTree, no_exprs, exprs, BoundsTree, DeclaratorTree, UnitTree, star, unit_number, LimitsTree, ListItemTree, value_item, loop_item, ListItemsTree, no_items, more_items, FormatTree, format_label, format_constant, ControlTree, LettersTree, ImplicitTree, ConstantTree, DataConstantTree, data_number, data_truth, data_name, RepeatTree, repeat_number, repeat_name, DataValueTree, DataSetTree, StopTree, stop_silent, stop_digits, stop_text, ShapeTree, assignment, writing, printing, format, doing, continuing, typing, ending, naming, implying, logical_typing, dimensioning, parameter, initializing, definition, going, computed_going, arithmetic_if, logical_if, block_if, else_if, otherwise, end_if, stopping}
+use Rattle.meaning.specs.Syntax.{ExprTree, number, truth, name, signed, negated, binary, paren, element, call, ExprsTree, no_exprs, exprs, BoundsTree, DeclaratorTree, UnitTree, star, unit_number, LimitsTree, ListItemTree, value_item, loop_item, ListItemsTree, no_items, more_items, FormatTree, format_label, format_constant, ControlTree, LettersTree, ImplicitTree, ConstantTree, DataConstantTree, data_number, data_truth, data_name, RepeatTree, repeat_number, repeat_name, DataValueTree, DataSetTree, StopTree, stop_silent, stop_digits, stop_text, ShapeTree, assignment, writing, printing, format, doing, continuing, typing, ending, naming, implying, logical_typing, dimensioning, parameter, initializing, definition, going, computed_going, arithmetic_if, logical_if, block_if, else_if, otherwise, end_if, stopping, doing_while, end_do, implicit_none}
 use Rattle.meaning.specs.Characters.{is_letter, is_number, is_name, is_label, apostrophe}
 
 -- ---- expressions (6.1)
@@ -262,6 +262,15 @@ spell_label label = label
 abbrev pub IsWellLabel : List ℕ → Type 0
 IsWellLabel label = IsTrue (is_label label)
 
+-- the label of a DO or DO WHILE statement, and a comma behind it or none; where there is no label there is no comma (11.10, own)
+abbrev pub spell_range_label : Option (List ℕ) → Bool → List ℕ
+spell_range_label None comma = []
+spell_range_label (Some label) comma = label ++ spell_comma comma
+
+abbrev pub IsWellRangeLabel : Option (List ℕ) → Bool → Type 0
+IsWellRangeLabel None comma = IsTrue (not comma)
+IsWellRangeLabel (Some label) comma = IsTrue (is_label label)
+
 -- the text of a character constant: each apostrophe in it is written twice (4.8)
 abbrev pub is_paired : List ℕ → Bool
 is_paired [] = true
@@ -417,7 +426,7 @@ spell (assignment target subscripts e) = target ++ (spell_subscripts subscripts 
 spell (writing control xs) = codes "WRITE(" ++ (spell_control control ++ (41 ∷ spell_items xs))
 spell (printing source xs) = codes "PRINT" ++ (spell_source source ++ spell_items_behind xs)
 spell (format text) = codes "FORMAT(" ++ (text ++ 41 ∷ [])
-spell (doing label comma variable limits) = codes "DO" ++ (label ++ (spell_comma comma ++ (variable ++ (61 ∷ spell_limits limits))))
+spell (doing label comma variable limits) = codes "DO" ++ (spell_range_label label comma ++ (variable ++ (61 ∷ spell_limits limits)))
 spell continuing = codes "CONTINUE"
 spell (typing declarators) = codes "INTEGER" ++ spell_declarators declarators
 spell ending = codes "END"
@@ -437,13 +446,16 @@ spell (else_if e) = codes "ELSEIF(" ++ (spell_expr e ++ codes ")THEN")
 spell otherwise = codes "ELSE"
 spell end_if = codes "ENDIF"
 spell (stopping text) = codes "STOP" ++ spell_stop text
+spell (doing_while label comma e) = codes "DO" ++ (spell_range_label label comma ++ (codes "WHILE(" ++ (spell_expr e ++ 41 ∷ [])))
+spell end_do = codes "ENDDO"
+spell implicit_none = codes "IMPLICITNONE"
 
 abbrev pub IsWell : ShapeTree → Type 0
 IsWell (assignment target subscripts e) = IsTrue (is_name target) × (AreWellSubscripts subscripts × IsWellExpr e)
 IsWell (writing control xs) = IsWellControl control × AreWellItems 0 xs
 IsWell (printing source xs) = IsWellSource source × AreWellItems 0 xs
 IsWell (format text) = IsTrue (balanced 0 false text)
-IsWell (doing label comma variable limits) = IsTrue (is_label label) × (IsTrue (is_name variable) × IsWellLimits limits)
+IsWell (doing label comma variable limits) = IsWellRangeLabel label comma × (IsTrue (is_name variable) × IsWellLimits limits)
 IsWell continuing = Unit {0}
 IsWell (typing declarators) = AreWell IsWellDeclarator declarators
 IsWell ending = Unit {0}
@@ -464,6 +476,9 @@ IsWell (else_if e) = IsWellExpr e
 IsWell otherwise = Unit {0}
 IsWell end_if = Unit {0}
 IsWell (stopping text) = IsWellStop text
+IsWell (doing_while label comma e) = IsWellRangeLabel label comma × IsWellExpr e
+IsWell end_do = Unit {0}
+IsWell implicit_none = Unit {0}
 
 -- the text reads as the form
 pub record Reads (text : List ℕ) (form : ShapeTree) : Type 0 where

@@ -149,16 +149,17 @@ pub record ControlTree : Type 0 where
 
 -- a statement: PROGRAM with its name (14.1), IMPLICIT (8.5), an assignment to a variable or an element (10.1), a statement
 -- function without dummies (15.4), WRITE and PRINT with a list (12.8), FORMAT with its text (13.1), DO with a label,
--- a comma or none, a variable and limits (11.10), CONTINUE (11.11), INTEGER and LOGICAL with their declarators (8.4.1),
+-- a comma or none, a variable and limits (11.10), or without a label (own), CONTINUE (11.11), INTEGER and LOGICAL with their declarators (8.4.1),
 -- DIMENSION (8.1), PARAMETER (8.6), DATA with its lists and constants (9.1), GO TO (11.1), computed GO TO with labels, a comma or none, and an expression (11.2),
 -- arithmetic IF with three labels (11.4), logical IF with a statement (11.5), IF THEN, ELSE IF, ELSE and END IF (11.6 to 11.9),
--- STOP (11.12), END (3.5)
+-- STOP (11.12), END (3.5), DO WHILE with a label or none, a comma or none, and a condition (own), END DO (own), IMPLICIT NONE
+-- (own)
 pub data ShapeTree : Type 0 where
   assignment : List ℕ → ExprsTree → ExprTree → ShapeTree
   writing : ControlTree → ListItemsTree → ShapeTree
   printing : FormatTree → ListItemsTree → ShapeTree
   format : List ℕ → ShapeTree
-  doing : List ℕ → Bool → List ℕ → LimitsTree → ShapeTree
+  doing : Option (List ℕ) → Bool → List ℕ → LimitsTree → ShapeTree
   continuing : ShapeTree
   typing : List DeclaratorTree → ShapeTree
   ending : ShapeTree
@@ -178,6 +179,9 @@ pub data ShapeTree : Type 0 where
   otherwise : ShapeTree
   end_if : ShapeTree
   stopping : StopTree → ShapeTree
+  doing_while : Option (List ℕ) → Bool → ExprTree → ShapeTree
+  end_do : ShapeTree
+  implicit_none : ShapeTree
 
 -- a statement in its place: its initial line, its label and what it says
 pub record ItemTree : Type 0 where
@@ -265,7 +269,7 @@ shape_tree (shapes.Assignment target subscripts value) = assignment target.items
 shape_tree (shapes.Write control list) = writing (control_tree control) (list_items_tree list)
 shape_tree (shapes.Print source list) = printing (format_tree source) (list_items_tree list)
 shape_tree (shapes.Format text) = format text.items
-shape_tree (shapes.Do label comma variable limits) = doing label.items comma variable.items (limits_tree limits)
+shape_tree (shapes.Do label comma variable limits) = doing (option_map (λ l. l.items) label) comma variable.items (limits_tree limits)
 shape_tree shapes.Continue = continuing
 shape_tree (shapes.Integer declarators) = typing (map declarator_tree declarators.items)
 shape_tree shapes.End = ending
@@ -286,3 +290,6 @@ shape_tree (shapes.ElseIf condition) = else_if (expr_tree condition)
 shape_tree shapes.Else = otherwise
 shape_tree shapes.EndIf = end_if
 shape_tree (shapes.Stop text) = stopping (stop_tree text)
+shape_tree (shapes.DoWhile label comma condition) = doing_while (option_map (λ l. l.items) label) comma (expr_tree condition)
+shape_tree shapes.EndDo = end_do
+shape_tree shapes.ImplicitNone = implicit_none

@@ -244,6 +244,8 @@ pub enum Shape {
     Program(Vec<u8>),
     /// `IMPLICIT`, and data types with letters.
     Implicit(Vec<ImplicitPart>),
+    /// `IMPLICITNONE`
+    ImplicitNone,
     /// `name=value` or `name(subscripts)=value`
     Assignment {
         name: Vec<u8>,
@@ -262,13 +264,22 @@ pub enum Shape {
     },
     /// `FORMAT(text)`
     Format(Vec<u8>),
-    /// `DO label variable=limits`, the label as its digits stand there; a comma may stand behind it.
+    /// `DO label variable=limits`, the label as its digits stand there; a comma may stand behind it. Or without a label, which
+    /// END DO ends.
     Do {
-        label: Vec<u8>,
+        label: Option<Vec<u8>>,
         comma: bool,
         variable: Vec<u8>,
         limits: Limits,
     },
+    /// `DO label WHILE(condition)`, with a label and a comma as DO has them.
+    DoWhile {
+        label: Option<Vec<u8>>,
+        comma: bool,
+        condition: Expr,
+    },
+    /// `ENDDO`
+    EndDo,
     /// `CONTINUE`
     Continue,
     /// `INTEGER`, and names and arrays with commas between.
@@ -402,11 +413,14 @@ pub enum Kind {
     Write,
     Format,
     Do,
+    DoWhile,
+    EndDo,
     Continue,
     Integer,
     End,
     Program,
     Implicit,
+    ImplicitNone,
     Logical,
     Dimension,
     Parameter,

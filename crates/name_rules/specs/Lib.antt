@@ -2,3 +2,4 @@ pub mod HeldNames
 pub mod GivenAt
 pub mod Lettered
 pub mod Disputed
+pub mod Rivals

@@ -8,6 +8,7 @@ ghost use Rattle.rule_passes.specs.Telling.{IsLeast};
 
 use crate::against::used_against;
 use crate::givings::given_too_much;
+use crate::implicits::rival_implicit;
 use crate::letters::clashing_letters;
 use crate::logicals::logical_intrinsic;
 use crate::twofold::used_twofold;
@@ -29,7 +30,9 @@ pub fn disputed_name(
     let twofold = used_twofold(alloc, roles, items)?;
     let logical = logical_intrinsic(alloc, roles, items)?;
     let letters = clashing_letters(alloc, items)?;
-    let last = lesser(logical, letters);
+    let rivals = rival_implicit(items)?;
+    let implicit = lesser(letters, rivals);
+    let last = lesser(logical, implicit);
     let later = lesser(twofold, last);
     let second = lesser(against, later);
     Ok(lesser(given, second))

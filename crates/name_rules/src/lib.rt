@@ -6,6 +6,7 @@ mod against;
 mod disputes;
 mod given;
 mod givings;
+mod implicits;
 mod letters;
 mod logicals;
 mod twofold;

@@ -1,8 +1,8 @@
 -- What the code's program unit as far as it was read stands for, and what it says of a statement.
 use Rattle.meaning.specs.Trees.{item_tree, members_tree, arms_tree}
-use Rattle.meaning.specs.Nesting.{Unfinished, ended, body, range, branch, Effect, opens_range, opens_block, opens_arm, closes_block, closes_unit, stands}
+use Rattle.meaning.specs.Nesting.{Unfinished, ended, body, range, branch, Effect, opens_range, closes_range, opens_block, opens_arm, closes_block, closes_unit, stands}
 use Rattle.nesting.specs.declared.effect.Effect.{Effect as Does}
-use Rattle.nesting.specs.declared.effect.Effect.TheVariants.{OpensRange, OpensBlock, OpensArm, ClosesBlock, ClosesUnit, Stands}
+use Rattle.nesting.specs.declared.effect.Effect.TheVariants.{OpensRange, ClosesRange, OpensBlock, OpensArm, ClosesBlock, ClosesUnit, Stands}
 use Rattle.nesting.specs.declared.unfinished.Open.{Open}
 use Rattle.nesting.specs.declared.unfinished.Open.TheVariants.{Ended, Body, Range', Branch'}
 
@@ -14,6 +14,7 @@ unfinished (Branch' arms head members p around) = branch (arms_tree arms.items) 
 
 abbrev pub effect : Does → Effect
 effect (OpensRange s) = opens_range s
+effect ClosesRange = closes_range
 effect OpensBlock = opens_block
 effect OpensArm = opens_arm
 effect ClosesBlock = closes_block

@@ -1,7 +1,7 @@
 //! What a statement does to the lists of a program unit.
 
-ghost use Rattle.std.specs.Prelude.{◌≡◌};
-ghost use Rattle.meaning.specs.Nesting.{effect_of, is_else, is_end, is_opening, may_end, named};
+ghost use Rattle.std.specs.Prelude.{◌≡◌, option_map};
+ghost use Rattle.meaning.specs.Nesting.{effect_of, named_label, is_else, is_end, is_opening, may_end, named};
 ghost use Rattle.meaning.specs.Trees.{item_tree};
 ghost use Rattle.nesting.specs.Open.{effect};
 
@@ -11,8 +11,10 @@ use meaning::syntax::{Item, Shape};
 /// What a statement does to the lists of a program unit.
 #[derive(Clone, Copy)]
 pub enum Effect {
-    /// DO opens a range, and names its label, which is 4294967296 where it is more.
-    OpensRange(u64),
+    /// DO and DO WHILE open a range, and name its label, which is 4294967296 where it is more, or none.
+    OpensRange(Option<u64>),
+    /// END DO closes a range.
+    ClosesRange,
     /// IF THEN opens a block IF.
     OpensBlock,
     /// ELSE IF and ELSE open the next arm of a block IF.
@@ -25,12 +27,24 @@ pub enum Effect {
     Stands(bool),
 }
 
+/// The label that a DO or DO WHILE statement names.
+fn named_by(label: &Option<Vec<u8>>) -> Option<u64>
+    ensures { result ≡ named_label (option_map (λ l. l.items) label.now) }
+{
+    match label {
+        Some(digits) => Some(number(digits)),
+        None => None,
+    }
+}
+
 /// What the statement does.
 pub fn effect_of_item(item: &Item) -> Effect
     ensures { effect result ≡ effect_of (item_tree item.now).shape }
 {
     match &*item.form.shape {
-        Shape::Do { label, .. } => Effect::OpensRange(number(label)),
+        Shape::Do { label, .. } => Effect::OpensRange(named_by(label)),
+        Shape::DoWhile { label, .. } => Effect::OpensRange(named_by(label)),
+        Shape::EndDo => Effect::ClosesRange,
         Shape::IfThen(_) => Effect::OpensBlock,
         Shape::ElseIf(_) => Effect::OpensArm,
         Shape::Else => Effect::OpensArm,
@@ -62,8 +76,9 @@ pub fn label_named(done: Effect) -> Option<u64>
     ensures { result ≡ named (effect done) }
 {
     match done {
-        Effect::OpensRange(label) => Some(label),
-        Effect::OpensBlock
+        Effect::OpensRange(label) => label,
+        Effect::ClosesRange
+        | Effect::OpensBlock
         | Effect::OpensArm
         | Effect::ClosesBlock
         | Effect::ClosesUnit
@@ -77,6 +92,7 @@ pub fn may_end_range(done: Effect) -> bool
 {
     match done {
         Effect::Stands(may) => may,
+        Effect::ClosesRange => true,
         Effect::OpensRange(_)
         | Effect::OpensBlock
         | Effect::OpensArm
@@ -92,6 +108,7 @@ pub fn closes_unit(done: Effect) -> bool
     match done {
         Effect::ClosesUnit => true,
         Effect::OpensRange(_)
+        | Effect::ClosesRange
         | Effect::OpensBlock
         | Effect::OpensArm
         | Effect::ClosesBlock
@@ -105,6 +122,10 @@ pub fn opens_level(done: Effect) -> bool
 {
     match done {
         Effect::OpensRange(_) | Effect::OpensBlock => true,
-        Effect::OpensArm | Effect::ClosesBlock | Effect::ClosesUnit | Effect::Stands(_) => false,
+        Effect::ClosesRange
+        | Effect::OpensArm
+        | Effect::ClosesBlock
+        | Effect::ClosesUnit
+        | Effect::Stands(_) => false,
     }
 }

@@ -28,6 +28,7 @@ fn place_of_item(item: &Item) -> Place
     match &*item.form.shape {
         Shape::Program(_) => Place::Program,
         Shape::Implicit(_) => Place::Implicit,
+        Shape::ImplicitNone => Place::Implicit,
         Shape::Parameter(_) => Place::Parameter,
         Shape::Integer(_) => Place::Typing,
         Shape::Logical(_) => Place::Typing,

@@ -1,7 +1,7 @@
 //! A program unit as far as it was read, and what may stand behind it.
 
 ghost use Rattle.std.specs.Prelude.{◌≡◌, nat_le, length, IfOk};
-ghost use Rattle.meaning.specs.Nesting.{levels, innermost, is_stray as stray, is_named as named_by, is_hidden as hidden_by, is_end_in_range as ends_in_range, is_crossing, is_too_deep, breaks_nesting, is_ended as ended_by, add as added, next_arm as next_arm_of, close_block as close_block_of, with_arm as with_arm_of, range, branch, past as past_of, ended, joined, effect_of};
+ghost use Rattle.meaning.specs.Nesting.{levels, innermost, is_stray as stray, is_named as named_by, is_hidden as hidden_by, is_end_in_range as ends_in_range, is_crossing, is_too_deep, breaks_nesting, is_ended as ended_by, add as added, next_arm as next_arm_of, close_block as close_block_of, close_range as close_range_of, is_label_named, is_stray_end_do, may_close, in_range, with_arm as with_arm_of, range, branch, past as past_of, ended, joined, effect_of};
 ghost use Rattle.meaning.specs.LabelRules.{is_label_at};
 ghost use Rattle.meaning.specs.Trees.{item_tree, member_before, members_tree, arms_tree, none, plain, loop, block, no_arms};
 ghost use Rattle.nesting.specs.Open.{unfinished, effect};
@@ -24,7 +24,7 @@ pub enum Open {
     /// far.
     Range {
         head: Item,
-        label: u64,
+        label: Option<u64>,
         members: Vec<Member>,
         around: Box<Open>,
     },
@@ -61,6 +61,16 @@ fn is_label(label: Option<u64>, other: u64) -> bool
     }
 }
 
+/// Whether a label is the one that a DO statement names.
+fn is_label_of(label: Option<u64>, other: Option<u64>) -> bool
+    ensures { result ≡ is_label_named label other }
+{
+    match other {
+        Some(other) => is_label(label, other),
+        None => false,
+    }
+}
+
 /// Whether an open DO statement names the label.
 fn is_named(so_far: &Open, label: Option<u64>) -> bool
     ensures { result ≡ named_by label (levels (unfinished so_far.now)) }
@@ -71,7 +81,7 @@ fn is_named(so_far: &Open, label: Option<u64>) -> bool
             label: other,
             around,
             ..
-        } => is_label(label, *other) || is_named(around, label),
+        } => is_label_of(label, *other) || is_named(around, label),
         Open::Branch { around, .. } => is_named(around, label),
     }
 }
@@ -87,7 +97,7 @@ fn is_hidden(so_far: &Open, label: Option<u64>) -> bool
             around,
             ..
         } => {
-            if is_label(label, *other) {
+            if is_label_of(label, *other) {
                 is_hidden(around, label)
             } else {
                 is_named(around, label)
@@ -119,13 +129,19 @@ fn is_stray(so_far: &Open, done: Effect) -> bool
         Open::Branch { head, .. } => match done {
             Effect::OpensArm => is_else_item(head),
             Effect::ClosesUnit => true,
-            Effect::OpensRange(_) | Effect::OpensBlock | Effect::ClosesBlock | Effect::Stands(_) =>
-                false,
+            Effect::OpensRange(_)
+            | Effect::ClosesRange
+            | Effect::OpensBlock
+            | Effect::ClosesBlock
+            | Effect::Stands(_) => false,
         },
         Open::Ended(_) | Open::Body(_) | Open::Range { .. } => match done {
             Effect::OpensArm | Effect::ClosesBlock => true,
-            Effect::OpensRange(_) | Effect::OpensBlock | Effect::ClosesUnit | Effect::Stands(_) =>
-                false,
+            Effect::OpensRange(_)
+            | Effect::ClosesRange
+            | Effect::OpensBlock
+            | Effect::ClosesUnit
+            | Effect::Stands(_) => false,
         },
     }
 }
@@ -140,6 +156,38 @@ fn ends_unit_in_range(so_far: &Open, done: Effect) -> bool
     }
 }
 
+/// Whether END DO with a label is where it ends no range, or another open DO statement names its label.
+fn is_stray_end(so_far: &Open, label: Option<u64>, done: Effect) -> bool
+    ensures { result ≡ is_stray_end_do label (effect done) (levels (unfinished so_far.now)) }
+{
+    match done {
+        Effect::ClosesRange => match so_far {
+            Open::Range {
+                label: other,
+                around,
+                ..
+            } => !may_close_range(label, *other) || is_named(around, label),
+            Open::Ended(_) | Open::Body(_) | Open::Branch { .. } => true,
+        },
+        Effect::OpensRange(_)
+        | Effect::OpensBlock
+        | Effect::OpensArm
+        | Effect::ClosesBlock
+        | Effect::ClosesUnit
+        | Effect::Stands(_) => false,
+    }
+}
+
+/// Whether END DO with a label may end the range of a DO statement, which names a label or none.
+fn may_close_range(label: Option<u64>, other: Option<u64>) -> bool
+    ensures { result ≡ may_close label (in_range other) }
+{
+    match other {
+        Some(other) => is_label(label, other),
+        None => true,
+    }
+}
+
 /// Whether a range would cross another or a block IF with the statement, or end with one that may not end it, or hold END.
 fn crosses(so_far: &Open, label: Option<u64>, done: Effect) -> bool
     ensures { result ≡ is_crossing (levels (unfinished so_far.now)) label (effect done) }
@@ -148,6 +196,7 @@ fn crosses(so_far: &Open, label: Option<u64>, done: Effect) -> bool
         || (is_named(so_far, label) && !may_end_range(done))
         || is_hidden(so_far, label_named(done))
         || ends_unit_in_range(so_far, done)
+        || is_stray_end(so_far, label, done)
 }
 
 /// Whether the statement would open one thing too many.
@@ -276,7 +325,7 @@ fn with_member(so_far: Open, label: Option<u64>, member: Member) -> Result<Open,
             around,
         } => match with_last(members, member) {
             Ok(members) => {
-                if is_label(label, other) {
+                if is_label_of(label, other) {
                     with_member(Box::into_inner(around), label, whole_loop(head, members))
                 } else {
                     Ok(Open::Range {
@@ -381,6 +430,31 @@ fn close_block(so_far: Open, item: Item) -> Result<Open, AllocError>
     }
 }
 
+/// The innermost range as a member of the list that holds it, behind END DO.
+fn close_range(so_far: Open, item: Item) -> Result<Open, AllocError>
+    ensures { IfOk result (λ z. unfinished z ≡ close_range_of (item_tree item) (unfinished so_far)) }
+{
+    match so_far {
+        Open::Range {
+            head,
+            label: _,
+            members,
+            around,
+        } => match with_last(members, Member::Plain(item)) {
+            Ok(members) => with_member(Box::into_inner(around), None, whole_loop(head, members)),
+            Err(refused) => {
+                drop(head);
+                drop(around);
+                Err(refused)
+            }
+        },
+        other => {
+            drop(item);
+            Ok(other)
+        }
+    }
+}
+
 /// The program unit behind END.
 fn close_unit(so_far: Open, item: Item) -> Result<Open, AllocError>
     ensures { IfOk result (λ z. unfinished z ≡ ended (joined (innermost (unfinished so_far)) (plain (item_tree item) none))) }
@@ -390,7 +464,7 @@ fn close_unit(so_far: Open, item: Item) -> Result<Open, AllocError>
 }
 
 /// The range of a DO statement, which names the label, is open.
-fn open_range(alloc: Global, so_far: Open, head: Item, label: u64) -> Result<Open, AllocError>
+fn open_range(alloc: Global, so_far: Open, head: Item, label: Option<u64>) -> Result<Open, AllocError>
     ensures { IfOk result (λ z. unfinished z ≡ range (item_tree head) label none (unfinished so_far)) }
 {
     match Box::new(alloc, so_far) {
@@ -432,6 +506,7 @@ pub fn past(alloc: Global, so_far: Open, item: Item) -> Result<Open, AllocError>
 {
     match effect_of_item(&item) {
         Effect::OpensRange(label) => open_range(alloc, so_far, item, label),
+        Effect::ClosesRange => close_range(so_far, item),
         Effect::OpensBlock => open_block(alloc, so_far, item),
         Effect::OpensArm => next_arm(alloc, so_far, item),
         Effect::ClosesBlock => close_block(so_far, item),

@@ -1,10 +1,10 @@
 -- Well nested members end the ranges and block IFs that they begin.
-use Rattle.std.proofs.Common.{◌≡◌, ℕ, suc, ◌+◌, ◌<◌, ◌≤◌, Bool, true, false, cond, List, [], ◌∷◌, ◌++◌, refl, sym, ap, subst, ◌∙◌, arith, inl, inr, append_assoc}
+use Rattle.std.proofs.Common.{◌≡◌, Option, Some, None, ℕ, suc, ◌+◌, ◌<◌, ◌≤◌, Bool, true, false, cond, List, [], ◌∷◌, ◌++◌, refl, sym, ap, subst, ◌∙◌, arith, inl, inr, append_assoc}
 use Rattle.std.specs.Prelude.{◌⊎◌, IsTrue, count_by}
 use Rattle.std.proofs.lemmas.List.Sums.{sum_by-cons, sum_by-append}
 use Rattle.meaning.specs.Syntax.{ItemTree}
 use Rattle.meaning.specs.Trees.{Members, none, plain, loop, block, Arms, no_arms, arm, flat, flat_arms}
-use Rattle.meaning.specs.Nesting.{Effect, opens_range, opens_block, opens_arm, closes_block, closes_unit, stands, effect_of, is_else, IsRange, IsWell, AreFurther}
+use Rattle.meaning.specs.Nesting.{Effect, opens_range, closes_range, opens_block, opens_arm, closes_block, closes_unit, stands, effect_of, is_else, IsRange, IsRangeAt, IsEnded, IsPlain, IsEndDo, IsWell, AreFurther}
 use Rattle.meaning.specs.RuleTold.{LackLabel, IsOpenBehind, IsInnermost}
 use Rattle.nesting_laws.proofs.Names.{all_left, all_right}
 
@@ -99,13 +99,13 @@ needs_block e = false
 pub record IsWithin (around : ℕ) (g : List ItemTree) (h : ItemTree) (q : List ItemTree) : Type 0 where
   pub low : blocks_ended g ≤ around + blocks_begun g
   pub needed : IsTrue (needs_block (effect_of h.shape)) → blocks_ended g < around + blocks_begun g
-  pub ends : (label : ℕ) → effect_of h.shape ≡ opens_range label → LackLabel label q → ⊥
+  pub ends : (label : ℕ) → effect_of h.shape ≡ opens_range (Some label) → LackLabel label q → ⊥
 
 pub record IsBalanced (around : ℕ) (xs : List ItemTree) : Type 0 where
   pub even : blocks_begun xs ≡ blocks_ended xs
   pub each : (g : List ItemTree) (h : ItemTree) (q : List ItemTree) → xs ≡ g ++ (h ∷ q) → IsWithin around g h q
 
-never_cons : (g : List ItemTree) (h : ItemTree) (q : List ItemTree) → [] ≡ g ++ (h ∷ q) → ⊥
+pub never_cons : (g : List ItemTree) (h : ItemTree) (q : List ItemTree) → [] ≡ g ++ (h ∷ q) → ⊥
 never_cons [] h q e = cc
 never_cons (y ∷ g) h q e = cc
 
@@ -132,7 +132,7 @@ balanced_append k xs ys a b = record {
 
 -- a statement that begins or ends no block IF and no range, or a DO statement before its range
 pub neutral_cons : (k : ℕ) (x : ItemTree) (xs : List ItemTree) (e : Effect) → effect_of x.shape ≡ e → begins_block e ≡ false → needs_block e ≡ false → ends_block e ≡ false
-    → ((label : ℕ) → e ≡ opens_range label → LackLabel label xs → ⊥) → IsBalanced k xs → IsBalanced k (x ∷ xs)
+    → ((label : ℕ) → e ≡ opens_range (Some label) → LackLabel label xs → ⊥) → IsBalanced k xs → IsBalanced k (x ∷ xs)
 neutral_cons k x xs e f no_begin no_need no_end ends b = record {
   even = c xs ∙ b.even ∙ sym (d xs);
   each = within;
@@ -168,10 +168,13 @@ neutral_cons k x xs e f no_begin no_need no_end ends b = record {
 
 -- ---- members and arms
 
-plain_ends : (may : Bool) (label : ℕ) → stands may ≡ opens_range label → ⊥
+plain_ends : (may : Bool) (label : ℕ) → stands may ≡ opens_range (Some label) → ⊥
 plain_ends may label e = cc
 
-range_label : (s label : ℕ) → opens_range s ≡ opens_range label → s ≡ label
+do_ends : (label : ℕ) → closes_range ≡ opens_range (Some label) → ⊥
+do_ends label e = cc
+
+range_label : (s : Option ℕ) (label : ℕ) → opens_range s ≡ opens_range (Some label) → s ≡ Some label
 range_label s label e = cc
 
 -- the terminal statement has the label
@@ -205,10 +208,10 @@ block_parts k x xs y e f b = record { even = even; each = within }
         let same = b.even in
         omega arith
 
-    no_range : (label : ℕ) → opens_block ≡ opens_range label → ⊥
+    no_range : (label : ℕ) → opens_block ≡ opens_range (Some label) → ⊥
     no_range label h = cc
 
-    no_end_range : (label : ℕ) → closes_block ≡ opens_range label → ⊥
+    no_end_range : (label : ℕ) → closes_block ≡ opens_range (Some label) → ⊥
     no_end_range label h = cc
 
     not_needed : (d : Effect) → d ≡ opens_block → IsTrue (needs_block d) → ⊥
@@ -262,7 +265,7 @@ arm_cons k x xs f b = record { even = c xs ∙ b.even ∙ sym (d xs); each = wit
     d : (ys : List ItemTree) → blocks_ended (x ∷ ys) ≡ blocks_ended ys
     d ys = ended_as x ys opens_arm f ∙ omega arith
 
-    no_range : (label : ℕ) → opens_arm ≡ opens_range label → ⊥
+    no_range : (label : ℕ) → opens_arm ≡ opens_range (Some label) → ⊥
     no_range label h = cc
 
     within : (g : List ItemTree) (h : ItemTree) (q : List ItemTree) → x ∷ xs ≡ g ++ (h ∷ q) → IsWithin (suc k) g h q
@@ -279,8 +282,15 @@ arm_cons k x xs f b = record { even = c xs ∙ b.even ∙ sym (d xs); each = wit
         let d1 : blocks_ended (y ∷ g) ≡ blocks_ended g = ap (λ (z : ItemTree). blocks_ended (z ∷ g)) (sym p.0) ∙ d g in
         record { low = omega arith; needed = λ t. let n = w.needed t in omega arith; ends = w.ends }
 
-loop_balanced : (k s : ℕ) (x : ItemTree) (range : List ItemTree) → effect_of x.shape ≡ opens_range s → IsRange s range → IsBalanced k range → IsBalanced k (x ∷ range)
-loop_balanced k s x range e r b = neutral_cons k x range (opens_range s) e refl refl refl (λ label f lack. range_ends s range r (subst (λ (l : ℕ). LackLabel l range) (sym (range_label s label f)) lack)) b
+loop_ends : (s : Option ℕ) (range : Members) → IsEnded s range → (label : ℕ) → s ≡ Some label → LackLabel label (flat range) → ⊥
+loop_ends None range r label e lack = absurd (let k : None ≡ Some label = e in cc)
+loop_ends (Some n) range r label e lack = range_ends n (flat range) r.ends (subst (λ (l : ℕ). LackLabel l (flat range)) (sym (some_is n label e)) lack)
+  where
+    some_is : (a b : ℕ) → Some a ≡ Some b → a ≡ b
+    some_is a b h = cc
+
+loop_balanced : (k : ℕ) (s : Option ℕ) (x : ItemTree) (range : Members) → effect_of x.shape ≡ opens_range s → IsEnded s range → IsBalanced k (flat range) → IsBalanced k (x ∷ flat range)
+loop_balanced k s x range e r b = neutral_cons k x (flat range) (opens_range s) e refl refl refl (λ label f lack. loop_ends s range r label (range_label s label f) lack) b
 
 block_balanced : (k : ℕ) (h : ItemTree) (inside : List ItemTree) (x : ItemTree) (rest : List ItemTree) → effect_of h.shape ≡ opens_block → effect_of x.shape ≡ closes_block
     → IsBalanced (suc k) inside → IsBalanced k rest → IsBalanced k (h ∷ (inside ++ (x ∷ rest)))
@@ -288,74 +298,20 @@ block_balanced k h inside x rest e f b c =
     subst (IsBalanced k) (ap (λ (xs : List ItemTree). h ∷ xs) (append_assoc inside (x ∷ []) rest)) (balanced_append k (h ∷ (inside ++ x ∷ [])) rest (block_parts k h inside x e f b) c)
 
 mutual
-  pub balanced : (n k : ℕ) (ms : Members) → IsWell n ms → IsBalanced k (flat ms)
-  balanced n k none w = balanced_none k
-  balanced n k (plain x ms) w = neutral_cons k x (flat ms) (stands w.0.may) w.0.alone refl refl refl (λ label e lack. plain_ends w.0.may label e) (balanced n k ms w.1)
-  balanced n k (loop x r ms) w = balanced_append k (x ∷ flat r) (flat ms) (loop_balanced k w.1.label x (flat r) w.1.names w.1.ends (balanced (suc n) k r w.2)) (balanced n k ms w.3)
-  balanced n k (block no_arms x ms) w = absurd w.1
-  balanced n k (block (arm h r more) x ms) w =
+  pub balanced : (r : Bool) (n k : ℕ) (ms : Members) → IsWell r n ms → IsBalanced k (flat ms)
+  balanced i n k none w = balanced_none k
+  balanced i n k (plain x ms) w = by w.0 (balanced i n k ms w.1)
+    where
+      by : IsPlain x.shape ⊎ IsEndDo i x.shape ms → IsBalanced k (flat ms) → IsBalanced k (x ∷ flat ms)
+      by (inl p) b = neutral_cons k x (flat ms) (stands p.may) p.alone refl refl refl (λ label e lack. plain_ends p.may label e) b
+      by (inr d) b = neutral_cons k x (flat ms) closes_range d.closes refl refl refl (λ label e lack. do_ends label e) b
+  balanced i n k (loop x r ms) w = balanced_append k (x ∷ flat r) (flat ms) (loop_balanced k w.1.label x r w.1.names w.1.ends (balanced true (suc n) k r w.2)) (balanced i n k ms w.3)
+  balanced i n k (block no_arms x ms) w = absurd w.1
+  balanced i n k (block (arm h r more) x ms) w =
       block_balanced k h (flat r ++ flat_arms more) x (flat ms) w.1.0 w.2
-      (balanced_append (suc k) (flat r) (flat_arms more) (balanced (suc n) (suc k) r w.1.1) (further n k false more w.1.2)) (balanced n k ms w.3)
+      (balanced_append (suc k) (flat r) (flat_arms more) (balanced false (suc n) (suc k) r w.1.1) (further n k false more w.1.2)) (balanced i n k ms w.3)
 
   pub further : (n k : ℕ) (over : Bool) (arms : Arms) → AreFurther n over arms → IsBalanced (suc k) (flat_arms arms)
   further n k over no_arms w = balanced_none (suc k)
   further n k over (arm x r more) w =
-      arm_cons k x (flat r ++ flat_arms more) w.1 (balanced_append (suc k) (flat r) (flat_arms more) (balanced (suc n) (suc k) r w.2) (further n k (is_else x.shape) more w.3))
-
--- ---- one innermost open thing
-
--- nothing is open behind well nested statements
-pub none_open : (n : ℕ) (a : Members) (g : List ItemTree) (h : ItemTree) (m : ℕ) (b : Members) → IsWell n a → flat a ≡ g ++ (h ∷ flat b) → IsWell m b → IsOpenBehind (effect_of h.shape) (flat b) → ⊥
-none_open n a g h m b w e v open_behind = by_effect (effect_of h.shape) refl open_behind
-  where
-    one : IsWithin 0 g h (flat b)
-    one = (balanced n 0 a w).each g h (flat b) e
-
-    begun : blocks_begun g + blocks_begun (h ∷ flat b) ≡ blocks_ended g + blocks_ended (h ∷ flat b)
-    begun = sym (begun_append g (h ∷ flat b)) ∙ ap blocks_begun (sym e) ∙ (balanced n 0 a w).even ∙ ap blocks_ended e ∙ ended_append g (h ∷ flat b)
-
-    clash : false ≡ true → ⊥
-    clash p = cc
-
-    by_effect : (d : Effect) → effect_of h.shape ≡ d → IsOpenBehind d (flat b) → ⊥
-    by_effect (opens_range s) f o = one.ends s f o
-    by_effect opens_block f o =
-        let b1 = begun_as h (flat b) opens_block f in
-        let d1 = ended_as h (flat b) opens_block f in
-        let even = (balanced m 0 b v).even in
-        let low = one.low in
-        let all = begun in
-        absurd (omega arith)
-    by_effect opens_arm f o =
-        let b1 = begun_as h (flat b) opens_arm f in
-        let d1 = ended_as h (flat b) opens_arm f in
-        let even = (balanced m 0 b v).even in
-        let low = one.needed (ap needs_block f) in
-        let all = begun in
-        absurd (omega arith)
-    by_effect closes_block f o = clash o
-    by_effect closes_unit f o = clash o
-    by_effect (stands may) f o = clash o
-
-pub none_innermost : (items : List ItemTree) (n : ℕ) (a : Members) (h : ItemTree) → IsWell n a → items ≡ flat a → IsInnermost items h → ⊥
-none_innermost items n a h w e i = none_open n a i.front h i.depth i.inside w (sym e ∙ i.parts) i.well i.unended
-
-pub one_innermost : (items : List ItemTree) (h k : ItemTree) → IsInnermost items h → IsInnermost items k → h ≡ k
-one_innermost items h k i j = by_place (place (i.front ++ h ∷ []) (flat i.inside) j.front k (flat j.inside) (append_assoc i.front (h ∷ []) (flat i.inside) ∙ sym i.parts ∙ j.parts))
-  where
-    by_end : (xs more : List ItemTree) → xs ++ h ∷ [] ≡ j.front ++ (k ∷ more) → flat j.inside ≡ more ++ flat i.inside → h ≡ k
-    by_end xs more e f = ends (place xs (h ∷ []) j.front k more e)
-      where
-        alone : (ys : List ItemTree) → h ∷ [] ≡ ys ++ (k ∷ more) → h ≡ k
-        alone [] p = (both_cons h k [] more p).0
-        alone (y ∷ ys) p = absurd (never_cons ys k more (both_cons h y [] (ys ++ (k ∷ more)) p).1)
-
-        ends : InFirst xs (h ∷ []) j.front k more ⊎ InSecond xs (h ∷ []) j.front k more → h ≡ k
-        ends (inl p) =
-            let whole : flat j.inside ≡ p.more ++ (h ∷ flat i.inside) = f ∙ ap (λ (ys : List ItemTree). ys ++ flat i.inside) p.last ∙ append_assoc p.more (h ∷ []) (flat i.inside) in
-            absurd (none_open j.depth j.inside p.more h i.depth i.inside j.well whole i.well i.unended)
-        ends (inr p) = alone p.more p.last
-
-    by_place : InFirst (i.front ++ h ∷ []) (flat i.inside) j.front k (flat j.inside) ⊎ InSecond (i.front ++ h ∷ []) (flat i.inside) j.front k (flat j.inside) → h ≡ k
-    by_place (inl p) = by_end i.front p.more p.first p.last
-    by_place (inr p) = absurd (none_open i.depth i.inside p.more k j.depth j.inside i.well p.last j.well j.unended)
+      arm_cons k x (flat r ++ flat_arms more) w.1 (balanced_append (suc k) (flat r) (flat_arms more) (balanced false (suc n) (suc k) r w.2) (further n k (is_else x.shape) more w.3))

@@ -1,9 +1,8 @@
 -- Statements that break no rule one behind the other, and what is open behind them.
-use Rattle.std.proofs.Common.{◌≡◌, ℕ, false, List, [], ◌∷◌, ◌++◌, Option, None, refl, sym, ap, subst, ◌∙◌}
-use Rattle.meaning.specs.LabelRules.{is_label_at}
+use Rattle.std.proofs.Common.{◌≡◌, ℕ, false, List, [], ◌∷◌, ◌++◌, Option, Some, None, refl, sym, ap, subst, ◌∙◌}
 use Rattle.meaning.specs.Syntax.{ItemTree}
 use Rattle.meaning.specs.Trees.{Members, none}
-use Rattle.meaning.specs.Nesting.{Unfinished, ended, body, range, branch, levels, is_ended, is_named, joined, add, past, behind}
+use Rattle.meaning.specs.Nesting.{Unfinished, ended, body, range, branch, is_label_named, levels, is_ended, is_named, joined, add, past, behind}
 use Rattle.nesting_laws.proofs.Joined.{joined_none, joined_joined}
 use Rattle.nesting_laws.proofs.Names.{or_left}
 use Rattle.nesting_laws.proofs.Sound.{add_longer}
@@ -40,29 +39,37 @@ front_unbroken z (x ∷ xs) ys h = (h.0, front_unbroken (past z x) xs ys h.1)
 pub add_fresh : (z : Unfinished) (l : Option ℕ) (more : Members) → is_named l (levels z) ≡ false → add l more z ≡ add None more z
 add_fresh (ended ms) l more h = refl
 add_fresh (body ms) l more h = refl
-add_fresh (range head s ms around) l more h = add_longer l more head s ms around (or_left (is_label_at l s) (is_named l (levels around)) h)
+add_fresh (range head s ms around) l more h = add_longer l more head s ms around (or_left (is_label_named l s) (is_named l (levels around)) h) ∙ sym (add_longer None more head s ms around (unnamed s))
+  where
+    unnamed : (s : Option ℕ) → is_label_named None s ≡ false
+    unnamed None = refl
+    unnamed (Some n) = refl
 add_fresh (branch arms head ms around) l more h = refl
 
 pub add_levels : (z : Unfinished) (more : Members) → levels (add None more z) ≡ levels z
 add_levels (ended ms) more = refl
 add_levels (body ms) more = refl
-add_levels (range head s ms around) more = refl
+add_levels (range head None ms around) more = refl
+add_levels (range head (Some s) ms around) more = refl
 add_levels (branch arms head ms around) more = refl
 
 pub add_goes_on : (z : Unfinished) (more : Members) → is_ended (add None more z) ≡ is_ended z
 add_goes_on (ended ms) more = refl
 add_goes_on (body ms) more = refl
-add_goes_on (range head s ms around) more = refl
+add_goes_on (range head None ms around) more = refl
+add_goes_on (range head (Some s) ms around) more = refl
 add_goes_on (branch arms head ms around) more = refl
 
 pub add_nothing : (z : Unfinished) → add None none z ≡ z
 add_nothing (ended ms) = ap (λ (m : Members). ended m) (joined_none ms)
 add_nothing (body ms) = ap (λ (m : Members). body m) (joined_none ms)
-add_nothing (range head s ms around) = ap (λ (m : Members). range head s m around) (joined_none ms)
+add_nothing (range head None ms around) = ap (λ (m : Members). range head None m around) (joined_none ms)
+add_nothing (range head (Some s) ms around) = ap (λ (m : Members). range head (Some s) m around) (joined_none ms)
 add_nothing (branch arms head ms around) = ap (λ (m : Members). branch arms head m around) (joined_none ms)
 
 pub add_add : (z : Unfinished) (l : Option ℕ) (a b : Members) → add l b (add None a z) ≡ add l (joined a b) z
 add_add (ended ms) l a b = ap (λ (m : Members). ended m) (joined_joined ms a b)
 add_add (body ms) l a b = ap (λ (m : Members). body m) (joined_joined ms a b)
-add_add (range head s ms around) l a b = rw (joined_joined ms a b) refl
+add_add (range head None ms around) l a b = rw (joined_joined ms a b) refl
+add_add (range head (Some s) ms around) l a b = rw (joined_joined ms a b) refl
 add_add (branch arms head ms around) l a b = ap (λ (m : Members). branch arms head m around) (joined_joined ms a b)

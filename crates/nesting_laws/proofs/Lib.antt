@@ -12,5 +12,6 @@ pub mod Viable
 pub mod Least
 pub mod Refused
 pub mod Balance
+pub mod Innermost
 pub mod Behind
 pub mod RuleTold

@@ -5,7 +5,7 @@ use Rattle.std.specs.List.{AllByRecursion}
 use Rattle.std.proofs.lemmas.Bool.{eqb-true}
 use Rattle.meaning.specs.LabelRules.{is_label_at}
 use Rattle.meaning.specs.Syntax.{ItemTree}
-use Rattle.meaning.specs.Nesting.{Level, in_range, in_block, is_named_at, is_named, is_hidden}
+use Rattle.meaning.specs.Nesting.{Level, in_range, in_block, is_label_named, is_named_at, is_named, is_hidden}
 
 -- no open DO statement names the label of the statement
 abbrev pub IsFresh : List Level → ItemTree → Type 0
@@ -37,12 +37,14 @@ not_false false h = absurd cc
 
 pub none_named : (opened : List Level) → is_named None opened ≡ false
 none_named [] = refl
-none_named (in_range s ∷ opened) = none_named opened
+none_named (in_range None ∷ opened) = none_named opened
+none_named (in_range (Some s) ∷ opened) = none_named opened
 none_named (in_block over ∷ opened) = none_named opened
 
 pub none_hidden : (opened : List Level) → is_hidden None opened ≡ false
 none_hidden [] = refl
-none_hidden (in_range s ∷ opened) = none_named opened
+none_hidden (in_range None ∷ opened) = none_named opened
+none_hidden (in_range (Some s) ∷ opened) = none_named opened
 none_hidden (in_block over ∷ opened) = none_named opened
 
 pub same_label : (s : ℕ) → is_label_at (Some s) s ≡ true
@@ -52,13 +54,18 @@ pub label_is : (l : Option ℕ) (s : ℕ) → is_label_at l s ≡ true → l ≡
 label_is None s h = absurd cc
 label_is (Some n) s h = ap (λ (k : ℕ). Some k) (eqb-true n s h)
 
-pub hidden_behind_same : (l : Option ℕ) (s : ℕ) (opened : List Level) → is_label_at l s ≡ true → is_hidden l (in_range s ∷ opened) ≡ is_hidden l opened
+-- the label that a DO statement names
+pub named_is : (l s : Option ℕ) → is_label_named l s ≡ true → l ≡ s
+named_is l None h = absurd cc
+named_is l (Some n) h = label_is l n h
+
+pub hidden_behind_same : (l s : Option ℕ) (opened : List Level) → is_label_named l s ≡ true → is_hidden l (in_range s ∷ opened) ≡ is_hidden l opened
 hidden_behind_same l s opened e = rw e refl
 
-pub hidden_behind_other : (l : Option ℕ) (s : ℕ) (opened : List Level) → is_label_at l s ≡ false → is_hidden l (in_range s ∷ opened) ≡ is_named l opened
+pub hidden_behind_other : (l s : Option ℕ) (opened : List Level) → is_label_named l s ≡ false → is_hidden l (in_range s ∷ opened) ≡ is_named l opened
 hidden_behind_other l s opened e = rw e refl
 
-pub named_behind_other : (l : Option ℕ) (s : ℕ) (opened : List Level) → is_label_at l s ≡ false → is_named l (in_range s ∷ opened) ≡ is_named l opened
+pub named_behind_other : (l s : Option ℕ) (opened : List Level) → is_label_named l s ≡ false → is_named l (in_range s ∷ opened) ≡ is_named l opened
 named_behind_other l s opened e = rw e refl
 
 pub fresh_unhidden : (l : Option ℕ) (opened : List Level) → is_named l opened ≡ false → is_hidden l opened ≡ false
@@ -82,8 +89,8 @@ all_follow P Q f [] h = tt
 all_follow P Q f (x ∷ xs) h = (f x h.0, all_follow P Q f xs h.1)
 
 -- what is fresh in a range is fresh around it, and hasn't the label of the range
-pub fresh_around : (s : ℕ) (opened : List Level) (x : ItemTree) → IsFresh (in_range s ∷ opened) x → IsFresh opened x
-fresh_around s opened x h = or_right (is_label_at x.label s) (is_named x.label opened) h
+pub fresh_around : (s : Option ℕ) (opened : List Level) (x : ItemTree) → IsFresh (in_range s ∷ opened) x → IsFresh opened x
+fresh_around s opened x h = or_right (is_label_named x.label s) (is_named x.label opened) h
 
-pub fresh_other : (s : ℕ) (opened : List Level) (x : ItemTree) → IsFresh (in_range s ∷ opened) x → is_label_at x.label s ≡ false
-fresh_other s opened x h = or_left (is_label_at x.label s) (is_named x.label opened) h
+pub fresh_other : (s : Option ℕ) (opened : List Level) (x : ItemTree) → IsFresh (in_range s ∷ opened) x → is_label_named x.label s ≡ false
+fresh_other s opened x h = or_left (is_label_named x.label s) (is_named x.label opened) h

@@ -1,15 +1,15 @@
 -- One statement more, and some more, where no rule is broken.
-use Rattle.std.proofs.Common.{◌≡◌, ℕ, Bool, true, false, List, [], ◌∷◌, ◌++◌, length, Option, refl, sym, ap, subst, ◌∙◌, append_assoc}
+use Rattle.std.proofs.Common.{◌≡◌, ℕ, Bool, true, false, not, inl, None, List, [], ◌∷◌, ◌++◌, length, Option, refl, sym, ap, subst, ◌∙◌, append_assoc}
 use Rattle.std.specs.List.{AllByRecursion, list_any}
 use Rattle.std.proofs.lemmas.List.{append-nil}
 use Rattle.std.proofs.lemmas.Bool.{leb-false}
 use Rattle.meaning.specs.Syntax.{ItemTree, ShapeTree, otherwise}
-use Rattle.meaning.specs.Trees.{Members, none, plain, block, Arms, no_arms, arm, flat, flat_arms}
-use Rattle.meaning.specs.Nesting.{Unfinished, ended, body, range, branch, Level, Effect, opens_range, opens_block, opens_arm, closes_block, closes_unit, stands, effect_of, levels, is_ended, is_else, is_end, is_named, may_end, with_arm, past, past_by, behind, AreArms, AreFurther, IsWell}
+use Rattle.meaning.specs.Trees.{Members, none, plain, loop, block, Arms, no_arms, arm, flat, flat_arms}
+use Rattle.meaning.specs.Nesting.{Unfinished, ended, body, range, branch, Level, Effect, opens_range, closes_range, opens_block, opens_arm, closes_block, closes_unit, stands, effect_of, levels, is_ended, is_else, is_end, is_named, is_end_do, may_close, is_stray_end_do, in_range, joined, may_end, with_arm, past, past_by, behind, AreArms, AreFurther, IsWell}
 use Rattle.nesting_laws.proofs.Joined.{flat_joined, arms_joined, flat_with_arm}
-use Rattle.nesting_laws.proofs.Names.{IsFresh, true_false, and_not, fresh_unhidden, all_append}
+use Rattle.nesting_laws.proofs.Names.{IsFresh, or_left, or_right, not_false, true_false, and_not, fresh_unhidden, all_append}
 use Rattle.nesting_laws.proofs.Clear.{MayClose, IsClear, IsClearOf}
-use Rattle.nesting_laws.proofs.Sound.{IsOpenRange, IsOpenBlock, IsSound, EndsWith, text, add_sound, add_text, add_ended}
+use Rattle.nesting_laws.proofs.Sound.{IsOpenRange, IsOpenBlock, IsSound, EndsWith, text, add_sound, add_none_sound, closed_do, closed_fresh, add_text, add_ended}
 
 pub past_is : (z : Unfinished) (x : ItemTree) (e : Effect) → effect_of x.shape ≡ e → past z x ≡ past_by z x e
 unfolding past
@@ -21,7 +21,7 @@ past_is z x e f = ap (past_by z x) f
 pub fresh_of : (opened : List Level) (label : Option ℕ) (e : Effect) → may_end e ≡ false → MayClose opened label e → is_named label opened ≡ false
 fresh_of opened label e f c = and_not (is_named label opened) (may_end e) f c.terminal
 
-opened_range : (z : Unfinished) (x : ItemTree) (s : ℕ) → effect_of x.shape ≡ opens_range s → IsClear z x.label (opens_range s) → IsOpenRange x s none z
+opened_range : (z : Unfinished) (x : ItemTree) (s : Option ℕ) → effect_of x.shape ≡ opens_range s → IsClear z x.label (opens_range s) → IsOpenRange x s none z
 opened_range z x s e k = record {
   names_it = e;
   room = leb-false 32 (length (levels z)) k.shallow;
@@ -66,16 +66,18 @@ next_block arms head ms around x r e k =
 
 -- the block IF that ends with the statement, as a member of the list around it
 closed_block : (arms : Arms) (head : ItemTree) (ms : Members) (around : Unfinished) (x : ItemTree) → IsOpenBlock arms head ms around → effect_of x.shape ≡ closes_block
-    → IsWell (length (levels around)) (block (with_arm arms head ms) x none)
+    → IsWell false (length (levels around)) (block (with_arm arms head ms) x none)
 closed_block arms head ms around x r e = (r.room, r.goes ms no_arms r.well tt, e, tt)
 
-block_ends : (arms : Arms) (head : ItemTree) (ms : Members) (around : Unfinished) (x : ItemTree) → IsOpenBlock arms head ms around → IsFresh (levels around) x
+block_ends : (arms : Arms) (head : ItemTree) (ms : Members) (around : Unfinished) (x : ItemTree) → IsOpenBlock arms head ms around → effect_of x.shape ≡ closes_block → IsFresh (levels around) x
     → EndsWith (block (with_arm arms head ms) x none) (levels around) x
-block_ends arms head ms around x r f = record {
+block_ends arms head ms around x r e f = record {
   front = flat_arms (with_arm arms head ms);
   parts = refl;
   fresh = subst (AllByRecursion (IsFresh (levels around))) (sym (flat_with_arm arms head ms)) r.fresh;
   closes = record { unhidden = fresh_unhidden x.label (levels around) f; terminal = rw f refl };
+  other = ap is_end_do e;
+  alone = refl;
 }
 
 past_arm_sound : (z : Unfinished) (x : ItemTree) → IsSound z → effect_of x.shape ≡ opens_arm → IsClear z x.label opens_arm → IsSound (past_by z x opens_arm)
@@ -89,7 +91,7 @@ past_block_sound (ended ms) x h e k = absurd (true_false k.placed)
 past_block_sound (body ms) x h e k = absurd (true_false k.placed)
 past_block_sound (range head s ms around) x h e k = absurd (true_false k.placed)
 past_block_sound (branch arms head ms around) x h e k =
-    add_sound around (block (with_arm arms head ms) x none) x h.1 h.0.goes_on (closed_block arms head ms around x h.0 e) (block_ends arms head ms around x h.0 k.closes.unhidden)
+    add_sound around (block (with_arm arms head ms) x none) x h.1 h.0.goes_on (closed_block arms head ms around x h.0 e) (block_ends arms head ms around x h.0 e k.closes.unhidden)
 
 -- END stands in the body
 past_end_sound : (z : Unfinished) (x : ItemTree) → IsSound z → effect_of x.shape ≡ closes_unit → IsClear z x.label closes_unit → IsSound (past_by z x closes_unit)
@@ -98,15 +100,26 @@ past_end_sound (body ms) x h e k = record { front = ms; last = x; parts = refl; 
 past_end_sound (range head s ms around) x h e k = absurd (true_false k.outside)
 past_end_sound (branch arms head ms around) x h e k = absurd (true_false k.placed)
 
+-- END DO, where the innermost open thing is a range that it ends
+past_do_sound : (z : Unfinished) (x : ItemTree) → IsSound z → effect_of x.shape ≡ closes_range → IsClear z x.label closes_range → IsSound (past_by z x closes_range)
+past_do_sound (ended ms) x h e k = absurd (true_false k.ended_do)
+past_do_sound (body ms) x h e k = absurd (true_false k.ended_do)
+past_do_sound (range head s ms around) x h e k =
+    let closes = not_false (may_close x.label (in_range s)) (or_left (not (may_close x.label (in_range s))) (is_named x.label (levels around)) k.ended_do) in
+    let fresh = or_right (not (may_close x.label (in_range s))) (is_named x.label (levels around)) k.ended_do in
+    add_none_sound around (loop head (joined ms (plain x none)) none) h.1 h.0.goes_on (closed_do head s ms around x h.0 e closes) (closed_fresh head s ms around x h.0 fresh)
+past_do_sound (branch arms head ms around) x h e k = absurd (true_false k.ended_do)
+
 past_by_sound : (z : Unfinished) (x : ItemTree) (e : Effect) → effect_of x.shape ≡ e → IsSound z → IsClear z x.label e → IsSound (past_by z x e)
 past_by_sound z x (opens_range s) e h k = (opened_range z x s e k, h)
+past_by_sound z x closes_range e h k = past_do_sound z x h e k
 past_by_sound z x opens_block e h k = (opened_block z x e k, h)
 past_by_sound z x opens_arm e h k = past_arm_sound z x h e k
 past_by_sound z x closes_block e h k = past_block_sound z x h e k
 past_by_sound z x closes_unit e h k = past_end_sound z x h e k
 past_by_sound z x (stands may) e h k =
-    add_sound z (plain x none) x h k.goes_on (record { may = may; alone = e }, tt)
-    (record { front = []; parts = refl; fresh = tt; closes = subst (MayClose (levels z) x.label) (sym e) k.closes })
+    add_sound z (plain x none) x h k.goes_on (inl (record { may = may; alone = e }), tt)
+    (record { front = []; parts = refl; fresh = tt; closes = subst (MayClose (levels z) x.label) (sym e) k.closes; other = ap is_end_do e; alone = ap is_end_do e })
 
 pub past_sound : (z : Unfinished) (x : ItemTree) → IsSound z → IsClearOf z x → IsSound (past z x)
 past_sound z x h k = subst IsSound (sym (past_is z x (effect_of x.shape) refl)) (past_by_sound z x (effect_of x.shape) refl h k)
@@ -135,8 +148,18 @@ past_end_text (body ms) x k = flat_joined ms (plain x none)
 past_end_text (range head s ms around) x k = absurd (true_false k.outside)
 past_end_text (branch arms head ms around) x k = absurd (true_false k.placed)
 
+past_do_text : (z : Unfinished) (x : ItemTree) → IsClear z x.label closes_range → text (past_by z x closes_range) ≡ text z ++ x ∷ []
+past_do_text (ended ms) x k = absurd (true_false k.ended_do)
+past_do_text (body ms) x k = absurd (true_false k.ended_do)
+past_do_text (range head s ms around) x k =
+    add_text around None (loop head (joined ms (plain x none)) none)
+    ∙ ap (λ (xs : List ItemTree). text around ++ (head ∷ xs)) (append-nil (flat (joined ms (plain x none))) ∙ flat_joined ms (plain x none))
+    ∙ sym (append_assoc (text around) (head ∷ flat ms) (x ∷ []))
+past_do_text (branch arms head ms around) x k = absurd (true_false k.ended_do)
+
 past_by_text : (z : Unfinished) (x : ItemTree) (e : Effect) → IsClear z x.label e → text (past_by z x e) ≡ text z ++ x ∷ []
 past_by_text z x (opens_range s) k = refl
+past_by_text z x closes_range k = past_do_text z x k
 past_by_text z x opens_block k = refl
 past_by_text z x opens_arm k = past_arm_text z x k
 past_by_text z x closes_block k = past_block_text z x k
@@ -160,8 +183,15 @@ past_block_ended (body ms) x h k = refl
 past_block_ended (range head s ms around) x h k = refl
 past_block_ended (branch arms head ms around) x h k = add_ended around x.label (block (with_arm arms head ms) x none) h.1 h.0.goes_on
 
+past_do_ended : (z : Unfinished) (x : ItemTree) → IsSound z → IsClear z x.label closes_range → is_ended (past_by z x closes_range) ≡ false
+past_do_ended (ended ms) x h k = k.goes_on
+past_do_ended (body ms) x h k = refl
+past_do_ended (range head s ms around) x h k = add_ended around None (loop head (joined ms (plain x none)) none) h.1 h.0.goes_on
+past_do_ended (branch arms head ms around) x h k = refl
+
 past_by_ended : (z : Unfinished) (x : ItemTree) (e : Effect) → IsSound z → IsClear z x.label e → is_ended (past_by z x e) ≡ is_end e
 past_by_ended z x (opens_range s) h k = refl
+past_by_ended z x closes_range h k = past_do_ended z x h k
 past_by_ended z x opens_block h k = refl
 past_by_ended z x opens_arm h k = past_arm_ended z x k
 past_by_ended z x closes_block h k = past_block_ended z x h k

@@ -1,14 +1,14 @@
 -- What a statement's execution needs is what the statement says (ANSI X3.9-1978, 10.1, chapter 11, 12.8 and 15.4).
-use Rattle.std.specs.Prelude.{◌≡◌, ◌⊎◌, ℕ, Bool, true, false, List, map, IsTrue, None, IsSome}
+use Rattle.std.specs.Prelude.{◌≡◌, ◌⊎◌, ℕ, Bool, true, false, List, map, IsTrue, Option, None, IsSome}
 use Rattle.meaning.specs.declared.syntax.Tree.{Tree}
 use Rattle.meaning.specs.Characters.{number_of}
 use Rattle.meaning.specs.Scopes.{defined_by}
-use Rattle.meaning.specs.Syntax.{ExprTree, ExprsTree, LimitsTree, ListItemsTree, StopTree, ShapeTree, assignment, format, doing, continuing, typing, ending, naming, implying, logical_typing, dimensioning, parameter, initializing, definition, going, computed_going, arithmetic_if, logical_if, block_if, else_if, otherwise, end_if, stopping}
+use Rattle.meaning.specs.Syntax.{ExprTree, ExprsTree, LimitsTree, ListItemsTree, StopTree, ShapeTree, assignment, format, doing, continuing, typing, ending, naming, implying, logical_typing, dimensioning, parameter, initializing, definition, going, computed_going, arithmetic_if, logical_if, block_if, else_if, otherwise, end_if, stopping, doing_while, end_do, implicit_none}
 use Rattle.numbering.specs.Checked.{names_in}
 use Rattle.landmarks.specs.Quiet.{output_in}
 use Rattle.postfix.specs.declared.code.Code.{Code}
 use Rattle.programs.specs.declared.action.Action.{Action}
-use Rattle.programs.specs.declared.action.Action.TheVariants.{Pass, Assign, Continue, GoTo, ComputedGoTo, ArithmeticIf, Stop, Output, If', Test, Repeat as Do}
+use Rattle.programs.specs.declared.action.Action.TheVariants.{Pass, Assign, Continue, GoTo, ComputedGoTo, ArithmeticIf, Stop, Output, If', Test, Repeat as Do, While}
 use Rattle.programs.specs.declared.action.Repeat.{Repeat}
 use Rattle.programs.specs.declared.action.Target.{Target}
 use Rattle.programs.specs.Codes.{AreLimits, IsCell, IsCode, IsTarget}
@@ -20,6 +20,7 @@ use Rattle.programs.specs.Items.{AreItems, AreItemsOf}
 abbrev pub is_idle : ShapeTree → Bool
 is_idle (naming n) = true
 is_idle (implying parts) = true
+is_idle implicit_none = true
 is_idle (parameter cs) = true
 is_idle (typing ds) = true
 is_idle (logical_typing ds) = true
@@ -92,8 +93,16 @@ pub record Tests (t : Tree) (c : Code) (s : ShapeTree) : Type 0 where
   pub is : (s ≡ block_if condition) ⊎ (s ≡ else_if condition)
   pub code : IsCode t condition c
 
+-- the condition of a DO WHILE statement
+pub record Whiles (t : Tree) (c : Code) (s : ShapeTree) : Type 0 where
+  pub label : Option (List ℕ)
+  pub comma : Bool
+  pub condition : ExprTree
+  pub is : s ≡ doing_while label comma condition
+  pub code : IsCode t condition c
+
 pub record Repeats (t : Tree) (r : Repeat) (s : ShapeTree) : Type 0 where
-  pub label : List ℕ
+  pub label : Option (List ℕ)
   pub comma : Bool
   pub variable : List ℕ
   pub limits : LimitsTree
@@ -104,7 +113,7 @@ pub record Repeats (t : Tree) (r : Repeat) (s : ShapeTree) : Type 0 where
 abbrev pub Acts : Tree → Action → ShapeTree → Type 0
 Acts t Pass s = IsTrue (is_idle s) ⊎ Defines t s
 Acts t (Assign target c) s = Assigns t target c s
-Acts t Continue s = s ≡ continuing
+Acts t Continue s = (s ≡ continuing) ⊎ (s ≡ end_do)
 Acts t (GoTo label) s = Goes label s
 Acts t (ComputedGoTo labels c) s = GoesByCount t labels.items c s
 Acts t (ArithmeticIf c negative zero positive) s = GoesBySign t c negative zero positive s
@@ -113,6 +122,7 @@ Acts t (Output list) s = AreItemsOf t (output_in s) list
 Acts t (If' c p a) s = Conditional t c (Acts t a) s
 Acts t (Test c) s = Tests t c s
 Acts t (Do r) s = Repeats t r s
+Acts t (While c) s = Whiles t c s
 
 -- ---- parts of statements
 
@@ -125,6 +135,11 @@ AssignsTo t target e a = ⊥
 abbrev pub TestsBy : Tree → ExprTree → Action → Type 0
 TestsBy t e (Test c) = IsCode t e c
 TestsBy t e a = ⊥
+
+-- the test of a DO WHILE statement with this condition
+abbrev pub WhilesBy : Tree → ExprTree → Action → Type 0
+WhilesBy t e (While c) = IsCode t e c
+WhilesBy t e a = ⊥
 
 -- a WRITE or PRINT statement with the codes of this list
 abbrev pub WritesList : Tree → ListItemsTree → Action → Type 0

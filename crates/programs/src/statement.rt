@@ -1,11 +1,11 @@
 //! What single statements need (ANSI X3.9-1978, 10.1, chapter 11 and 12.8).
 
-ghost use Rattle.std.specs.Prelude.{◌≡◌, ℕ, Bool, List, IfOk, Some, map};
+ghost use Rattle.std.specs.Prelude.{◌≡◌, ℕ, Bool, List, Option, IfOk, Some, map};
 ghost use Rattle.meaning.specs.declared.syntax.Tree.{Tree};
 ghost use Rattle.meaning.specs.Characters.{number_of};
 ghost use Rattle.meaning.specs.Syntax.{arithmetic_if, assignment, doing, going, expr_tree, exprs_tree, limits_tree, list_items_tree, logical_if, shape_tree, computed_going};
 ghost use Rattle.numbering.specs.Told.{IsArrayIn};
-ghost use Rattle.programs.specs.Acts.{Acts, AssignsTo, TestsBy, WritesList};
+ghost use Rattle.programs.specs.Acts.{Acts, AssignsTo, TestsBy, WhilesBy, WritesList};
 ghost use Rattle.programs.specs.Codes.{IsTarget};
 
 use crate::codes::{cell_of, code_in, repeat_in};
@@ -156,6 +156,16 @@ fn test_action(alloc: Global, condition: &Expr, program: &Program) -> Result<Act
     }
 }
 
+// A DO WHILE statement.
+fn while_action(alloc: Global, condition: &Expr, program: &Program) -> Result<Action, NoCode>
+    ensures { IfOk result (λ a. WhilesBy program.now (expr_tree condition.now) a) }
+{
+    match code_in(alloc, condition, program) {
+        Ok(code) => Ok(Action::While(code)),
+        Err(reason) => Err(reason),
+    }
+}
+
 // A DO statement.
 fn repeat_action(
     alloc: Global,
@@ -163,7 +173,7 @@ fn repeat_action(
     limits: &Limits,
     program: &Program,
 ) -> Result<Action, NoCode>
-    ensures { (label : List ℕ) (comma : Bool) → IfOk result (λ a. Acts program.now a
+    ensures { (label : Option (List ℕ)) (comma : Bool) → IfOk result (λ a. Acts program.now a
         (doing label comma variable.now (limits_tree limits.now))) }
 {
     match repeat_in(alloc, variable, limits, program) {
@@ -196,6 +206,7 @@ fn idle_action(shape: &Shape) -> Result<Action, NoCode>
     match shape {
         Shape::Program(_) => Ok(Action::Pass),
         Shape::Implicit(_) => Ok(Action::Pass),
+        Shape::ImplicitNone => Ok(Action::Pass),
         Shape::Parameter(_) => Ok(Action::Pass),
         Shape::Integer(_) => Ok(Action::Pass),
         Shape::Logical(_) => Ok(Action::Pass),
@@ -242,6 +253,8 @@ fn simple_action(alloc: Global, shape: &Shape, program: &Program) -> Result<Acti
             value,
         } => assignment_action(alloc, name, subscripts, value, program),
         Shape::Continue => Ok(Action::Continue),
+        Shape::EndDo => Ok(Action::Continue),
+        Shape::DoWhile { condition, .. } => while_action(alloc, condition, program),
         Shape::Stop(_) => Ok(Action::Stop),
         Shape::Write { control: _, list } => output_action(alloc, list, program),
         Shape::Print { format: _, list } => output_action(alloc, list, program),

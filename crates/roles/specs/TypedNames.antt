@@ -1,11 +1,11 @@
 -- The types of names, in short.
-use Rattle.std.specs.Prelude.{ℕ, List, flat_map, Option}
+use Rattle.std.specs.Prelude.{ℕ, Bool, List, flat_map, Option}
 use Rattle.std.specs.Option.{option_or}
 use Rattle.std.specs.Borrow.{Bor}
 use Rattle.meaning.specs.declared.syntax.DataType.{DataType}
 use Rattle.meaning.specs.declared.syntax.ImplicitPart.{ImplicitPart}
 use Rattle.meaning.specs.Syntax.{ImplicitTree, ItemTree, implicit_tree}
-use Rattle.meaning.specs.Types.{TypedName, typed_in, implied_in, implied_by, by_letter}
+use Rattle.meaning.specs.Types.{TypedName, typed_in, implied_in, implied_by, by_letter, unless_none}
 
 -- the names in type statements, and the parts of IMPLICIT statements
 abbrev pub typed_names : List ItemTree → List TypedName
@@ -18,5 +18,5 @@ abbrev pub part_at : Bor ImplicitPart → ImplicitTree
 part_at p = implicit_tree p.now
 
 -- the type of the names that begin with a letter
-abbrev pub letter_type : List ImplicitTree → ℕ → Option DataType
-letter_type ps c = option_or (implied_by ps c) (by_letter c)
+abbrev pub letter_type : Bool → List ImplicitTree → ℕ → Option DataType
+letter_type alone ps c = unless_none alone (option_or (implied_by ps c) (by_letter c))

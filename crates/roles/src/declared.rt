@@ -1,10 +1,10 @@
 //! The data types of names (ANSI X3.9-1978, 4.1.2, 8.4 and 8.5).
 
-ghost use Rattle.std.specs.Prelude.{◌≡◌, ◌<◌, ◌++◌, ℕ, List, Some, slice_get, map, IfOk, OnOk};
+ghost use Rattle.std.specs.Prelude.{false, ◌≡◌, ◌<◌, ◌++◌, ℕ, List, Some, slice_get, map, IfOk, OnOk};
 ghost use Rattle.std.specs.Option.{option_or};
 ghost use Rattle.std.specs.List.{list_any};
 ghost use Rattle.meaning.specs.Syntax.{declarator_tree, implicit_tree, letters_tree, shape_tree};
-ghost use Rattle.meaning.specs.Types.{by_first_letter, declared_by, implied_in, is_among, typed_as, typed_in, types_of};
+ghost use Rattle.meaning.specs.Types.{by_first_letter, declared_by, has_implicit_none as is_without_letters, implied_in, is_among, is_implicit_none as implicit_none_is, typed_as, typed_in, types_of};
 ghost use Rattle.roles.specs.TypedNames.{implicit_parts, letter_type, part_at, typed_names};
 ghost use Rattle.roles.specs.Keeping.{kept_at};
 ghost use Rattle.roles.specs.Listed.{trees_at};
@@ -113,9 +113,31 @@ fn parts_of<'a>(alloc: Global, items: &[&'a Item]) -> Result<Vec<&'a ImplicitPar
     Ok(found)
 }
 
-/// The type of the names that begin with a letter.
-fn letter_type_of(parts: &[&ImplicitPart], code: usize) -> Option<DataType>
-    ensures { result ≡ letter_type (map part_at parts.now) code }
+/// Whether a statement is IMPLICIT NONE.
+pub fn is_implicit_none(shape: &Shape) -> bool
+    ensures { result ≡ implicit_none_is (shape_tree shape.now) }
+{
+    match shape {
+        Shape::ImplicitNone => true,
+        _ => false,
+    }
+}
+
+/// Whether one of the statements is IMPLICIT NONE.
+fn has_implicit_none(items: &[&Item]) -> bool
+    ensures { result ≡ is_without_letters (trees_at items.now) }
+{
+    for item in items {
+        if is_implicit_none(&*item.form.shape) {
+            return true;
+        }
+    }
+    false
+}
+
+/// The type of the names that begin with a letter, where no IMPLICIT NONE stands.
+fn implied_type_of(parts: &[&ImplicitPart], code: usize) -> Option<DataType>
+    ensures { result ≡ letter_type false (map part_at parts.now) code }
 {
     for part in parts {
         if has_letter(part, code) {
@@ -129,17 +151,29 @@ fn letter_type_of(parts: &[&ImplicitPart], code: usize) -> Option<DataType>
     }
 }
 
+/// The type of the names that begin with a letter.
+fn letter_type_of(implicit_none: bool, parts: &[&ImplicitPart], code: usize) -> Option<DataType>
+    ensures { result ≡ letter_type implicit_none (map part_at parts.now) code }
+{
+    if implicit_none {
+        None
+    } else {
+        implied_type_of(parts, code)
+    }
+}
+
 /// The types of the names that begin with each of so many letters, by their codes.
 fn letter_types(
     alloc: Global,
+    implicit_none: bool,
     parts: &[&ImplicitPart],
     count: usize,
 ) -> Result<Vec<Option<DataType>>, AllocError>
-    ensures { IfOk result (λ types. (c : ℕ) → c < count → slice_get types.items c ≡ Some (letter_type (map part_at parts.now) c)) }
+    ensures { IfOk result (λ types. (c : ℕ) → c < count → slice_get types.items c ≡ Some (letter_type implicit_none (map part_at parts.now) c)) }
 {
     let mut types = Vec::new(alloc);
     for code in 0..count {
-        types.push(letter_type_of(parts, code))?;
+        types.push(letter_type_of(implicit_none, parts, code))?;
     }
     Ok(types)
 }
@@ -153,7 +187,7 @@ pub struct Types<'a> {
     /// The types of the names that begin with each letter, by its code.
     letters: Vec<Option<DataType>>,
     ghost given: { (n : List ℕ) → kept_at declared n ≡ declared_by (typed_names (trees_at items.now)) n },
-    ghost implied: { (c : ℕ) → c < 256 → slice_get letters.items c ≡ Some (letter_type (implicit_parts (trees_at items.now)) c) },
+    ghost implied: { (c : ℕ) → c < 256 → slice_get letters.items c ≡ Some (letter_type (is_without_letters (trees_at items.now)) (implicit_parts (trees_at items.now)) c) },
 }
 
 impl Drop for Types<'_> {
@@ -175,7 +209,7 @@ impl<'a> Types<'a> {
     {
         let declared = types_declared(alloc, items)?;
         let parts = parts_of(alloc, items)?;
-        let letters = letter_types(alloc, &parts, 256)?;
+        let letters = letter_types(alloc, has_implicit_none(items), &parts, 256)?;
         Ok(Types {
             items,
             declared,
@@ -186,7 +220,7 @@ impl<'a> Types<'a> {
 
 /// The type that the first letter of a name gives it.
 fn type_by_letter(types: &Types, name: &[u8]) -> Option<DataType>
-    ensures { result ≡ by_first_letter (implicit_parts (trees_at types.now.items.now)) name.now }
+    ensures { result ≡ by_first_letter (is_without_letters (trees_at types.now.items.now)) (implicit_parts (trees_at types.now.items.now)) name.now }
 {
     match name.first() {
         Some(letter) => match types.letters.get(usize::from(*letter)) {
@@ -209,7 +243,7 @@ pub fn data_type(types: &Types, name: &[u8]) -> Option<DataType>
 
 /// The types of the names that begin with each letter, by its code, in a table of one's own.
 pub fn types_by_letter(alloc: Global, types: &Types) -> Result<Vec<Option<DataType>>, AllocError>
-    ensures { IfOk result (λ letters. (c : ℕ) → c < 256 → slice_get letters.items c ≡ Some (letter_type (implicit_parts (trees_at types.now.items.now)) c)) }
+    ensures { IfOk result (λ letters. (c : ℕ) → c < 256 → slice_get letters.items c ≡ Some (letter_type (is_without_letters (trees_at types.now.items.now)) (implicit_parts (trees_at types.now.items.now)) c)) }
 {
     Vec::from_slice(alloc, &types.letters)
 }

@@ -60,13 +60,14 @@ pub fn defined_by<'a>(ranks: &Ranks, shape: &'a Shape) -> Option<Function<'a>>
     }
 }
 
-/// Whether a statement is a PROGRAM, IMPLICIT, PARAMETER, type, DIMENSION, DATA or FORMAT statement (ANSI X3.9-1978, chapter 7).
+/// Whether a statement is a PROGRAM, IMPLICIT, IMPLICIT NONE, PARAMETER, type, DIMENSION, DATA or FORMAT statement (ANSI X3.9-1978, chapter 7).
 pub fn is_specification(shape: &Shape) -> bool
     ensures { result ≡ is_specification_statement (shape_tree shape.now) }
 {
     match shape {
         Shape::Program(_) => true,
         Shape::Implicit(_) => true,
+        Shape::ImplicitNone => true,
         Shape::Parameter(_) => true,
         Shape::Integer(_) => true,
         Shape::Logical(_) => true,

@@ -13,7 +13,7 @@ mod sets;
 mod stage;
 
 pub use arrays::{Ranks, declarators_in};
-pub use declared::Types;
+pub use declared::{Types, is_implicit_none};
 pub use functions::{Function, defined_by, is_specification};
 pub use intrinsics::is_intrinsic;
 pub use items::items_of;

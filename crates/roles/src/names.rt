@@ -11,6 +11,7 @@ ghost use Rattle.roles.specs.Keeping.{kept_at};
 ghost use Rattle.roles.specs.Listed.{trees_at};
 ghost use Rattle.roles.specs.NameSets.{texts, with_names};
 ghost use Rattle.roles.specs.RolesBy.{roles_by};
+ghost use Rattle.meaning.specs.Types.{has_implicit_none};
 ghost use Rattle.roles.specs.TypedNames.{implicit_parts, letter_type};
 
 use crate::arrays::{Ranks, has_rank, rank};
@@ -88,7 +89,7 @@ pub fn type_of_name(roles: &Roles, name: &[u8]) -> Option<DataType>
 
 /// The types of the names that begin with each letter, by its code (ANSI X3.9-1978, 4.1.2 and 8.5).
 pub fn letter_types_of(alloc: Global, roles: &Roles) -> Result<Vec<Option<DataType>>, AllocError>
-    ensures { IfOk result (λ letters. (c : ℕ) → c < 256 → slice_get letters.items c ≡ Some (letter_type (implicit_parts (trees_at roles.now.items.now)) c)) }
+    ensures { IfOk result (λ letters. (c : ℕ) → c < 256 → slice_get letters.items c ≡ Some (letter_type (has_implicit_none (trees_at roles.now.items.now)) (implicit_parts (trees_at roles.now.items.now)) c)) }
 {
     types_by_letter(alloc, &roles.types)
 }
