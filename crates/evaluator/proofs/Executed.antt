@@ -10,7 +10,7 @@ use Rattle.meaning.specs.declared.ending.Outcome.TheVariants as outcomes
 use Rattle.meaning.specs.declared.syntax.Tree.{Tree}
 use Rattle.meaning.specs.Characters.{number_of}
 use Rattle.meaning.specs.Scopes.{Definition, defined_by, scope_of}
-use Rattle.meaning.specs.Syntax.{ExprTree, ExprsTree, FormatTree, ListItemsTree, ShapeTree, StopTree, ItemTree, assignment, writing, printing, doing, continuing, going, computed_going, arithmetic_if, logical_if, block_if, else_if, stopping}
+use Rattle.meaning.specs.Syntax.{ExprTree, ExprsTree, FormatTree, ListItemsTree, ShapeTree, StopTree, ItemTree, assignment, writing, printing, doing, continuing, going, computed_going, arithmetic_if, logical_if, block_if, else_if, stopping, end_do}
 use Rattle.meaning.specs.Maps.{Map, put}
 use Rattle.meaning.specs.Values.{Scope, dimensions_in, subscripts, value, as_integer, as_logical, integer, and_then}
 use Rattle.meaning.specs.Execution.{Ran, more, Ways, onward, at_label, turn, with_ok, failed, added, assigned, unless_defined, simple, step, condition_of, truth_of, holds, turn_if, tested}
@@ -149,12 +149,18 @@ module _ (all : List ItemTree) (line : ℕ) (m : Map) (t u : ℕ) (taken : t ≡
 pub simple_as : (all : List ItemTree) (line : ℕ) (old new : Map) (t u : ℕ) (o : Outcome) (s shape : ShapeTree) → shape ≡ s → Moves (λ go. simple all s line old t go) t new u o → Moves (λ go. simple all shape line old t go) t new u o
 simple_as all line old new t u o s shape e h = subst (λ x. Moves (λ go. simple all x line old t go) t new u o) (sym e) h
 
+-- CONTINUE and END DO take a turn and nothing else
+pub continuing_as : (all : List ItemTree) (line : ℕ) (m : Map) (t u : ℕ) (o : Outcome) (shape : ShapeTree) → (shape ≡ continuing) ⊎ (shape ≡ end_do) → Moves (λ go. simple all continuing line m t go) t m u o → Moves (λ go. simple all shape line m t go) t m u o
+continuing_as all line m t u o shape (inl is) h = simple_as all line m m t u o continuing shape is h
+continuing_as all line m t u o shape (inr is) h = simple_as all line m m t u o end_do shape is h
+
 -- a statement that is passed over: it isn't executable, or it is ELSE, END IF or END
 idles : (all : List ItemTree) (line : ℕ) (s : ShapeTree) → IsTrue (is_idle s) → (m : Map) (t : ℕ) → Passes (λ go. simple all s line m t go) t onward m t
 idles all line (assignment n es e) h m t = absurd (false≢true h)
 idles all line (writing control list) h m t = absurd (false≢true h)
 idles all line (printing source list) h m t = absurd (false≢true h)
 idles all line continuing h m t = absurd (false≢true h)
+idles all line end_do h m t = absurd (false≢true h)
 idles all line (going label) h m t = absurd (false≢true h)
 idles all line (computed_going labels comma e) h m t = absurd (false≢true h)
 idles all line (arithmetic_if e x y z) h m t = absurd (false≢true h)

@@ -1,5 +1,5 @@
 -- Lists of statements, the trips of a DO statement, and the arms of a block IF.
-use Rattle.std.proofs.Common.{◌≡◌, append_assoc, Bool, true, false, Result, Ok, ℕ, ℤ, pos, zero, suc, ◌+◌, ◌-◌, ◌<◌, ◌≤◌, List, [], ◌∷◌, ◌++◌, length, get_or, drop, if◌then◌else◌, Some, None, Err, refl, sym, ap, ◌∙◌, arith, subst}
+use Rattle.std.proofs.Common.{◌≡◌, append_assoc, Bool, true, false, Result, Ok, ℕ, ℤ, pos, zero, suc, ◌+◌, ◌-◌, ◌<◌, ◌≤◌, List, [], ◌∷◌, ◌++◌, length, get_or, drop, if◌then◌else◌, Option, Some, None, Err, refl, sym, ap, ◌∙◌, arith, subst}
 use Rattle.std.specs.Prelude.{IsTrue, not}
 use Rattle.std.specs.List.{AllByRecursion}
 use mathlib.Core.Path.{fun_ext}
@@ -195,7 +195,7 @@ module _ (rec : Meaning) (line : ℕ) (variable : List ℕ) (first by : ℤ) (co
 
 -- ---- DO statements
 
-module _ (scope : Scope) (rec : Meaning) (label : List ℕ) (comma : Bool) (variable : List ℕ) (limits : LimitsTree) (line : ℕ) (range : Members) (m : Map) (t : ℕ) where
+module _ (scope : Scope) (rec : Meaning) (label : Option (List ℕ)) (comma : Bool) (variable : List ℕ) (limits : LimitsTree) (line : ℕ) (range : Members) (m : Map) (t : ℕ) where
   abbrev does : Ways → Ran
   does go = looped scope rec (doing label comma variable limits) line range m t go
 
@@ -240,7 +240,7 @@ repeated_runs all l first by count m n k t left o used same set x =
 
 -- ---- over any store
 
-module _ (at : Cells → Map) (scope : Scope) (rec : Meaning) (label : List ℕ) (comma : Bool) (variable : List ℕ) (limits : LimitsTree) (line : ℕ) (range : Members) (t u : ℕ) (taken : t ≡ suc u) where
+module _ (at : Cells → Map) (scope : Scope) (rec : Meaning) (label : Option (List ℕ)) (comma : Bool) (variable : List ℕ) (limits : LimitsTree) (line : ℕ) (range : Members) (t u : ℕ) (taken : t ≡ suc u) where
   -- limits, the first value of the variable, and the trips
   pub do_does : (w0 w1 w2 w3 : World) (s : Span) (first : ℤ) (left : ℕ) (o : Outcome) → first ≡ s.first → Reads w0 w1 (λ m. span_of scope limits (at m) ≡ Ok s) → Does w1 w2 (λ m n. at n ≡ put (at m) variable [] first) → Does w2 w3 (λ m n. Leaves (fold_trips rec line variable s.step range (trips s.first s.last s.step) (at m) u) u (at n) left o) → Does w0 w3 (λ m n. Moves (λ go. looped scope rec (doing label comma variable limits) line range (at m) t go) t (at n) left o)
   do_does w0 w1 w2 w3 s first left o is reads set trips_do =

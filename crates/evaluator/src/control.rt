@@ -72,7 +72,7 @@ fn run_assignment<S: Store>(
     }
 }
 
-// Executes a CONTINUE statement: it takes a turn.
+// Executes a CONTINUE or END DO statement: it takes a turn.
 #[inline(always)]
 fn run_continue(line: u32, turns: &mut u64) -> Outcome
     ensures moves { (all : List ItemTree) (m : Map) →

@@ -1,5 +1,5 @@
 -- Runs of statements, one after another.
-use Rattle.std.proofs.Common.{◌≡◌, ℕ, ℤ, suc, ◌+◌, ◌-◌, ◌<◌, ◌≤◌, Bool, true, List, [], ◌∷◌, ◌++◌, length, get_or, drop, Some, None, Result, Ok, Err, refl, sym, ap, ◌∙◌, arith, append_assoc, subst}
+use Rattle.std.proofs.Common.{◌≡◌, ℕ, ℤ, suc, ◌+◌, ◌-◌, ◌<◌, ◌≤◌, Bool, true, List, [], ◌∷◌, ◌++◌, length, get_or, drop, Option, Some, None, Result, Ok, Err, refl, sym, ap, ◌∙◌, arith, append_assoc, subst}
 use Rattle.std.specs.List.{concat}
 use Rattle.meaning.specs.declared.syntax.Arm.{Arm}
 use Rattle.meaning.specs.declared.syntax.Member.{Member}
@@ -275,7 +275,7 @@ module _ (rec : Meaning) (line : ℕ) (variable : List ℕ) (first by : ℤ) (co
 
 -- ---- DO statements
 
-module _ (scope : Scope) (rec : Meaning) (label : List ℕ) (comma : Bool) (variable : List ℕ) (limits : LimitsTree) (line : ℕ) (range : Members) (m : Map) (t u : ℕ) (taken : t ≡ suc u) where
+module _ (scope : Scope) (rec : Meaning) (label : Option (List ℕ)) (comma : Bool) (variable : List ℕ) (limits : LimitsTree) (line : ℕ) (range : Members) (m : Map) (t u : ℕ) (taken : t ≡ suc u) where
   pub do_runs : (s : Span) (first n : Map) (left : ℕ) (o : Result Outcome Halt) (old new : Told) → span_of scope limits m ≡ Ok s → first ≡ put m variable [] s.first → Runs (fold_trips rec line variable s.step range (trips s.first s.last s.step) first u) u n left o old new → Steps (λ go. looped scope rec (doing label comma variable limits) line range m t go) t n left o old new
   do_runs s first n left o old new h e x =
       steps_behind (λ go. looped scope rec (doing label comma variable limits) line range m t go) (λ go. leads_on (trips_from rec line variable range m u s) u go) t u n left o old new (record { used = 1; is = do_is scope rec label comma variable limits line range m t u taken s h; turns = one_less t u taken }) (steps_on (trips_from rec line variable range m u s) u n left o old new (subst (λ z. Runs (fold_trips rec line variable s.step range (trips s.first s.last s.step) z u) u n left o old new) e x))

@@ -17,7 +17,7 @@ use Rattle.programs.specs.Items.{AreItems, AreItemsOf}
 use Rattle.in_order.specs.Conditions.{AreSomeParts}
 
 -- of a DO statement with this variable and these limits
-pub told_by : (t : Tree) (s : ShapeTree) (label : List ℕ) (comma : Bool) (variable : List ℕ) (limits : LimitsTree) → s ≡ doing label comma variable limits → (r : Repeat) → Repeats t r s → IsCell t variable r.variable × AreLimits t limits r
+pub told_by : (t : Tree) (s : ShapeTree) (label : Option (List ℕ)) (comma : Bool) (variable : List ℕ) (limits : LimitsTree) → s ≡ doing label comma variable limits → (r : Repeat) → Repeats t r s → IsCell t variable r.variable × AreLimits t limits r
 told_by t s label comma variable limits is r d =
     let two = sym d.is ∙ is in
     let same_variable : d.variable ≡ variable = cc in

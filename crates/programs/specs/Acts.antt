@@ -3,12 +3,12 @@ use Rattle.std.specs.Prelude.{◌≡◌, ◌⊎◌, ℕ, Bool, true, false, List
 use Rattle.meaning.specs.declared.syntax.Tree.{Tree}
 use Rattle.meaning.specs.Characters.{number_of}
 use Rattle.meaning.specs.Scopes.{defined_by}
-use Rattle.meaning.specs.Syntax.{ExprTree, ExprsTree, LimitsTree, ListItemsTree, StopTree, ShapeTree, assignment, format, doing, continuing, typing, ending, naming, implying, logical_typing, dimensioning, parameter, initializing, definition, going, computed_going, arithmetic_if, logical_if, block_if, else_if, otherwise, end_if, stopping, doing_while, end_do, implicit_none}
+use Rattle.meaning.specs.Syntax.{ExprTree, ExprsTree, LimitsTree, ListItemsTree, StopTree, ShapeTree, assignment, format, doing, continuing, typing, ending, naming, implying, logical_typing, dimensioning, parameter, initializing, definition, going, computed_going, arithmetic_if, logical_if, block_if, else_if, otherwise, end_if, stopping, end_do, implicit_none}
 use Rattle.numbering.specs.Checked.{names_in}
 use Rattle.landmarks.specs.Quiet.{output_in}
 use Rattle.postfix.specs.declared.code.Code.{Code}
 use Rattle.programs.specs.declared.action.Action.{Action}
-use Rattle.programs.specs.declared.action.Action.TheVariants.{Pass, Assign, Continue, GoTo, ComputedGoTo, ArithmeticIf, Stop, Output, If', Test, Repeat as Do, While}
+use Rattle.programs.specs.declared.action.Action.TheVariants.{Pass, Assign, Continue, GoTo, ComputedGoTo, ArithmeticIf, Stop, Output, If', Test, Repeat as Do}
 use Rattle.programs.specs.declared.action.Repeat.{Repeat}
 use Rattle.programs.specs.declared.action.Target.{Target}
 use Rattle.programs.specs.Codes.{AreLimits, IsCell, IsCode, IsTarget}
@@ -93,14 +93,6 @@ pub record Tests (t : Tree) (c : Code) (s : ShapeTree) : Type 0 where
   pub is : (s ≡ block_if condition) ⊎ (s ≡ else_if condition)
   pub code : IsCode t condition c
 
--- the condition of a DO WHILE statement
-pub record Whiles (t : Tree) (c : Code) (s : ShapeTree) : Type 0 where
-  pub label : Option (List ℕ)
-  pub comma : Bool
-  pub condition : ExprTree
-  pub is : s ≡ doing_while label comma condition
-  pub code : IsCode t condition c
-
 pub record Repeats (t : Tree) (r : Repeat) (s : ShapeTree) : Type 0 where
   pub label : Option (List ℕ)
   pub comma : Bool
@@ -122,7 +114,6 @@ Acts t (Output list) s = AreItemsOf t (output_in s) list
 Acts t (If' c p a) s = Conditional t c (Acts t a) s
 Acts t (Test c) s = Tests t c s
 Acts t (Do r) s = Repeats t r s
-Acts t (While c) s = Whiles t c s
 
 -- ---- parts of statements
 
@@ -135,11 +126,6 @@ AssignsTo t target e a = ⊥
 abbrev pub TestsBy : Tree → ExprTree → Action → Type 0
 TestsBy t e (Test c) = IsCode t e c
 TestsBy t e a = ⊥
-
--- the test of a DO WHILE statement with this condition
-abbrev pub WhilesBy : Tree → ExprTree → Action → Type 0
-WhilesBy t e (While c) = IsCode t e c
-WhilesBy t e a = ⊥
 
 -- a WRITE or PRINT statement with the codes of this list
 abbrev pub WritesList : Tree → ListItemsTree → Action → Type 0

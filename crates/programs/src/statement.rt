@@ -5,7 +5,7 @@ ghost use Rattle.meaning.specs.declared.syntax.Tree.{Tree};
 ghost use Rattle.meaning.specs.Characters.{number_of};
 ghost use Rattle.meaning.specs.Syntax.{arithmetic_if, assignment, doing, going, expr_tree, exprs_tree, limits_tree, list_items_tree, logical_if, shape_tree, computed_going};
 ghost use Rattle.numbering.specs.Told.{IsArrayIn};
-ghost use Rattle.programs.specs.Acts.{Acts, AssignsTo, TestsBy, WhilesBy, WritesList};
+ghost use Rattle.programs.specs.Acts.{Acts, AssignsTo, TestsBy, WritesList};
 ghost use Rattle.programs.specs.Codes.{IsTarget};
 
 use crate::codes::{cell_of, code_in, repeat_in};
@@ -156,16 +156,6 @@ fn test_action(alloc: Global, condition: &Expr, program: &Program) -> Result<Act
     }
 }
 
-// A DO WHILE statement.
-fn while_action(alloc: Global, condition: &Expr, program: &Program) -> Result<Action, NoCode>
-    ensures { IfOk result (λ a. WhilesBy program.now (expr_tree condition.now) a) }
-{
-    match code_in(alloc, condition, program) {
-        Ok(code) => Ok(Action::While(code)),
-        Err(reason) => Err(reason),
-    }
-}
-
 // A DO statement.
 fn repeat_action(
     alloc: Global,
@@ -254,7 +244,6 @@ fn simple_action(alloc: Global, shape: &Shape, program: &Program) -> Result<Acti
         } => assignment_action(alloc, name, subscripts, value, program),
         Shape::Continue => Ok(Action::Continue),
         Shape::EndDo => Ok(Action::Continue),
-        Shape::DoWhile { condition, .. } => while_action(alloc, condition, program),
         Shape::Stop(_) => Ok(Action::Stop),
         Shape::Write { control: _, list } => output_action(alloc, list, program),
         Shape::Print { format: _, list } => output_action(alloc, list, program),

@@ -1,5 +1,5 @@
 -- What is known of a DO statement that is run by stages.
-use Rattle.std.proofs.Common.{◌≡◌, ℕ, ℤ, Bool, true, ◌&&◌, if◌then◌else◌, List, [], refl, sym, ap, subst}
+use Rattle.std.proofs.Common.{◌≡◌, ℕ, ℤ, Bool, true, ◌&&◌, if◌then◌else◌, List, [], Option, refl, sym, ap, subst}
 use Rattle.std.specs.Prelude.{IsTrue}
 use Rattle.std.specs.List.{AllByRecursion}
 use Rattle.std.proofs.lemmas.Slice.Eq.{bytes_eq-Decides}
@@ -27,10 +27,10 @@ pub put_here : (m : Map) (v : List ℕ) (x : ℤ) → put m v [] x v [] ≡ x
 unfolding put
 put_here m v x = ap (λ b. if b && true then x else m v []) ((bytes_eq-Decides v v).1 refl)
 
-is_one : (s : ShapeTree) (label : List ℕ) (comma : Bool) (variable : List ℕ) (limits : LimitsTree) → s ≡ doing label comma variable limits → IsTrue (is_doing s)
+is_one : (s : ShapeTree) (label : Option (List ℕ)) (comma : Bool) (variable : List ℕ) (limits : LimitsTree) → s ≡ doing label comma variable limits → IsTrue (is_doing s)
 is_one s label comma variable limits is = subst (λ x. IsTrue (is_doing x)) (sym is) refl
 
-its_variable : (s : ShapeTree) (range : Members) (label : List ℕ) (comma : Bool) (variable : List ℕ) (limits : LimitsTree) → s ≡ doing label comma variable limits → AllByRecursion (λ v. NeverSets v range) (counted_by s) → NeverSets (variable_of s) range
+its_variable : (s : ShapeTree) (range : Members) (label : Option (List ℕ)) (comma : Bool) (variable : List ℕ) (limits : LimitsTree) → s ≡ doing label comma variable limits → AllByRecursion (λ v. NeverSets v range) (counted_by s) → NeverSets (variable_of s) range
 its_variable s range label comma variable limits is =
     subst (λ x. AllByRecursion (λ v. NeverSets v range) (counted_by x) → NeverSets (variable_of x) range) (sym is) (λ h. h.0)
 
