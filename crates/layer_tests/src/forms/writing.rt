@@ -388,7 +388,7 @@ fn write_output(out: &mut Text, shape: &Shape) {
     }
 }
 
-/// DO: its label, a comma, its variable, its limits.
+/// DO: its label or a sign that it has none, a comma, its variable, its limits.
 fn write_do(out: &mut Text, shape: &Shape) {
     if let Shape::Do {
         label,
@@ -397,7 +397,10 @@ fn write_do(out: &mut Text, shape: &Shape) {
         limits,
     } = shape
     {
-        write_named(out, b"do ", label);
+        match label {
+            Some(label) => write_named(out, b"do ", label),
+            None => out.put(b"do -"),
+        }
         write_named(out, if *comma { b" , " } else { b" " }, variable);
         out.push(b' ');
         write_limits(out, limits);
@@ -413,6 +416,8 @@ pub fn write_shape(out: &mut Text, shape: &Shape) {
         Shape::Print { .. } => write_output(out, shape),
         Shape::Format(text) => write_named(out, b"format ", text),
         Shape::Do { .. } => write_do(out, shape),
+        Shape::EndDo => out.put(b"enddo"),
+        Shape::ImplicitNone => out.put(b"implicit none"),
         Shape::Continue => out.put(b"continue"),
         Shape::Integer(declarators) => write_declarators(out, b"integer", declarators),
         Shape::Logical(declarators) => write_declarators(out, b"logical", declarators),
