@@ -1,0 +1,7 @@
+      LOGICAL ENDDO
+      DO 10 I=1,5
+      IF (ENDDO) K=K+I
+   10 ENDDO=.NOT.ENDDO
+      WRITE (6,20) I,K,ENDDO
+   20 FORMAT (2I4,L2)
+      END

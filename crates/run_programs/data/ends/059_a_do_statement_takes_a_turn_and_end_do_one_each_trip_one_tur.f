@@ -1,0 +1,7 @@
+C TURNS 9
+C     END DO OF THE THIRD TRIP WANTS THE TENTH TURN.
+      DO I=1,3
+      J=I
+      K=J
+      END DO
+      END

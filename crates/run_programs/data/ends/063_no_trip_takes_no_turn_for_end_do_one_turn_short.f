@@ -1,0 +1,7 @@
+C TURNS 1
+C     THE ASSIGNMENT BEHIND END DO WANTS THE SECOND TURN.
+      DO 10 I=2,1
+      J=1
+   10 END DO
+      J=2
+      END

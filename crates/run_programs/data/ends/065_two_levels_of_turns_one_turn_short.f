@@ -1,0 +1,8 @@
+C TURNS 16
+C     THE OUTER END DO OF THE SECOND TRIP WANTS THE 17TH TURN.
+      DO I=1,2
+      DO J=1,3
+      K=K+1
+      END DO
+      END DO
+      END

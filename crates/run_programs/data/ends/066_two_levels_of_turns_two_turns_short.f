@@ -1,0 +1,8 @@
+C TURNS 15
+C     THE INNER END DO OF THE LAST TRIP WANTS THE 16TH TURN.
+      DO I=1,2
+      DO J=1,3
+      K=K+1
+      END DO
+      END DO
+      END

@@ -1,0 +1,7 @@
+C TURNS 13
+C     EACH TRIP 3: IF, GO TO OR THE ASSIGNMENT, AND END DO; 1+4*3.
+      DO 10 I=1,4
+      IF (MOD(I,2).EQ.0) GO TO 10
+      K=K+1
+   10 END DO
+      END

@@ -1,0 +1,7 @@
+C TURNS 12
+C     END DO OF THE FOURTH TRIP WANTS THE 13TH TURN.
+      DO 10 I=1,4
+      IF (MOD(I,2).EQ.0) GO TO 10
+      K=K+1
+   10 END DO
+      END

@@ -1,0 +1,8 @@
+C TURNS 8
+C     THE GO TO OF THE THIRD TRIP WANTS THE NINTH TURN.
+      DO I=1,9
+      IF (I.EQ.3) GO TO 10
+      K=K+I
+      END DO
+      K=0
+   10 END

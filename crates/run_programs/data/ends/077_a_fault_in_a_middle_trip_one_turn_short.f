@@ -1,0 +1,7 @@
+C TURNS 8
+C     THE SECOND ASSIGNMENT OF THE THIRD TRIP WANTS THE NINTH TURN.
+      DO I=1,5
+      K=K+1
+      L=9/(3-I)
+      END DO
+      END

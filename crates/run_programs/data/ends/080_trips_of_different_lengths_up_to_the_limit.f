@@ -1,0 +1,13 @@
+C TURNS 31
+C     TRIP I TAKES 1+2*I FOR THE INNER DO AND 1 FOR END DO, SO ALL TRIPS
+C     4+6+8+10=28; WITH DO, WRITE AND STOP 31.
+      INTEGER A(5)
+      DO I=1,4
+      DO 10 J=1,I
+      A(I)=A(I)+J
+   10 END DO
+      END DO
+      WRITE (6,20) A
+      STOP
+   20 FORMAT (5I3)
+      END

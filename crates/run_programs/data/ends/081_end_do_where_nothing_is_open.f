@@ -1,0 +1,2 @@
+      END DO
+      END

@@ -1,0 +1,3 @@
+      I=1
+   10 END DO
+      END

@@ -1,0 +1,4 @@
+      DO 10 I=1,2
+   10 CONTINUE
+      END DO
+      END

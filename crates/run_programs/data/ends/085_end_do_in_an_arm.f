@@ -1,0 +1,5 @@
+      DO I=1,2
+      IF (I.EQ.1) THEN
+      END DO
+      END IF
+      END

@@ -1,0 +1,4 @@
+      IF (I.EQ.0) THEN
+      END DO
+      END IF
+      END

@@ -1,0 +1,4 @@
+      DO 10 I=1,2
+      K=K+1
+      END DO
+      END

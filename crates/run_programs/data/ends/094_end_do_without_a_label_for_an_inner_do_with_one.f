@@ -1,0 +1,6 @@
+      DO I=1,2
+      DO 10 J=1,2
+      K=K+1
+      END DO
+      END DO
+      END

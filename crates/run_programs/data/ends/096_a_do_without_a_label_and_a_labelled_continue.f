@@ -1,0 +1,4 @@
+      DO I=1,2
+      K=K+1
+   10 CONTINUE
+      END

@@ -1,0 +1,4 @@
+      DO I=1,2
+      INTEGER J
+      END DO
+      END

@@ -1,0 +1,3 @@
+      DO,I=1,2
+      END DO
+      END

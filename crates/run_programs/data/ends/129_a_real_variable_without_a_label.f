@@ -1,0 +1,3 @@
+      DO X=1,2
+      END DO
+      END

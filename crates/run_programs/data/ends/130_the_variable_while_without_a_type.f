@@ -1,0 +1,3 @@
+      DO WHILE=1,2
+      END DO
+      END

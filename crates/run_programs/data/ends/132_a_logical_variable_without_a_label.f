@@ -1,0 +1,4 @@
+      LOGICAL L
+      DO L=1,2
+      END DO
+      END

@@ -1,0 +1,3 @@
+      DO I=1,.TRUE.
+      END DO
+      END

@@ -1,0 +1,2 @@
+      IMPLICIT NONE
+      END

@@ -1,0 +1,8 @@
+      IMPLICIT NONE
+      INTEGER I,J
+      I=-7
+      J=3
+      WRITE (6,10) ABS(I),IABS(I),MOD(I,J),MAX(I,J,5),MAX0(I,J),MIN(I,J)
+     1,MIN0(J,I),SIGN(J,I),ISIGN(I,J),DIM(J,I),IDIM(I,J)
+   10 FORMAT (11I4)
+      END

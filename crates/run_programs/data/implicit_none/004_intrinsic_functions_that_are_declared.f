@@ -1,0 +1,6 @@
+      IMPLICIT NONE
+      INTEGER I,MOD,ABS,MAX
+      I=-7
+      WRITE (6,10) ABS(I),MOD(I,4),MAX(I,2)
+   10 FORMAT (3I4)
+      END

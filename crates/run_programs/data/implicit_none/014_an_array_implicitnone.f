@@ -1,0 +1,8 @@
+      IMPLICIT NONE
+      INTEGER IMPLICITNONE(3),I
+      DO I=1,3
+      IMPLICIT NONE(I)=I*I
+      END DO
+      WRITE (6,10) IMPLICITNONE
+   10 FORMAT (3I2)
+      END

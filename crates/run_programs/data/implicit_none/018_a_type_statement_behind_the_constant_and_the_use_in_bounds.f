@@ -1,0 +1,8 @@
+      IMPLICIT NONE
+      PARAMETER (N=2,L=.TRUE.)
+      DIMENSION A(N)
+      INTEGER A,N
+      LOGICAL L
+      WRITE (6,10) A,N,L
+   10 FORMAT (3I2,L2)
+      END

@@ -1,0 +1,3 @@
+      IMPLICIT NONE
+      I=1
+      END

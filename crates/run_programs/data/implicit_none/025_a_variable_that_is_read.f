@@ -1,0 +1,4 @@
+      IMPLICIT NONE
+      INTEGER I
+      I=J+1
+      END

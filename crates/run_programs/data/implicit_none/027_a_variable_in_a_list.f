@@ -1,0 +1,4 @@
+      IMPLICIT NONE
+      WRITE (6,10) K
+   10 FORMAT (I2)
+      END

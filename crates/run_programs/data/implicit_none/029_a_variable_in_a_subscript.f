@@ -1,0 +1,4 @@
+      IMPLICIT NONE
+      INTEGER A(3)
+      A(I)=1
+      END

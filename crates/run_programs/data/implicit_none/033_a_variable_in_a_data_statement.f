@@ -1,0 +1,4 @@
+      IMPLICIT NONE
+      INTEGER I
+      DATA I,J/1,2/
+      END

@@ -1,0 +1,4 @@
+      IMPLICIT NONE
+      DIMENSION M(3)
+      M(1)=1
+      END

@@ -1,0 +1,5 @@
+      PARAMETER (N=2)
+      IMPLICIT NONE
+      INTEGER I
+      I=N
+      END

@@ -1,0 +1,3 @@
+      IMPLICIT NONE
+      INTEGER A(N)
+      END

@@ -1,0 +1,4 @@
+      IMPLICIT NONE
+      INTEGER J
+      ISQ(J)=J*J
+      END

@@ -1,0 +1,4 @@
+      IMPLICIT NONE
+      INTEGER ISQ
+      ISQ(J)=J*J
+      END

@@ -1,0 +1,4 @@
+      IMPLICIT NONE
+      INTEGER ISQ,J
+      ISQ(J)=J*M
+      END

@@ -1,0 +1,4 @@
+      PROGRAM MAIN
+      IMPLICIT NONE
+      MAIN=1
+      END

@@ -1,0 +1,5 @@
+      IMPLICIT NONE
+      INTEGER I
+      I=1+
+     1J
+      END

@@ -1,0 +1,4 @@
+      IMPLICIT NONE
+      LOGICAL L
+      L=L.AND.M
+      END

@@ -1,0 +1,7 @@
+      IMPLICIT NONE
+      INTEGER COUNTER,I
+      DO I=1,3
+      COUNTER=COUNTER+1
+      COUNTED=COUNTER
+      END DO
+      END

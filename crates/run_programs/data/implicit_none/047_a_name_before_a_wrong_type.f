@@ -1,0 +1,5 @@
+      IMPLICIT NONE
+      INTEGER I
+      J=2
+      I=.TRUE.
+      END

@@ -1,0 +1,5 @@
+      IMPLICIT NONE
+      INTEGER I
+      I=.TRUE.
+      J=2
+      END

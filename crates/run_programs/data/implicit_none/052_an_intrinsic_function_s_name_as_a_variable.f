@@ -1,0 +1,4 @@
+      IMPLICIT NONE
+      INTEGER I
+      I=MOD
+      END

@@ -1,0 +1,4 @@
+      INTEGER I
+      IMPLICIT NONE
+      I=1
+      END

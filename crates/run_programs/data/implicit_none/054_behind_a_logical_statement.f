@@ -1,0 +1,4 @@
+      IMPLICIT INTEGER (A-Z)
+      LOGICAL L
+      IMPLICIT NONE
+      END

@@ -1,0 +1,3 @@
+      DIMENSION I(2)
+      IMPLICIT NONE
+      END

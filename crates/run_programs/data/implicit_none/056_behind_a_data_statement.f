@@ -1,0 +1,3 @@
+      DATA I/1/
+      IMPLICIT NONE
+      END

@@ -1,0 +1,3 @@
+      I=1
+      IMPLICIT NONE
+      END

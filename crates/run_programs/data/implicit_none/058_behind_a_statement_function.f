@@ -1,0 +1,3 @@
+      ISQ(J)=J*J
+      IMPLICIT NONE
+      END

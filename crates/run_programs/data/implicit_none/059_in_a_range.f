@@ -1,0 +1,4 @@
+      DO I=1,2
+      IMPLICIT NONE
+      END DO
+      END

@@ -1,0 +1,3 @@
+      IMPLICIT NONE
+      PROGRAM MAIN
+      END

@@ -1,0 +1,4 @@
+      IMPLICIT NONE
+      IMPLICIT INTEGER (A-Z)
+      I=1
+      END

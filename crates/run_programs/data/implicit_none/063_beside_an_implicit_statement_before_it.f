@@ -1,0 +1,5 @@
+      IMPLICIT LOGICAL (L)
+      IMPLICIT NONE
+      LOGICAL L
+      L=.TRUE.
+      END

@@ -1,0 +1,5 @@
+      IMPLICIT NONE
+      IMPLICIT NONE
+      INTEGER I
+      I=1
+      END

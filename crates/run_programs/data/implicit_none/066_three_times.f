@@ -1,0 +1,4 @@
+      IMPLICIT NONE
+      IMPLICIT NONE
+      IMPLICIT NONE
+      END

@@ -1,0 +1,4 @@
+      IMPLICIT INTEGER (A)
+      IMPLICIT NONE
+      IMPLICIT INTEGER (B)
+      END

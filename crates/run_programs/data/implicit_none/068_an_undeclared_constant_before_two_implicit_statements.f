@@ -1,0 +1,4 @@
+      PARAMETER (N=1)
+      IMPLICIT INTEGER (A-Z)
+      IMPLICIT NONE
+      END

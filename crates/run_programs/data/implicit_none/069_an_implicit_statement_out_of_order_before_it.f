@@ -1,0 +1,3 @@
+      IMPLICIT INTEGER (Z-A)
+      IMPLICIT NONE
+      END

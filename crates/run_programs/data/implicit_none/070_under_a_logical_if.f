@@ -1,0 +1,2 @@
+      IF (I.EQ.0) IMPLICIT NONE
+      END

@@ -1,0 +1,2 @@
+      IMPLICIT NONE,INTEGER (A-Z)
+      END

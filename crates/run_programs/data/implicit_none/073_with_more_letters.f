@@ -1,0 +1,2 @@
+      IMPLICIT NONES
+      END

@@ -1,0 +1,4 @@
+   10 IMPLICIT NONE
+      INTEGER I
+      IF (I.EQ.0) GO TO 10
+      END

@@ -1,0 +1,4 @@
+      I=2
+      IABCDEFGHIJKLM
+     1NOPQRSTUVWXYZ12345=7
+      END
