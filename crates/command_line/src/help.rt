@@ -43,12 +43,12 @@ Rules, which a source is refused for breaking:
   N1   a statement that may not stand behind one before it
   N2   END is missing, or a statement follows it
   N3   ELSE IF, ELSE, END IF or END where no block IF, or none of its arms, may go on or end so
-  N4   the range of a DO statement that crosses a block IF or another range, ends wrongly, or does not end
+  N4   a DO range that crosses a block IF or another, ends wrongly or never; END DO that ends none
   N5   more than 32 DO statements and block IFs open at once
   K1   a label that an earlier statement has
   K2   a transfer to a label that no statement has, or that may not be a target, or into a range or an arm
-  K3   a name that is REAL
-  K4   a name that is given too much, or is used against what it is
+  K3   a name that is REAL, or that no type statement names under IMPLICIT NONE
+  K4   a name that is given too much or used against what it is; IMPLICIT NONE beside IMPLICIT
   K5   an operand, argument, condition, subscript, bound, limit or value of the wrong type
   K6   an integer constant above 2147483647, or a bound or PARAMETER value that is no constant expression or that faults
   K7   more than seven dimensions, a lower bound above the upper one, or more than 1048576 elements of arrays
