@@ -464,7 +464,12 @@ fn close_unit(so_far: Open, item: Item) -> Result<Open, AllocError>
 }
 
 /// The range of a DO statement, which names the label, is open.
-fn open_range(alloc: Global, so_far: Open, head: Item, label: Option<u64>) -> Result<Open, AllocError>
+fn open_range(
+    alloc: Global,
+    so_far: Open,
+    head: Item,
+    label: Option<u64>,
+) -> Result<Open, AllocError>
     ensures { IfOk result (λ z. unfinished z ≡ range (item_tree head) label none (unfinished so_far)) }
 {
     match Box::new(alloc, so_far) {

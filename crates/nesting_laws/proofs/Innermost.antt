@@ -47,7 +47,6 @@ one_ends x xs d is here rest (y ∷ g) h q e f = rest g h q (both_cons x y xs (g
 none_ends : EndsDo []
 none_ends g h q e f = absurd (never_cons g h q e)
 
-
 range_does : (n : ℕ) (s : Option ℕ) (r : Members) → IsEnded s r → IsWell true (suc n) r → opens_range s ≡ opens_range None → HasItsEnd (flat r)
 range_does n None r k w e =
     let d = split_end (suc n) r w k in

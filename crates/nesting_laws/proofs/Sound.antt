@@ -196,15 +196,18 @@ add_none_sound (ended ms) more h o w f = absurd cc
 add_none_sound (body ms) more h o w f = well_joined false 0 ms more h w
 add_none_sound (range head s ms around) more h o w f =
     let opened = in_range s ∷ levels around in
-    subst IsSound (sym (add_longer None more head s ms around (unnamed s))) (record {
-      names_it = h.0.names_it;
-      room = h.0.room;
-      well = well_joined false (suc (length (levels around))) ms more h.0.well w;
-      fresh = subst (AllByRecursion (IsFresh opened)) (sym (flat_joined ms more)) (all_append (IsFresh opened) (flat ms) (flat more) h.0.fresh f);
-      head_fresh = h.0.head_fresh;
-      unhidden = h.0.unhidden;
-      goes_on = h.0.goes_on;
-    }, h.1)
+    subst IsSound (sym (add_longer None more head s ms around (unnamed s))) (
+      record {
+        names_it = h.0.names_it;
+        room = h.0.room;
+        well = well_joined false (suc (length (levels around))) ms more h.0.well w;
+        fresh = subst (AllByRecursion (IsFresh opened)) (sym (flat_joined ms more)) (all_append (IsFresh opened) (flat ms) (flat more) h.0.fresh f);
+        head_fresh = h.0.head_fresh;
+        unhidden = h.0.unhidden;
+        goes_on = h.0.goes_on;
+      },
+      h.1,
+    )
   where
     unnamed : (s : Option ℕ) → is_label_named None s ≡ false
     unnamed None = refl
@@ -213,14 +216,16 @@ add_none_sound (branch arms head ms around) more h o w f =
     let opened = levels around in
     let earlier = flat_arms arms in
     let longer : (earlier ++ (head ∷ flat ms)) ++ flat more ≡ earlier ++ (head ∷ flat (joined ms more)) =
-    append_assoc earlier (head ∷ flat ms) (flat more) ∙ ap (λ (xs : List ItemTree). earlier ++ (head ∷ xs)) (sym (flat_joined ms more)) in
-    (record {
-      room = h.0.room;
-      well = well_joined false (suc (length opened)) ms more h.0.well w;
-      goes = h.0.goes;
-      fresh = subst (AllByRecursion (IsFresh opened)) longer (all_append (IsFresh opened) (earlier ++ (head ∷ flat ms)) (flat more) h.0.fresh f);
-      goes_on = h.0.goes_on;
-    }, h.1)
+    append_assoc earlier (head ∷ flat ms) (flat more) ∙ ap (λ (xs : List ItemTree). earlier ++ (head ∷ xs)) (sym (flat_joined ms more)) in (
+      record {
+        room = h.0.room;
+        well = well_joined false (suc (length opened)) ms more h.0.well w;
+        goes = h.0.goes;
+        fresh = subst (AllByRecursion (IsFresh opened)) longer (all_append (IsFresh opened) (earlier ++ (head ∷ flat ms)) (flat more) h.0.fresh f);
+        goes_on = h.0.goes_on;
+      },
+      h.1,
+    )
 
 -- ---- END DO
 
