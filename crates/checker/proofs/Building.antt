@@ -25,7 +25,8 @@ use Rattle.k_rules.specs.Judged.{arrays_in, constant_in, starts_in}
 use Rattle.numbering.specs.declared.parts.Entry.{Entry}
 use Rattle.numbering.specs.declared.parts.Storage.{Storage}
 use Rattle.checker.specs.declared.rules.Names.{Names}
-use Rattle.checker.specs.Built.{AreNames, count_at, variables_at}
+use Rattle.numbering.specs.Appearing.{variables_at}
+use Rattle.checker.specs.Built.{AreNames, count_at}
 use Rattle.numbering.specs.Checked.{count_in, items_in, names_in}
 use Rattle.checker.specs.Entries.{Placed, Said, described, first_of, names_given, place_from, placed, said, stored}
 use Rattle.checker.specs.Given.{AreGiven, first_said, firsts_in}
