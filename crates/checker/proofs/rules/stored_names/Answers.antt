@@ -3,7 +3,6 @@ use Rattle.meaning.specs.Arrays.{cells_of}
 use Rattle.roles.specs.NameSets.{texts}
 use Rattle.k_rules.specs.Judged.{arrays_in}
 use Rattle.numbering.specs.Appearing.{variables_at}
-
 use Rattle.checker.specs.Entries.{IsSaid, said_at}
 use Rattle.numbering.specs.Numbered.{named}
 use Rattle.checker.proofs.rules.stored_names.Goals as goal
