@@ -16,7 +16,10 @@ const ASSIGNMENTS: &[(&str, &str)] = &[
         "ABCDEFGHIJKLMNOPQRSTUVWXYZABCDE=1",
         "assign ABCDEFGHIJKLMNOPQRSTUVWXYZABCDE 1",
     ),
+    ("INTEGER=5", "assign INTEGER 5"),
     ("INTEGERI=5", "assign INTEGERI 5"),
+    ("INTEGERI(3)=5", "assign INTEGERI;3 5"),
+    ("CONTINUE=1", "assign CONTINUE 1"),
     ("DO10I=1", "assign DO10I 1"),
     ("END=1", "assign END 1"),
     ("WRITE=2", "assign WRITE 2"),
@@ -142,7 +145,7 @@ const SPECIFICATION_STATEMENTS: &[(&str, &str)] = &[
     ("PARAMETER()", "G1 7"),
     ("PARAMETER(N)", "G1 7"),
     ("PARAMETER(N=3)=4", "G1 7"),
-    ("PARAMETER(3)=4", "G1 7"),
+    ("PARAMETER(3)=4", "assign PARAMETER;3 4"),
 ];
 
 /// Chapter 11 of the standard: GO TO statements and arithmetic IF, and assignments that look like them.
