@@ -4,4 +4,5 @@
       I=K
       END DO
    10 END DO
+      END DO
       END
