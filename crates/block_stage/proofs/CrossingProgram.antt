@@ -8,7 +8,7 @@ use Rattle.numbering.specs.contracts.parts.Storage as Storage
 use Rattle.numbering.specs.contracts.parts.Entry as Entry
 use Rattle.numbering.specs.contracts.parts.FunctionAt as FunctionAt
 use Rattle.numbering.specs.contracts.parts.Parts as Parts
-use Rattle.checker.specs.contracts.program.Program as Checked
+use Rattle.numbering.specs.contracts.program.Program as Checked
 use Rattle.postfix.specs.contracts.instruction.VariableSubscript as VariableSubscript
 use Rattle.postfix.specs.contracts.instruction.Step as Step
 use Rattle.postfix.specs.contracts.instruction.Change as Change

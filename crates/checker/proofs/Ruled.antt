@@ -7,14 +7,12 @@ use Rattle.std.proofs.lemmas.Bool.{true≢false, ltb-false}
 use Rattle.std.proofs.lemmas.List.{append-nil}
 use Rattle.std.proofs.lemmas.List.Folds.{list_any-append}
 use Rattle.std.proofs.lemmas.Slice.Eq.{bytes_eq-Decides}
-use Rattle.meaning.specs.declared.refusal.Broken.{Broken}
 use Rattle.meaning.specs.declared.refusal.Rule.{Rule}
 use Rattle.meaning.specs.declared.refusal.Rule.TheVariants.{K1, K3, K4, K5, K8, K12}
 use Rattle.meaning.specs.declared.syntax.Member.{Member, Plain, Loop', Block}
 use Rattle.meaning.specs.LabelRules.{has_repeated_label}
 use Rattle.meaning.specs.NameRules.{broken_names, breaks_function_rules, defined_here, given_by, given_from, given_twice, has_bad_dummies, has_misuse, has_real_name, is_bad_definition, is_disputed, is_late, is_wrongly_typed, has_two_roles, repeats, told}
-use Rattle.meaning.specs.Refusals.{least, unless}
-use Rattle.meaning.specs.Rules.{broken_items, broken_rules, checked}
+use Rattle.meaning.specs.Rules.{broken_items, checked}
 use Rattle.meaning.specs.Scopes.{Definition, defined_before, defined_by, definitions_of, is_specification}
 use Rattle.meaning.specs.Statements.{broken_if}
 use Rattle.meaning.specs.Syntax.{ItemTree, ShapeTree, assignment, definition, shape_tree}
@@ -27,20 +25,13 @@ use Rattle.roles.proofs.Staging.{behind_one, stands_before}
 use Rattle.numbering.specs.declared.parts.FunctionAt.{FunctionAt}
 use Rattle.numbering.specs.FunctionsFound.{IsFoundAt}
 use Rattle.numbering.specs.Kept.{IsFunctionAt, shown_at, shown_by}
+use Rattle.numbering.proofs.Unbroken.{none_front, nothing_broken}
 
 or_parts : (a b : Bool) → (a || b) ≡ false → (a ≡ false) × (b ≡ false)
 or_parts true b h = absurd (true≢false h)
 or_parts false b h = (refl, h)
 
 -- ---- nothing is broken
-
-no_least : (bs : List Broken) → least bs ≡ None → bs ≡ []
-no_least [] none = refl
-no_least (b ∷ bs) none = absurd cc
-
-none_front : {A : Type 0} (xs ys : List A) → (xs ++ ys) ≡ [] → xs ≡ []
-none_front [] ys none = refl
-none_front (x ∷ xs) ys none = absurd cc
 
 none_behind : {A : Type 0} (xs ys : List A) → (xs ++ ys) ≡ [] → ys ≡ []
 none_behind [] ys none = none
@@ -49,14 +40,6 @@ none_behind (x ∷ xs) ys none = absurd cc
 not_told : (b : Bool) (line : ℕ) (rule : Rule) → broken_if b line rule ≡ [] → b ≡ false
 not_told false line rule none = refl
 not_told true line rule none = absurd cc
-
-no_rule_told : (t : Nested) (o : Option Broken) → unless o t ≡ Ok t → o ≡ None
-no_rule_told t None accepted = refl
-no_rule_told t (Some b) accepted = absurd cc
-
-nothing_broken : (t : Nested) → checked t ≡ Ok t → broken_rules t ≡ []
-unfolding checked
-nothing_broken t accepted = no_least (broken_rules t) (no_rule_told t (least (broken_rules t)) accepted)
 
 told_parts : (breaks : List ItemTree → ItemTree → Bool) (rule : Rule) (before xs : List ItemTree) (x : ItemTree) → told breaks rule before (x ∷ xs) ≡ [] → (breaks before x ≡ false) × (told breaks rule (before ++ x ∷ []) xs ≡ [])
 unfolding told
@@ -168,12 +151,6 @@ all_own r before (x ∷ xs) disputed functions =
     let a = told_parts (is_disputed r) K4 before xs x disputed in
     let b = told_parts (breaks_function_rules r) K12 before xs x functions in
     own_one r before xs x a.0 b.0 (all_own r (before ++ x ∷ []) xs a.1 b.1)
-
--- no label stands twice
-pub labels_once : (t : Nested) → checked t ≡ Ok t → told has_repeated_label K1 [] (flatten t) ≡ []
-labels_once t accepted =
-    let r = roles_of (flatten t) in
-    none_front (told has_repeated_label K1 [] (flatten t)) _ (none_front (broken_items r (flatten t)) _ (nothing_broken t accepted))
 
 own_all : (t : Nested) → checked t ≡ Ok t → AreOwn [] (definitions_of (roles_of (flatten t)).names.arrays (flatten t))
 own_all t accepted =

@@ -4,7 +4,6 @@ use Rattle.meaning.specs.declared.syntax.Tree.{Tree}
 use Rattle.meaning.specs.Arrays.{cells_of}
 use Rattle.roles.specs.declared.names.Roles.{Roles}
 use Rattle.roles.specs.Listed.{trees_at}
-use Rattle.roles.specs.RolesAt.{roles_at}
 use Rattle.roles.specs.TypedNames.{implicit_parts, letter_type}
 use Rattle.k_rules.specs.declared.verdict.Facts.{Facts}
 use Rattle.k_rules.specs.Judged.{arrays_in, constant_in, starts_in}

@@ -1,5 +1,5 @@
 -- The command as clap sees it.
-use Rattle.std.specs.Prelude.{ℕ, List, Option, Some, codes, ◌∷◌, [], true}
+use Rattle.std.specs.Prelude.{ℕ, Some, codes, true}
 use Rattle.clap.specs.Walk.{Rule, Text}
 use Rattle.clap.specs.Simple.{App, new_app, new_rule, with_rule}
 use Rattle.clap.specs.declared.builder.action.ArgAction.TheVariants.{Set, Append}

@@ -2,6 +2,7 @@
 use Rattle.std.proofs.Common.{◌≡◌, ◌⊎◌, inl, inr, ℕ, ℤ, suc, ◌+◌, ◌+ℤ◌, ◌||◌, Bool, true, false, if◌then◌else◌, List, [], Option, Some, None, Result, Ok, Err, refl, sym, ap, ◌∙◌, subst, arith}
 use Rattle.std.specs.Prelude.{not, IsSome, IsTrue, is_some}
 use Rattle.std.proofs.lemmas.Bool.{false≢true}
+use Rattle.meaning.specs.declared.ending.Fault.{Fault}
 use Rattle.meaning.specs.declared.ending.FaultKind.{FaultKind}
 use Rattle.meaning.specs.declared.ending.FaultKind.TheVariants.{F4}
 use Rattle.meaning.specs.declared.ending.Value.{Value}
@@ -10,7 +11,7 @@ use Rattle.meaning.specs.declared.ending.Outcome.TheVariants as outcomes
 use Rattle.meaning.specs.declared.syntax.Tree.{Tree}
 use Rattle.meaning.specs.Characters.{number_of}
 use Rattle.meaning.specs.Scopes.{Definition, defined_by, scope_of}
-use Rattle.meaning.specs.Syntax.{ExprTree, ExprsTree, FormatTree, ListItemsTree, ShapeTree, StopTree, ItemTree, assignment, writing, printing, doing, continuing, going, computed_going, arithmetic_if, logical_if, block_if, else_if, stopping, end_do}
+use Rattle.meaning.specs.Syntax.{ExprTree, ExprsTree, FormatTree, ListItemsTree, ShapeTree, StopTree, ItemTree, assignment, writing, printing, doing, continuing, going, computed_going, arithmetic_if, logical_if, block_if, else_if, stopping, doing_while, end_do}
 use Rattle.meaning.specs.Maps.{Map, put}
 use Rattle.meaning.specs.Values.{Scope, dimensions_in, subscripts, value, as_integer, as_logical, integer, and_then}
 use Rattle.meaning.specs.Execution.{Ran, more, Ways, onward, at_label, turn, with_ok, failed, added, assigned, unless_defined, simple, step, condition_of, truth_of, holds, turn_if, tested}
@@ -24,6 +25,7 @@ use Rattle.programs.specs.Acts.{is_idle, Conditional, Defines, Repeats}
 use Rattle.programs.specs.Acts as acts
 use Rattle.programs.specs.Asked.{is_logical_if}
 use Rattle.programs.specs.Items.{AreItemsOf}
+use Rattle.evaluator.specs.Over.{condition_tested}
 use Rattle.evaluator.specs.Statements.{Puts, Sums, target_and_value, Leaves, Passes, Moves, Tests}
 use Rattle.evaluator.proofs.Composed.{moves_behind, moves_same}
 
@@ -198,6 +200,9 @@ module _ (p : Tree) (line : ℕ) (s : ShapeTree) (m : Map) (t : ℕ) where
       by (inl is) = passes_as (block_if x.condition) is (passes_over m t)
       by (inr is) = passes_as (else_if x.condition) is (passes_over m t)
 
+  pub while_passes_over : (c : Code) → acts.Whiles p c s → IsPassed
+  while_passes_over c x = passes_as (doing_while x.label x.comma x.condition) x.is (passes_over m t)
+
   pub repeat_passes : (r : Repeat) → Repeats p r s → IsPassed
   repeat_passes r x = passes_as (doing x.label x.comma x.variable x.limits) x.is (passes_over m t)
 
@@ -248,6 +253,26 @@ tested_condition p c s x = by x.is
     by (inl is) = ap condition_of is
     by (inr is) = ap condition_of is
 
+module _ (scope : Scope) (e : ExprTree) (line : ℕ) (m : Map) (t : ℕ) where
+  abbrev condition : (Bool → ℕ → Ran) → Ran
+  condition go = condition_tested scope e line m t go
+
+  pub test_unexecuted : (u : ℕ) → t ≡ 0 → u ≡ 0 → Tests condition t m u (Err (record { kind = F4; line = line }))
+  test_unexecuted u none left go = turn_none line m t u (λ n. with_ok (truth_of (value scope e m)) line m (λ b. go b n)) none left
+
+  module _ (u : ℕ) (taken : t ≡ suc u) where
+    pub test_fails : (k : FaultKind) → value scope e m ≡ Err k → Tests condition t m u (Err (record { kind = k; line = line }))
+    test_fails k h go =
+        turn_fails line m t u (truth_of (value scope e m)) k (λ b n. go b n) taken (ap truth_of h)
+
+    pub test_tells : (v : Value) (b : Bool) → value scope e m ≡ Ok v → b ≡ as_logical v → Tests condition t m u (Ok b)
+    test_tells v b h same =
+        record {
+          used = 1;
+          is = λ go. turn_goes line m t u (truth_of (value scope e m)) (as_logical v) (λ b n. go b n) taken (ap truth_of h) ∙ ap (λ b. more [] 1 (go b u)) (sym same);
+          turns = one_less t u taken;
+        }
+
 module _ (scope : Scope) (first : Bool) (x : ItemTree) (m : Map) (t : ℕ) where
   abbrev does : (Bool → ℕ → Ran) → Ran
   does go = tested scope first x m t go
@@ -260,27 +285,15 @@ module _ (scope : Scope) (first : Bool) (x : ItemTree) (m : Map) (t : ℕ) where
       or-true false = refl
 
   module _ (e : ExprTree) (is : condition_of x.shape ≡ Some e) where
-    tests-if : (go : Bool → ℕ → Ran) → does go ≡ turn x.line m t (λ u. with_ok (truth_of (value scope e m)) x.line m (λ b. go b u))
+    tests-if : (go : Bool → ℕ → Ran) → does go ≡ condition scope e x.line m t go
     unfolding tested
     tests-if go =
         ap (λ b. turn_if b x.line m t (λ u. with_ok (holds scope (condition_of x.shape) m) x.line m (λ b. go b u))) (or-some e (condition_of x.shape) is) ∙ ap (λ c. turn x.line m t (λ u. with_ok (holds scope c m) x.line m (λ b. go b u))) is
 
-    pub test_unexecuted : (u : ℕ) → t ≡ 0 → u ≡ 0 → Tests does t m u (Err (record { kind = F4; line = x.line }))
-    test_unexecuted u none left go =
-        subst (λ r. Leaves r t m u (fault_at F4 x.line)) (sym (tests-if go)) (turn_none x.line m t u _ none left)
-
-    module _ (u : ℕ) (taken : t ≡ suc u) where
-      pub test_fails : (k : FaultKind) → value scope e m ≡ Err k → Tests does t m u (Err (record { kind = k; line = x.line }))
-      test_fails k h go =
-          subst (λ r. Leaves r t m u (fault_at k x.line)) (sym (tests-if go)) (turn_fails x.line m t u (truth_of (value scope e m)) k (λ b n. go b n) taken (ap truth_of h))
-
-      pub test_tells : (v : Value) (b : Bool) → value scope e m ≡ Ok v → b ≡ as_logical v → Tests does t m u (Ok b)
-      test_tells v b h same =
-          record {
-            used = 1;
-            is = λ go. tests-if go ∙ turn_goes x.line m t u (truth_of (value scope e m)) (as_logical v) (λ b n. go b n) taken (ap truth_of h) ∙ ap (λ b. more [] 1 (go b u)) (sym same);
-            turns = one_less t u taken;
-          }
+    pub tests_as : (u : ℕ) (r : Result Bool Fault) → Tests (condition scope e x.line m t) t m u r → Tests does t m u r
+    tests_as u (Ok b) h = record { used = h.used; is = λ go. tests-if go ∙ h.is go; turns = h.turns }
+    tests_as u (Err f) h =
+        λ go. subst (λ r. Leaves r t m u (outcomes.Fault f)) (sym (tests-if go)) (h go)
 
   module _ (is : condition_of x.shape ≡ None) where
     tests-else : (b : Bool) → first ≡ b → (go : Bool → ℕ → Ran) → does go ≡ turn_if (b || false) x.line m t (λ u. go true u)

@@ -14,15 +14,15 @@ use Rattle.meaning.specs.declared.ending.FaultKind.{FaultKind}
 use Rattle.meaning.specs.declared.ending.FaultKind.TheVariants.{F4}
 use Rattle.meaning.specs.declared.ending.Outcome.{Outcome}
 use Rattle.meaning.specs.declared.ending.Outcome.TheVariants as outcomes
-use Rattle.meaning.specs.Syntax.{ItemTree, ShapeTree, LimitsTree, doing, shape_tree}
+use Rattle.meaning.specs.Syntax.{ExprTree, ItemTree, ShapeTree, LimitsTree, doing, shape_tree}
 use Rattle.meaning.specs.Trees.{Members, none, flat, flat_arms, row_arms, item_tree, member_before, row_members, members_tree, arms_tree}
 use Rattle.meaning.specs.Trips.{Span, span_of, trips}
 use Rattle.meaning.specs.Scopes.{scope_of}
-use Rattle.meaning.specs.Values.{Scope}
+use Rattle.meaning.specs.Values.{Scope, Valued, value, as_logical}
 use Rattle.meaning.specs.Maps.{Map, put}
 use Rattle.meaning.specs.Stores.{Cells, World, Reads, Does}
-use Rattle.meaning.specs.Execution.{Ran, Meaning, Follow, Ways, onward, at_label, ended, ended_by, jump, more, with_ok, goes_on, leads_on, added, fold_trips, trips_from, looped, tested, arms_from, labelled, goes_at, ways_in, pass_over, exec}
-use Rattle.meaning.proofs.Running.{exec_is}
+use Rattle.meaning.specs.Execution.{Ran, Meaning, Follow, Ways, onward, at_label, ended, ended_by, jump, more, with_ok, goes_on, leads_on, added, fold_trips, trips_from, looped, truth_of, while_of, ways_again, repeated, loop_by, tested, arms_from, labelled, goes_at, ways_in, pass_over, exec, turn}
+use Rattle.meaning.proofs.Running.{exec_is, more-more}
 use Rattle.meaning.proofs.Stores.{does_then}
 use Rattle.meaning.proofs.Ranges.{range_is, row_arms-items, member_before-block, left_arms}
 use Rattle.meaning.specs.declared.syntax.Tree.{Tree}
@@ -32,9 +32,10 @@ use Rattle.programs.specs.Asked.{is_doing}
 use Rattle.programs.specs.Codes.{IsCell}
 use Rattle.evaluator.specs.Quiet.{variable_of}
 use Rattle.evaluator.specs.Member.{member_does}
-use Rattle.evaluator.specs.Over.{values_by, trips_as, repeated_as}
-use Rattle.evaluator.specs.Statements.{ran_by, Leaves, Passes, Moves, Reaches, Comes, Picks, Adds}
-use Rattle.evaluator.proofs.Composed.{leaves_runs, leaves_behind, reaches_end, reaches_more, leaves_on, leaves_along, IsEnd, ends_there, moves_behind, comes_then, reads_and_does}
+use Rattle.evaluator.specs.Over.{condition_tested, loop_as, values_by, trips_as, repeated_as, while_as}
+use Rattle.evaluator.specs.Passed.{PassesBy, passed_behind}
+use Rattle.evaluator.specs.Statements.{ran_by, Leaves, Passes, Moves, Reaches, Comes, Picks, Adds, GoesAgain}
+use Rattle.evaluator.proofs.Composed.{add_turns, leaves_runs, leaves_behind, reaches_end, reaches_more, leaves_on, leaves_along, IsEnd, ends_there, moves_behind, comes_then, reads_and_does}
 use Rattle.evaluator.proofs.Executed.{added_goes, added_fails, fault_at, one_less, turn_none, turn_fails, turn_goes}
 
 -- ---- what holds of each statement
@@ -86,16 +87,16 @@ module _ (P : ItemTree → Type 0) where
 -- ---- lists
 
 module _ (program : List ItemTree) where
-  pub loop_does : (rec : Meaning) (l : LoopOf) (m : Map) (t : ℕ) (go : Ways) → member_does program rec (Loop l) m t go ≡ looped (scope_of program) rec (shape_tree (out-Loop l).head.form.shape.value) (out-Loop l).head.line (members_tree (out-Loop l).range.items) m t go
-  loop_does rec l m t go =
-      ap (λ range. looped (scope_of program) rec (shape_tree (out-Loop l).head.form.shape.value) (out-Loop l).head.line range m t go) (range_is l)
+  pub loop_does : (rec : Meaning) (l : LoopOf) (again : Follow) (m : Map) (t : ℕ) (go : Ways) → member_does program rec (Loop l) again m t go ≡ loop_by (while_of (shape_tree (out-Loop l).head.form.shape.value)) (scope_of program) rec (item_tree (out-Loop l).head) (members_tree (out-Loop l).range.items) again m t go
+  loop_does rec l again m t go =
+      ap (λ range. loop_by (while_of (shape_tree (out-Loop l).head.form.shape.value)) (scope_of program) rec (item_tree (out-Loop l).head) range again m t go) (range_is l)
 
-  pub block_does : (rec : Meaning) (b : _) (m : Map) (t : ℕ) (go : Ways) → member_does program rec (Block b) m t go ≡ arms_from (scope_of program) rec true (arms_tree (out-Block b).arms.items) m t go
+  pub block_does : (rec : Meaning) (b : _) (again : Follow) (m : Map) (t : ℕ) (go : Ways) → member_does program rec (Block b) again m t go ≡ arms_from (scope_of program) rec true (arms_tree (out-Block b).arms.items) m t go
   unfolding out-Block Rattle.meaning.specs.declared.syntax.Member.TheBlock.shown-the_row-Arm-1 denote.Hole.Carrier.out denote.Hole.Carrier.shown
-  block_does rec (Block' shape arms end) m t go =
+  block_does rec (Block' shape arms end) again m t go =
       ap (λ xs. arms_from (scope_of program) rec true xs m t go) (row_arms-items _ arms ∙ ap arms_tree (sym (items_shown-the_row-Arm-1 shape arms)))
 
-  head-does : (rec : Meaning) (all : Members) (x : Member) (ms : Members) (m : Map) (t : ℕ) → pass_over program rec all (member_before x ms) m t ≡ member_does program rec x m t (ways_in rec all (λ n u. pass_over program rec all ms n u))
+  head-does : (rec : Meaning) (all : Members) (x : Member) (ms : Members) (m : Map) (t : ℕ) → pass_over program rec all (member_before x ms) m t ≡ member_does program rec x (rec all (member_before x ms)) m t (ways_in rec all (λ n u. pass_over program rec all ms n u))
   unfolding pass_over
   head-does rec all (Plain x) ms m t = refl
   head-does rec all (Loop' head shape range) ms m t = refl
@@ -113,10 +114,11 @@ module _ (program : List ItemTree) where
     abbrev pub behind_place : ℕ → Ways
     behind_place i = ways_in (exec program) all (λ n u. from_place (i + 1) n u)
 
-    pub at_place : (i : ℕ) (x : Member) (m : Map) (t : ℕ) → i < length ms → x ≡ get_or ms i x → from_place i m t ≡ member_does program (exec program) x m t (behind_place i)
+    pub at_place : (i : ℕ) (x : Member) (m : Map) (t : ℕ) → i < length ms → x ≡ get_or ms i x → from_place i m t ≡ member_does program (exec program) x (from_place i) m t (behind_place i)
     at_place i x m t lt is =
         let rest = members_tree (drop (i + 1) ms) in
-        ap (λ xs. exec program all (members_tree xs) m t) (drop_more ms i x lt ∙ ap (λ y. y ∷ drop (i + 1) ms) (sym is)) ∙ exec_is program all (member_before x rest) m t ∙ head-does (exec program) all x rest m t ∙ ap (λ go. member_does program (exec program) x m t (ways_in (exec program) all go)) (fun_ext (λ n. fun_ext (λ u. sym (exec_is program all rest n u))))
+        let left = drop_more ms i x lt ∙ ap (λ y. y ∷ drop (i + 1) ms) (sym is) in
+        ap (λ xs. exec program all (members_tree xs) m t) left ∙ exec_is program all (member_before x rest) m t ∙ head-does (exec program) all x rest m t ∙ ap (λ go. member_does program (exec program) x (exec program all (member_before x rest)) m t (ways_in (exec program) all go)) (fun_ext (λ n. fun_ext (λ u. sym (exec_is program all rest n u)))) ∙ ap (λ xs. member_does program (exec program) x (exec program all (members_tree xs)) m t (behind_place i)) (sym left)
 
     pub at_end_of : (i : ℕ) (m : Map) (t : ℕ) → length ms ≤ i → from_place i m t ≡ ended m
     unfolding pass_over
@@ -128,11 +130,16 @@ module _ (program : List ItemTree) where
 
       module _ (x : Member) (new : Map) (left : ℕ) (lt : i < length ms) (is : x ≡ get_or ms i x) where
         abbrev steps : Ways → Ran
-        steps go = member_does program (exec program) x m t go
+        steps go = member_does program (exec program) x (from_place i) m t go
 
         pub member_goes : Passes steps t onward new left → Reaches whole (from_place (i + 1) new left) given left
         member_goes g =
             reaches_more whole _ given t s (from_place (i + 1) new left) g.used left (at_place i x m t lt is ∙ g.is (behind_place i)) g.turns
+
+        -- it is executed again
+        pub member_again : GoesAgain steps t (from_place i) new left → Reaches whole (from_place i new left) given left
+        member_again g =
+            reaches_more whole _ given t s (from_place i new left) g.used left (at_place i x m t lt is ∙ g.is (behind_place i)) g.turns
 
         -- a jump inside the list, and out of it
         pub member_jumps : (label j : ℕ) → Some (members_tree (drop j ms)) ≡ labelled label all → Passes steps t (at_label label) new left → Reaches whole (from_place j new left) given left
@@ -231,6 +238,79 @@ pub unless_do : (s : ShapeTree) (scope : Scope) (rec : Meaning) (line : ℕ) (ra
 unfolding looped
 unless_do (doing label comma variable limits) scope rec line range m t h go = absurd (false≢true h)
 unless_do s scope rec line range m t h go = refl
+
+-- ---- DO WHILE statements
+
+-- a value's truth, and what follows it
+truth-with : (r : Valued) (line : ℕ) (m : Map) (go : Bool → Ran) → with_ok r line m (λ v. go (as_logical v)) ≡ with_ok (truth_of r) line m go
+unfolding with_ok
+truth-with (Ok v) line m go = refl
+truth-with (Err k) line m go = refl
+
+module _ (scope : Scope) (rec : Meaning) (e : ExprTree) (line : ℕ) (range : Members) (again : Follow) (m : Map) (t : ℕ) where
+  abbrev whiles : Ways → Ran
+  whiles go = repeated scope rec e line range again m t go
+
+  abbrev while_test : (Bool → ℕ → Ran) → Ran
+  while_test go = condition_tested scope e line m t go
+
+  -- what follows its test
+  abbrev behind_test : Ways → Bool → ℕ → Ran
+  behind_test go b u = if b then leads_on (rec range range m u) u (ways_again again go) else go onward m u
+
+  while-tests : (go : Ways) → whiles go ≡ while_test (behind_test go)
+  unfolding repeated
+  while-tests go = λ i. turn line m t (λ u. truth-with (value scope e m) line m (λ b. behind_test go b u) i)
+
+  module _ (u : ℕ) where
+    -- false: execution goes on behind it
+    pub while_ends : Picks while_test t false u → Passes whiles t onward m u
+    while_ends x = record { used = x.used; is = λ go. while-tests go ∙ x.is (behind_test go); turns = x.turns }
+
+    pub while_faults : (f : _) → ((go : Bool → ℕ → Ran) → Leaves (while_test go) t m u (outcomes.Fault f)) → Moves whiles t m u (outcomes.Fault f)
+    while_faults f h go =
+        subst (λ r. Leaves r t m u (outcomes.Fault f)) (sym (while-tests go)) (h (behind_test go))
+
+    module _ (x : Picks while_test t true u) (new : Map) (left : ℕ) where
+      pub while_comes : (go : Ways) → whiles go ≡ more [] x.used (leads_on (rec range range m u) u (ways_again again go))
+      while_comes go = while-tests go ∙ x.is (behind_test go)
+
+      -- true, and the range ended normally
+      while-again : Passes (λ go. leads_on (rec range range m u) u go) u onward new left → GoesAgain whiles t again new left
+      unfolding more
+      while-again p =
+          record {
+            used = x.used + p.used;
+            is = λ go. while_comes go ∙ ap (λ r. more [] x.used r) (p.is (ways_again again go)) ∙ more-more [] [] x.used p.used (again new left);
+            turns = add_turns x.used p.used left u t x.turns p.turns;
+          }
+
+      -- true, and the range ended otherwise
+      while-leaves : (o : Outcome) → Moves (λ go. leads_on (rec range range m u) u (ways_again again go)) u new left o → Moves whiles t new left o
+      while-leaves o y =
+          moves_behind whiles (λ go. leads_on (rec range range m u) u (ways_again again go)) t u new left o (record { used = x.used; is = while_comes; turns = x.turns }) y
+
+      while-passes : (o : Outcome) → Moves (λ go. leads_on (rec range range m u) u go) u new left o → PassesBy whiles t again new left (passed_behind o)
+      while-passes outcomes.Normal p = while-again p
+      while-passes (outcomes.Left s) p =
+          while-leaves (outcomes.Left s) (record { used = p.used; is = λ go. p.is (ways_again again go); turns = p.turns })
+      while-passes (outcomes.Stopped l) p = while-leaves (outcomes.Stopped l) (λ go. p (ways_again again go))
+      while-passes (outcomes.Fault f) p = while-leaves (outcomes.Fault f) (λ go. p (ways_again again go))
+
+      pub while_passes : (o : Outcome) → Leaves (rec range range m u) u new left o → PassesBy whiles t again new left (passed_behind o)
+      while_passes o y = while-passes o (leaves_on (rec range range m u) u new left o y)
+
+module _ (all : List ItemTree) (l : LoopOf) where
+  pub while_is : (e : ExprTree) → while_of (shape_tree (out-Loop l).head.form.shape.value) ≡ Some e → (again : Follow) (m : Map) (t : ℕ) (go : Ways) → while_as all l again m t go ≡ repeated (scope_of all) (exec all) e (out-Loop l).head.line (members_tree (out-Loop l).range.items) again m t go
+  unfolding loop_by
+  while_is e is again m t go =
+      ap (λ o. loop_by o (scope_of all) (exec all) (item_tree (out-Loop l).head) (members_tree (out-Loop l).range.items) again m t go) is
+
+  -- a DO statement is none
+  pub while_none : while_of (shape_tree (out-Loop l).head.form.shape.value) ≡ None → (again : Follow) (m : Map) (t : ℕ) (go : Ways) → while_as all l again m t go ≡ loop_as all (shape_tree (out-Loop l).head.form.shape.value) l m t go
+  unfolding loop_by
+  while_none is again m t go =
+      ap (λ o. loop_by o (scope_of all) (exec all) (item_tree (out-Loop l).head) (members_tree (out-Loop l).range.items) again m t go) is
 
 -- a range by itself, when the variable has its first value
 pub repeated_runs : (all : List ItemTree) (l : LoopOf) (first by : ℤ) (count : ℕ) (m n k : Map) (t left : ℕ) (o : Outcome) (used : ℕ) → used ≡ t - left → n ≡ put m (variable_of (shape_tree (out-Loop l).head.form.shape.value)) [] first → Leaves (trips_as all l (variable_of (shape_tree (out-Loop l).head.form.shape.value)) first by count n t) t k left o → repeated_as all l first by count m t ≡ ran_by (record { outcome = o; turns_used = used }) k

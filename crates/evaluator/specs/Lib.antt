@@ -6,4 +6,5 @@ pub mod Quiet
 pub mod Places
 pub mod Listing
 pub mod Over
+pub mod Passed
 pub mod Unset

@@ -9,19 +9,22 @@ use Rattle.meaning.specs.declared.ending.Run.{Run}
 use Rattle.meaning.specs.declared.ending.Value.{Value}
 use Rattle.meaning.specs.declared.syntax.Loop.{Loop, out-Loop}
 use Rattle.meaning.specs.declared.syntax.Tree.{Tree}
-use Rattle.meaning.specs.Execution.{Ran, Ways, exec, fold_trips, looped, arms_from, tested}
+use Rattle.meaning.specs.Execution.{Ran, Follow, Ways, exec, fold_trips, looped, while_of, loop_by, arms_from, tested, turn, with_ok, truth_of}
 use Rattle.meaning.specs.Lists.{listed, list_limit}
 use Rattle.meaning.specs.Maps.{Map, put}
 use Rattle.meaning.specs.Scopes.{scope_of}
 use Rattle.meaning.specs.Stores.{Cells, World, Does}
 use Rattle.meaning.specs.Syntax.{ExprTree, ExprsTree, ItemTree, LimitsTree, ListItemsTree, ShapeTree, assignment, shape_tree}
-use Rattle.meaning.specs.Trees.{Members, Arms, members_tree}
+use Rattle.meaning.specs.Trees.{Members, Arms, item_tree, members_tree}
 use Rattle.meaning.specs.Trips.{span_of}
+use Rattle.meaning.specs.Values.{Scope, value}
 use Rattle.numbering.specs.Starts.{map_of}
 use Rattle.values.specs.Programs.{IsCellAt, map_at, scope_in}
 use Rattle.evaluator.specs.declared.limits.Span.{Span}
+use Rattle.evaluator.specs.declared.passed.Passed.{Passed}
 use Rattle.evaluator.specs.Limited.{SpanIs}
 use Rattle.evaluator.specs.Listing.{ListIs}
+use Rattle.evaluator.specs.Passed.{PassesBy}
 use Rattle.evaluator.specs.Quiet.{variable_of}
 use Rattle.evaluator.specs.Statements.{Adds, Assigns, Leaves, Moves, Tests, ran_by}
 
@@ -61,6 +64,11 @@ ListsOver t u v list r = Does u v (λ m k. ListIs r (map_at t k) (listed (scope_
 abbrev pub loop_as : List ItemTree → ShapeTree → Loop → Map → ℕ → Ways → Ran
 loop_as all s l m t go = looped (scope_of all) (exec all) s (out-Loop l).head.line (members_tree (out-Loop l).range.items) m t go
 
+-- a DO or DO WHILE statement with its range
+abbrev pub while_as : List ItemTree → Loop → Follow → Map → ℕ → Ways → Ran
+while_as all l again m t go =
+    loop_by (while_of (shape_tree (out-Loop l).head.form.shape.value)) (scope_of all) (exec all) (item_tree (out-Loop l).head) (members_tree (out-Loop l).range.items) again m t go
+
 -- the values of a DO variable from the first one on, so many
 abbrev pub values_by : ℤ → ℤ → ℕ → List ℤ
 values_by first step count = map (λ k. first +ℤ pos k *ℤ step) (range_with_len 0 count)
@@ -93,6 +101,14 @@ MovesAt t does given left o m n = Moves (λ go. does (map_at t m) given go) give
 abbrev pub MovesOver : Tree → World → World → (Map → ℕ → Ways → Ran) → ℕ → ℕ → Outcome → Type 0
 MovesOver t u v does given left o = Does u v (MovesAt t does given left o)
 
+-- a member of a list, which goes on or ends, or is executed again, whatever that does
+abbrev pub PassesAt : Tree → (Follow → Map → ℕ → Ways → Ran) → ℕ → ℕ → Passed → Cells → Cells → Type 0
+PassesAt t does given left p m n =
+    (again : Follow) → PassesBy (λ go. does again (map_at t m) given go) given again (map_at t n) left p
+
+abbrev pub PassesOver : Tree → World → World → (Follow → Map → ℕ → Ways → Ran) → ℕ → ℕ → Passed → Type 0
+PassesOver t u v does given left p = Does u v (PassesAt t does given left p)
+
 -- one that changes no value
 abbrev pub StaysAt : Tree → (Map → ℕ → Ways → Ran) → ℕ → ℕ → Outcome → Cells → Type 0
 StaysAt t does given left o m = MovesAt t does given left o m m
@@ -108,6 +124,13 @@ LeavesOver t u v does given left o = Does u v (LeavesAt t does given left o)
 abbrev pub RunsOver : Tree → World → World → (Map → ℕ → Ran) → ℕ → Run → Type 0
 RunsOver t u v does given r = Does u v (λ m n. does (map_at t m) given ≡ ran_by r (map_at t n))
 
+-- the test of a condition, which takes a turn
+abbrev pub condition_tested : Scope → ExprTree → ℕ → Map → ℕ → (Bool → ℕ → Ran) → Ran
+condition_tested scope e line m t go = turn line m t (λ u. with_ok (truth_of (value scope e m)) line m (λ b. go b u))
+
+abbrev pub ConditionAt : Tree → ExprTree → ℕ → ℕ → ℕ → Result Bool Fault → Cells → Type 0
+ConditionAt t e line given left r m = Tests (λ go. condition_tested (scope_in t) e line (map_at t m) given go) given (map_at t m) left r
+
 -- the test of an arm
 abbrev pub TestsAt : Tree → Bool → ItemTree → ℕ → ℕ → Result Bool Fault → Cells → Type 0
 TestsAt t first x given left r m = Tests (λ go. tested (scope_in t) first x (map_at t m) given go) given (map_at t m) left r
@@ -116,6 +139,9 @@ TestsAt t first x given left r m = Tests (λ go. tested (scope_in t) first x (ma
 
 abbrev pub MovesIn : Tree → List ℤ → List ℤ → (Map → ℕ → Ways → Ran) → ℕ → ℕ → Outcome → Type 0
 MovesIn t old new does given left o = Moves (λ go. does (map_of t old) given go) given (map_of t new) left o
+
+abbrev pub ConditionIn : Tree → List ℤ → ExprTree → ℕ → ℕ → ℕ → Result Bool Fault → Type 0
+ConditionIn t values e line given left r = Tests (λ go. condition_tested (scope_in t) e line (map_of t values) given go) given (map_of t values) left r
 
 abbrev pub TestsIn : Tree → List ℤ → Bool → ItemTree → ℕ → ℕ → Result Bool Fault → Type 0
 TestsIn t values first x given left r = Tests (λ go. tested (scope_in t) first x (map_of t values) given go) given (map_of t values) left r

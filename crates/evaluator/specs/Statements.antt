@@ -9,7 +9,7 @@ use Rattle.meaning.specs.declared.ending.Value.{Value}
 use Rattle.meaning.specs.Syntax.{ExprTree, ExprsTree}
 use Rattle.meaning.specs.Maps.{Map, put}
 use Rattle.meaning.specs.Values.{Scope, dimensions_in, value, subscripts, as_integer, integer, ◌>>=◌}
-use Rattle.meaning.specs.Execution.{Outcome as Ended, normal, jump, stopped, fault, Ran, more, Next, onward, at_label, Ways}
+use Rattle.meaning.specs.Execution.{Outcome as Ended, normal, jump, stopped, fault, Ran, more, Next, onward, at_label, Follow, Ways}
 
 abbrev pub outcome_of : Outcome → Ended
 outcome_of outcomes.Normal = normal
@@ -62,9 +62,15 @@ pub record Comes (whole rest : Ways → Ran) (given left : ℕ) : Type 0 where
   pub is : (go : Ways) → whole go ≡ more [] used (rest go)
   pub turns : used + left ≡ given
 
--- ---- the test of an arm of a block IF
+-- a DO WHILE whose range ended normally: from this map and these turns it is executed again
+pub record GoesAgain (does : Ways → Ran) (given : ℕ) (again : Follow) (new : Map) (left : ℕ) : Type 0 where
+  pub used : ℕ
+  pub is : (go : Ways) → does go ≡ more [] used (again new left)
+  pub turns : used + left ≡ given
 
--- whether it is picked, with these turns left
+-- ---- the tests of conditions
+
+-- whether what is tested is picked, with these turns left
 pub record Picks (does : (Bool → ℕ → Ran) → Ran) (given : ℕ) (picked : Bool) (left : ℕ) : Type 0 where
   pub used : ℕ
   pub is : (go : Bool → ℕ → Ran) → does go ≡ more [] used (go picked left)

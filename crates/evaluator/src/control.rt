@@ -6,14 +6,14 @@ ghost use Rattle.meaning.specs.Characters.{number_of};
 ghost use Rattle.meaning.specs.Execution.{at_label, by_count, by_sign, simple, step};
 ghost use Rattle.meaning.specs.Maps.{Map};
 ghost use Rattle.meaning.specs.Stores.{IsLater, Reads};
-ghost use Rattle.meaning.specs.Syntax.{ItemTree, ShapeTree, StopTree, continuing, expr_tree, logical_if, shape_tree, stopping};
+ghost use Rattle.meaning.specs.Syntax.{ExprTree, ItemTree, ShapeTree, StopTree, continuing, expr_tree, logical_if, shape_tree, stopping};
 ghost use Rattle.meaning.specs.Trees.{item_tree};
 ghost use Rattle.numbering.specs.Checked.{items_in, count_in};
 ghost use Rattle.programs.specs.Acts.{Acts, Assigns, Goes, GoesByCount, GoesBySign};
 ghost use Rattle.programs.specs.Asked.{ConditionIs};
 ghost use Rattle.programs.specs.Codes.{IsCode};
 ghost use Rattle.programs.specs.Programs.{IsStatement};
-ghost use Rattle.evaluator.specs.Over.{MovesOver, StaysAt, TestsAt};
+ghost use Rattle.evaluator.specs.Over.{ConditionAt, MovesOver, StaysAt, TestsAt};
 ghost use Rattle.evaluator.specs.Places.{next_of};
 ghost use Rattle.landmarks.specs.Quiet.{is_writing, writes};
 ghost use Rattle.evaluator.specs.Statements.{Moves, Spends, TakesTurn};
@@ -250,6 +250,7 @@ fn run_simple<S: Store>(
         Action::If(_, _) => Ok(Outcome::Normal),
         Action::Test(_) => Ok(Outcome::Normal),
         Action::Repeat(_) => Ok(Outcome::Normal),
+        Action::While(_) => Ok(Outcome::Normal),
     }
 }
 
@@ -362,6 +363,34 @@ fn condition_in<'a>(program: &'a Program, head: &Item) -> Option<&'a Code>
     }
 }
 
+/// Whether the condition of a statement at a line is true, or the fault of its test, which takes a turn.
+#[inline(always)]
+pub fn test_condition<S: Store>(
+    program: &Program,
+    line: u32,
+    code: &Code,
+    store: &mut S,
+    turns: &mut u64,
+) -> Result<bool, Fault>
+    requires sized { (S.world store.old).cells ≡ count_in program.now }
+    ensures reads { (e : ExprTree) → IsCode program.now e code.now →
+        Reads (S.world store.old) (S.world store.new)
+        (ConditionAt program.now e line turns.old turns.new result) }
+    ensures spends { turns.new ≤ turns.old }
+    ensures taken { IfOk result (λ _. turns.new < turns.old) }
+    ensures cells { (S.world store.new).cells ≡ (S.world store.old).cells }
+    ensures later { IsLater (S.world store.old) (S.world store.new) }
+{
+    if !take_turn(turns) {
+        let kind = FaultKind::F4;
+        return Err(Fault { kind, line });
+    }
+    match value(program, code, store) {
+        Ok(x) => Ok(as_logical(x)),
+        Err(kind) => Err(Fault { kind, line }),
+    }
+}
+
 /// Whether an arm of a block IF is executed, or the fault of its test. The block IF takes a turn, so its first arm does in any
 /// case; each ELSE IF that is tested takes another, and ELSE none.
 pub fn test_arm<S: Store>(
@@ -381,16 +410,7 @@ pub fn test_arm<S: Store>(
 {
     let line = head.line;
     match condition_in(program, head) {
-        Some(code) => {
-            if !take_turn(turns) {
-                let kind = FaultKind::F4;
-                return Err(Fault { kind, line });
-            }
-            match value(program, code, store) {
-                Ok(x) => Ok(as_logical(x)),
-                Err(kind) => Err(Fault { kind, line }),
-            }
-        }
+        Some(code) => test_condition(program, line, code, store, turns),
         None => {
             if !first {
                 return Ok(true);

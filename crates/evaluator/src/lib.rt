@@ -4,13 +4,15 @@
 mod assignment;
 mod control;
 mod limits;
+mod passed;
 mod places;
 mod quiet;
 mod shapes;
 
 pub use assignment::{add_to, assign, set_variable};
-pub use control::{run_item, take_turn, test_arm};
+pub use control::{run_item, take_turn, test_arm, test_condition};
 pub use limits::{Span, count_of, values_of_codes};
+pub use passed::{Passed, behind_range, ended};
 pub use places::place_of;
-pub use quiet::{repeat_in, run_list, run_loop, run_trips};
+pub use quiet::{repeat_in, run_list, run_loop, run_trips, while_in};
 pub use shapes::{do_of, logical_if_of};

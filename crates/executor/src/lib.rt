@@ -4,7 +4,7 @@
 pub mod run;
 mod staged;
 
-pub use in_order::{InOrder, QuietLoops};
+pub use program_runs::{InOrder, QuietLoops};
 pub use record_sinks::{Out, Refused, Sink, put_all};
 pub use stage_loop::{Gate, Open};
 pub use staged::Staged;

@@ -3,9 +3,9 @@
 ghost use Rattle.executor.specs.Calls.{IsAsked, IsGiven};
 
 use array_store::Whole;
-use in_order::QuietLoops;
 use meaning::ending::Outcome;
 use meaning::syntax::Loop;
+use program_runs::QuietLoops;
 use programs::Program;
 use std::alloc::AllocError;
 

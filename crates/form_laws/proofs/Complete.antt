@@ -5,7 +5,7 @@ use Rattle.std.specs.Prelude.{codes}
 use Rattle.std.proofs.lemmas.Bool.{and_parts}
 use Rattle.std.proofs.lemmas.Bool.Decides.{nat_tests}
 use Rattle.meaning.specs.Characters.{is_digit}
-use Rattle.meaning.specs.Syntax.{ExprTree, StopTree, stop_silent, stop_digits, stop_text, ShapeTree, assignment, writing, printing, format, doing, continuing, typing, ending, naming, implying, logical_typing, dimensioning, parameter, initializing, definition, going, computed_going, arithmetic_if, logical_if, block_if, else_if, otherwise, end_if, stopping, end_do, implicit_none}
+use Rattle.meaning.specs.Syntax.{ExprTree, StopTree, stop_silent, stop_digits, stop_text, ShapeTree, assignment, writing, printing, format, doing, continuing, typing, ending, naming, implying, logical_typing, dimensioning, parameter, initializing, definition, going, computed_going, arithmetic_if, logical_if, block_if, else_if, otherwise, end_if, stopping, doing_while, end_do, implicit_none}
 use Rattle.meaning.specs.Spelling.{spell_expr, IsWellExpr, spell, IsWell}
 use Rattle.meaning.specs.Reading.{Text, ◌>>=◌, when, after, condition_at, arithmetic_if_of, block_if_of, else_if_of, stop_of, stopping_of, simple_by, logical_if_of, shape_by, shape_of}
 use Rattle.meaning.specs.Spelling.{spell_stop, IsWellStop, is_simple}
@@ -13,7 +13,7 @@ use Rattle.meaning.specs.Kinds.{kind_of_shape}
 use Rattle.form_laws.proofs.Words.{after_again}
 use Rattle.form_laws.proofs.Marks.{shape_kind}
 use Rattle.form_laws.proofs.CompleteExpressions.{whole_again, parenthesis_follows, label_again}
-use Rattle.form_laws.proofs.CompleteStatements.{label_ends, quoted_again, assignment_again, definition_again, going_again, computed_going_again, continuing_again, writing_again, printing_again, format_again, doing_again, end_do_again, implicit_none_again, typing_again, ending_again, naming_again, implying_again, logical_typing_again, dimensioning_again, parameter_again, otherwise_again, end_if_again}
+use Rattle.form_laws.proofs.CompleteStatements.{label_ends, quoted_again, assignment_again, definition_again, going_again, computed_going_again, continuing_again, writing_again, printing_again, format_again, doing_again, doing_while_again, end_do_again, implicit_none_again, typing_again, ending_again, naming_again, implying_again, logical_typing_again, dimensioning_again, parameter_again, otherwise_again, end_if_again}
 use Rattle.form_laws.proofs.CompleteData.{initializing_again}
 
 -- ---- IF and STOP statements
@@ -100,6 +100,7 @@ kind_again (else_if e) well = else_if_again e well
 kind_again otherwise well = otherwise_again
 kind_again end_if well = end_if_again
 kind_again (stopping t) well = simple_again (stopping t) refl well
+kind_again (doing_while l comma e) well = doing_while_again l comma e well
 kind_again end_do well = end_do_again
 kind_again implicit_none well = implicit_none_again
 

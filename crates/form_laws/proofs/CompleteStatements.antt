@@ -5,9 +5,9 @@ use Rattle.std.specs.Prelude.{codes}
 use Rattle.std.proofs.lemmas.Bool.{eqb-true, true≢false, cases_Bool, and_parts, and_from}
 use Rattle.std.proofs.lemmas.List.{append-nil}
 use Rattle.meaning.specs.Characters.{is_digit, is_letter, is_alphanumeric, is_name, is_label}
-use Rattle.meaning.specs.Syntax.{ExprTree, ExprsTree, no_exprs, exprs, BoundsTree, DeclaratorTree, UnitTree, LimitsTree, ListItemsTree, no_items, more_items, FormatTree, format_label, format_constant, ControlTree, LettersTree, ImplicitTree, ConstantTree, ShapeTree, assignment, writing, printing, format, doing, end_do, implicit_none, continuing, typing, ending, naming, implying, logical_typing, dimensioning, parameter, definition, going, computed_going, otherwise, end_if}
+use Rattle.meaning.specs.Syntax.{ExprTree, ExprsTree, no_exprs, exprs, BoundsTree, DeclaratorTree, UnitTree, LimitsTree, ListItemsTree, no_items, more_items, FormatTree, format_label, format_constant, ControlTree, LettersTree, ImplicitTree, ConstantTree, ShapeTree, assignment, writing, printing, format, doing, doing_while, end_do, implicit_none, continuing, typing, ending, naming, implying, logical_typing, dimensioning, parameter, definition, going, computed_going, otherwise, end_if}
 use Rattle.meaning.specs.Spelling.{spell_expr, spell_exprs, IsWellExpr, AreWellSubscripts, spell_unit, IsWellUnit, IsWellStep, spell_limits, spell_comma, spell_subscripts, spell_lower, spell_bounds, spell_dimensions, spell_declarator, IsWellBounds, IsWellDeclarator, spell, IsWell, spell_range_label, IsWellRangeLabel}
-use Rattle.meaning.specs.Reading.{Text, Reader, ◌>>=◌, when, either, name_at, label_at, subscripts_at, whole_expression_at, list_of, source_at, format_first_at, unit_first_at, behind_unit_at, control_at, printing_of, unit_at, at_end, after, value_of, target_of, assignment_of, writing_of, format_of, alone_of, limits_at, comma_at, RangeLabel, range_label_at, doing_of, bounds_at, separated_at, dimensions_at, declarator_at, declarators_of, typing_of, logical_typing_of, has_bounds, dimensioning_of, naming_of, letter_at, letters_at, type_at, implicit_at, implying_of, constant_at, parameter_of, going_of, computed_going_of, quoted_at}
+use Rattle.meaning.specs.Reading.{Text, Reader, ◌>>=◌, when, either, name_at, label_at, subscripts_at, whole_expression_at, list_of, source_at, format_first_at, unit_first_at, behind_unit_at, control_at, printing_of, unit_at, at_end, after, value_of, target_of, assignment_of, writing_of, format_of, alone_of, limits_at, comma_at, RangeLabel, range_label_at, doing_of, doing_while_of, bounds_at, separated_at, dimensions_at, declarator_at, declarators_of, typing_of, logical_typing_of, has_bounds, dimensioning_of, naming_of, letter_at, letters_at, type_at, implicit_at, implying_of, constant_at, parameter_of, going_of, computed_going_of, quoted_at}
 use Rattle.meaning.specs.declared.syntax.DataType.{DataType}
 use Rattle.meaning.specs.declared.syntax.DataType.TheVariants as types
 use Rattle.meaning.specs.Spelling.{joined_more, joined, AreWell, spell_letters, IsWellLast, IsWellLetters, type_text, spell_implicit, IsWellImplicit, spell_quoted, spell_item, spell_items, spell_items_behind, spell_source, IsWellSource, spell_control_by, spell_control, spell_constant, IsWellConstant, IsWellArray, spell_label, IsWellLabel, is_paired, spell_last, spell_declarators}
@@ -260,6 +260,18 @@ doing_again l comma v m well =
     doing_is (spell (doing l comma v m)) (spell_range_label l comma ++ behind) ((l, comma), behind) (v, 61 ∷ limits) limits (m, []) refl
     (range_label_again l comma v (61 ∷ limits) well.0 well.1.0) (name_again v (61 ∷ limits) well.1.0 refl) refl
     (limits_again m.first m.last m.step well.1.1.0 well.1.1.1.0 well.1.1.1.1)
+
+while_is : (t rest : Text) (l : RangeLabel × Text) (opened : Text) (e : ExprTree × Text) (behind : Text) → after (codes "DO") t ≡ Some rest → range_label_at rest ≡ Some l → after (codes "WHILE(") l.1 ≡ Some opened
+    → whole_expression_at opened ≡ Some e → after (41 ∷ []) e.1 ≡ Some behind → doing_while_of t ≡ at_end (doing_while l.0.0 l.0.1 e.0, behind)
+unfolding doing_while_of ◌>>=◌
+while_is t rest l opened e behind a b c d f = rw (a, b, c, d, f) refl
+
+pub doing_while_again : (l : Option Text) (comma : Bool) (e : ExprTree) → IsWell (doing_while l comma e) → doing_while_of (spell (doing_while l comma e)) ≡ Some (doing_while l comma e)
+unfolding after when
+doing_while_again l comma e well =
+    let opened = spell_expr e ++ 41 ∷ [] in
+    while_is (spell (doing_while l comma e)) (spell_range_label l comma ++ (codes "WHILE(" ++ opened)) ((l, comma), codes "WHILE(" ++ opened) opened (e, 41 ∷ []) [] refl
+    (range_label_again l comma (codes "WHILE") (40 ∷ opened) well.0 refl) refl (whole_again e (41 ∷ []) well.1 (parenthesis_follows [])) refl
 
 pub end_do_again : alone_of (codes "ENDDO") end_do (codes "ENDDO") ≡ Some end_do
 unfolding alone_of ◌>>=◌ after when

@@ -11,7 +11,7 @@ use Rattle.meaning.specs.declared.syntax.Sign.TheVariants as signs
 use Rattle.meaning.specs.declared.syntax.Operator.{Operator}
 use Rattle.meaning.specs.declared.syntax.Operator.TheVariants as operators
 use Rattle.meaning.specs.Characters.{is_digit, is_letter, is_alphanumeric, is_name, is_number, is_label}
-use Rattle.meaning.specs.Syntax.{ExprTree, number, truth, name, signed, negated, binary, paren, element, call, ExprsTree, no_exprs, exprs, BoundsTree, DeclaratorTree, UnitTree, star, unit_number, LimitsTree, ListItemTree, value_item, loop_item, ListItemsTree, no_items, more_items, FormatTree, format_label, format_constant, ControlTree, LettersTree, ImplicitTree, ConstantTree, DataConstantTree, data_number, data_truth, data_name, RepeatTree, repeat_number, repeat_name, DataValueTree, DataSetTree, StopTree, stop_silent, stop_digits, stop_text, ShapeTree, assignment, writing, printing, format, doing, continuing, typing, ending, naming, implying, logical_typing, dimensioning, parameter, initializing, definition, going, computed_going, arithmetic_if, logical_if, block_if, else_if, otherwise, end_if, stopping, end_do, implicit_none}
+use Rattle.meaning.specs.Syntax.{ExprTree, number, truth, name, signed, negated, binary, paren, element, call, ExprsTree, no_exprs, exprs, BoundsTree, DeclaratorTree, UnitTree, star, unit_number, LimitsTree, ListItemTree, value_item, loop_item, ListItemsTree, no_items, more_items, FormatTree, format_label, format_constant, ControlTree, LettersTree, ImplicitTree, ConstantTree, DataConstantTree, data_number, data_truth, data_name, RepeatTree, repeat_number, repeat_name, DataValueTree, DataSetTree, StopTree, stop_silent, stop_digits, stop_text, ShapeTree, assignment, writing, printing, format, doing, continuing, typing, ending, naming, implying, logical_typing, dimensioning, parameter, initializing, definition, going, computed_going, arithmetic_if, logical_if, block_if, else_if, otherwise, end_if, stopping, doing_while, end_do, implicit_none}
 use Rattle.meaning.specs.Spelling.{sign_byte, operator_text, truth_text, spell_expr, spell_exprs, spell_behind, IsWellExpr, AreWellSubscripts, spell_unit, IsWellUnit, balanced, spell_step, IsWellStep, spell_limits, IsWellLimits, spell_comma, spell_subscripts, spell_lower, spell_bounds, spell_dimensions, spell_declarator, spell_declarators, IsWellBounds, IsWellDeclarator, spell, IsWell, spell_range_label, IsWellRangeLabel}
 use Rattle.meaning.specs.declared.syntax.ControlOrder.{ControlOrder}
 use Rattle.meaning.specs.declared.syntax.ControlOrder.TheVariants as orders
@@ -20,10 +20,10 @@ use Rattle.meaning.specs.declared.syntax.DataType.TheVariants as types
 use Rattle.meaning.specs.declared.syntax.Kind.{Kind}
 use Rattle.meaning.specs.declared.syntax.Kind.TheVariants as kinds
 use Rattle.meaning.specs.Spelling.{joined_more, joined, spell_letters, spell_last, IsWellLast, IsWellLetters, type_text, spell_implicit, IsWellImplicit, spell_quoted, spell_item, spell_items, spell_items_behind, IsWellItem, AreWellItems, spell_source, IsWellSource, spell_control_by, spell_constant, IsWellConstant, IsWellArray, spell_sign, spell_data_constant, IsWellDataConstant, spell_repeat, IsWellRepeat, spell_data_value, IsWellDataValue, spell_data_set, IsWellDataSet, spell_data_sets, spell_label, IsWellLabel, is_paired, spell_stop, IsWellStop, is_simple}
-use Rattle.meaning.specs.Kinds.{marks_at, has_equals, has_limits, behind_closing, begins, kind_by_keyword, kind_by_control_keyword, kind_outside_if, kind_behind_if, kind_of, kind_of_shape}
+use Rattle.meaning.specs.Kinds.{marks_at, has_equals, has_limits, behind_closing, begins, behind_digits, behind_comma, kind_by_keyword, kind_by_control_keyword, kind_outside_if, kind_behind_if, kind_of, kind_of_shape}
 use Rattle.form_laws.proofs.Joined.{has_some, joined_bounds, joined_declarators, set_regrouped}
 use Rattle.meaning.specs.Reading.{Text, run, begins_control}
-use Rattle.form_laws.proofs.Words.{run_takes}
+use Rattle.form_laws.proofs.Words.{run_takes, stops_at}
 
 -- a character that is no apostrophe, parenthesis, comma or equals sign
 abbrev pub is_plain : ℕ → Bool
@@ -497,6 +497,43 @@ doing_kind : (l : Option Text) (comma : Bool) (v : Text) (limits : LimitsTree) �
 doing_kind l comma v limits well =
     kind_by_if (spell (doing l comma v limits)) kinds.Do (doing_by comma (spell (doing l comma v limits)) _ (doing_marks l comma v limits well)) (inl refl)
 
+-- a DO WHILE statement has a comma alone outside its parentheses, or nothing
+comma_alone : (comma : Bool) → has_mark (spell_comma comma ++ []) ≡ false
+comma_alone true = refl
+comma_alone false = refl
+
+condition_marks : (e : ExprTree) → IsWellExpr e → marks_at 0 false (codes "WHILE(" ++ (spell_expr e ++ 41 ∷ [])) ≡ []
+unfolding marks_at
+condition_marks e well = expression_passes e well 1 (41 ∷ [])
+
+doing_while_kind : (l : Option Text) (comma : Bool) (e : ExprTree) → IsWell (doing_while l comma e) → has_equals (spell (doing_while l comma e)) ≡ false
+doing_while_kind l comma e well =
+    let behind = codes "WHILE(" ++ (spell_expr e ++ 41 ∷ []) in
+    ap has_mark (characters_pass (codes "DO") refl 0 (spell_range_label l comma ++ behind) ∙ range_label_marks l comma behind well.0 ∙ ap (λ m. spell_comma comma ++ m) (condition_marks e well.1)) ∙ comma_alone comma
+
+-- WHILE is found behind a label and a comma
+digits_behind : (l t : Text) → list_all is_digit l ≡ true → stops_at is_digit t → behind_digits (l ++ t) ≡ t
+unfolding behind_digits
+digits_behind [] [] digits stops = refl
+digits_behind [] (c ∷ t) digits stops = rw stops refl
+digits_behind (c ∷ l) t digits stops =
+    let both = and_parts (is_digit c) (list_all is_digit l) digits in rw both.0 (digits_behind l t both.1 stops)
+
+no_digit_here : (comma : Bool) (t : Text) → stops_at is_digit (spell_comma comma ++ (codes "WHILE(" ++ t))
+no_digit_here true t = refl
+no_digit_here false t = refl
+
+comma_behind : (comma : Bool) (t : Text) → behind_comma (spell_comma comma ++ (codes "WHILE(" ++ t)) ≡ codes "WHILE(" ++ t
+comma_behind true t = refl
+comma_behind false t = refl
+
+while_behind : (l : Option Text) (comma : Bool) (t : Text) → IsWellRangeLabel l comma → behind_comma (behind_digits (spell_range_label l comma ++ (codes "WHILE(" ++ t))) ≡ codes "WHILE(" ++ t
+while_behind None true t well = absurd cc
+while_behind None false t well = ap behind_comma (digits_behind [] (codes "WHILE(" ++ t) refl refl)
+while_behind (Some l) comma t well =
+    let digits : list_all is_digit l ≡ true = (and_parts _ _ (and_parts _ _ (and_parts _ _ well).0).0).1 in
+    ap (λ u. behind_comma (behind_digits u)) (append_assoc l (spell_comma comma) (codes "WHILE(" ++ t)) ∙ ap behind_comma (digits_behind l (spell_comma comma ++ (codes "WHILE(" ++ t)) digits (no_digit_here comma t)) ∙ comma_behind comma t
+
 end_do_kind : has_equals (codes "ENDDO") ≡ false
 unfolding marks_at
 end_do_kind = refl
@@ -792,5 +829,6 @@ shape_kind (else_if e) well = rw (else_if_kind e well) refl
 shape_kind otherwise well = rw otherwise_kind refl
 shape_kind end_if well = rw end_if_kind refl
 shape_kind (stopping t) well = rw (stopping_kind t well) refl
+shape_kind (doing_while l comma e) well = rw (doing_while_kind l comma e well, while_behind l comma (spell_expr e ++ 41 ∷ []) well.0) refl
 shape_kind end_do well = rw end_do_kind refl
 shape_kind implicit_none well = rw implicit_none_kind refl

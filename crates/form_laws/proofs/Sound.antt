@@ -13,7 +13,7 @@ use Rattle.meaning.specs.Spelling.{joined, spell_label, IsWellLabel, is_paired, 
 use Rattle.form_laws.proofs.Words.{after_takes, bind_some, when_some, made_is}
 use Rattle.form_laws.proofs.SoundExpressions.{label_takes, whole_takes}
 use Rattle.form_laws.proofs.SoundLists.{ends_takes, comma_takes, quoted_takes}
-use Rattle.form_laws.proofs.SoundStatements.{SimplyReads, separated_take, value_takes, alone_takes, assignment_takes, writing_takes, printing_takes, format_takes, doing_takes, typing_takes, naming_takes, implying_takes, logical_typing_takes, dimensioning_takes, parameter_takes}
+use Rattle.form_laws.proofs.SoundStatements.{SimplyReads, separated_take, value_takes, alone_takes, assignment_takes, writing_takes, printing_takes, format_takes, doing_takes, doing_while_takes, typing_takes, naming_takes, implying_takes, logical_typing_takes, dimensioning_takes, parameter_takes}
 use Rattle.form_laws.proofs.SoundData.{initializing_takes}
 
 -- ---- GO TO, IF and STOP statements
@@ -166,6 +166,7 @@ kind_takes kinds.IfThen t s e = block_if_takes t s e
 kind_takes kinds.ElseIf t s e = else_if_takes t s e
 kind_takes kinds.Else t s e = let a = alone_takes (codes "ELSE") otherwise t s refl e in subst (Reads t) a.1 (record { well = tt; spelled = sym a.0 })
 kind_takes kinds.EndIf t s e = let a = alone_takes (codes "ENDIF") end_if t s refl e in subst (Reads t) a.1 (record { well = tt; spelled = sym a.0 })
+kind_takes kinds.DoWhile t s e = doing_while_takes t s e
 kind_takes kinds.EndDo t s e = let a = alone_takes (codes "ENDDO") end_do t s refl e in subst (Reads t) a.1 (record { well = tt; spelled = sym a.0 })
 kind_takes kinds.ImplicitNone t s e =
     let a = alone_takes (codes "IMPLICITNONE") implicit_none t s refl e in subst (Reads t) a.1 (record { well = tt; spelled = sym a.0 })

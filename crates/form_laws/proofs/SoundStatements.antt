@@ -5,9 +5,9 @@ use Rattle.std.specs.List.{AllByRecursion, list_all}
 use Rattle.std.proofs.lemmas.Bool.{and_parts}
 use Rattle.std.proofs.lemmas.List.{append-nil}
 use Rattle.meaning.specs.Characters.{is_letter, is_name}
-use Rattle.meaning.specs.Syntax.{ExprTree, BoundsTree, DeclaratorTree, UnitTree, FormatTree, format_label, format_constant, ControlTree, LettersTree, ImplicitTree, ConstantTree, ShapeTree, assignment, writing, printing, format, doing, typing, naming, implying, logical_typing, dimensioning, parameter, definition}
+use Rattle.meaning.specs.Syntax.{ExprTree, BoundsTree, DeclaratorTree, UnitTree, FormatTree, format_label, format_constant, ControlTree, LettersTree, ImplicitTree, ConstantTree, ShapeTree, assignment, writing, printing, format, doing, doing_while, typing, naming, implying, logical_typing, dimensioning, parameter, definition}
 use Rattle.meaning.specs.Spelling.{spell_expr, IsWellExpr, spell_unit, IsWellUnit, spell_limits, spell_comma, spell_bounds, spell_dimensions, spell_declarator, spell_declarators, IsWellBounds, IsWellDeclarator, Reads, spell_range_label, IsWellRangeLabel}
-use Rattle.meaning.specs.Reading.{Text, Reader, ◌>>=◌, either, whole_expression_at, source_at, format_first_at, unit_first_at, behind_unit_at, control_at, printing_of, unit_at, after, value_of, target_of, assignment_of, writing_of, format_of, alone_of, comma_at, label_at, RangeLabel, range_label_at, doing_of, bounds_at, separated_at, dimensions_at, declarator_at, declarators_of, typing_of, logical_typing_of, has_bounds, dimensioning_of, naming_of, letter_at, letters_at, type_at, implicit_at, implying_of, constant_at, parameter_of}
+use Rattle.meaning.specs.Reading.{Text, Reader, ◌>>=◌, either, whole_expression_at, source_at, format_first_at, unit_first_at, behind_unit_at, control_at, printing_of, unit_at, after, value_of, target_of, assignment_of, writing_of, format_of, alone_of, comma_at, label_at, RangeLabel, range_label_at, doing_of, doing_while_of, bounds_at, separated_at, dimensions_at, declarator_at, declarators_of, typing_of, logical_typing_of, has_bounds, dimensioning_of, naming_of, letter_at, letters_at, type_at, implicit_at, implying_of, constant_at, parameter_of}
 use Rattle.meaning.specs.declared.syntax.ControlOrder.TheVariants as orders
 use Rattle.meaning.specs.declared.syntax.DataType.{DataType}
 use Rattle.meaning.specs.declared.syntax.DataType.TheVariants as types
@@ -191,6 +191,25 @@ doing_takes t s e =
     doing_whole : (t rest l l1 v v1 behind limits end : Text) → t ≡ codes "DO" ++ rest → rest ≡ l ++ l1 → l1 ≡ v ++ v1 → v1 ≡ 61 ∷ behind → behind ≡ limits ++ end → end ≡ []
         → codes "DO" ++ (l ++ (v ++ (61 ∷ limits))) ≡ t
     doing_whole t rest l l1 v v1 behind limits end a b d f g h = rw (a, b, d, f, g, h, append-nil) refl
+
+pub doing_while_takes : (t : Text) (s : ShapeTree) → doing_while_of t ≡ Some s → Reads t s
+unfolding doing_while_of
+doing_while_takes t s e =
+    bind_some _ _ s e (λ rest e1 e. bind_some _ _ s e (λ l e2 e. bind_some _ _ s e (λ opened e3 e. bind_some _ _ s e (λ v e4 e. bind_some _ _ s e (λ behind e5 e.
+    let a = after_takes (codes "DO") t rest e1 in
+    let b = range_label_takes rest l e2 in
+    let d = after_takes (codes "WHILE(") l.1 opened e3 in
+    let f = whole_takes opened v e4 in
+    let g = after_takes (41 ∷ []) v.1 behind e5 in
+    let h = ends_takes (doing_while l.0.0 l.0.1 v.0, behind) s e in
+    subst (Reads t) h.0 (record {
+      well = (b.1, f.well);
+      spelled = while_whole t rest (spell_range_label l.0.0 l.0.1) l.1 opened (spell_expr v.0) v.1 behind a b.0 d f.whole g h.1;
+    }))))))
+  where
+    while_whole : (t rest l l1 opened v v1 behind : Text) → t ≡ codes "DO" ++ rest → rest ≡ l ++ l1 → l1 ≡ codes "WHILE(" ++ opened → opened ≡ v ++ v1 → v1 ≡ 41 ∷ behind → behind ≡ []
+        → codes "DO" ++ (l ++ (codes "WHILE(" ++ (v ++ 41 ∷ []))) ≡ t
+    while_whole t rest l l1 opened v v1 behind a b d f g h = rw (a, b, d, f, g, h) refl
 
 pub alone_takes : (word : Text) (one : ShapeTree) (t : Text) (s : ShapeTree) → spell one ≡ word → alone_of word one t ≡ Some s → (t ≡ spell one) × (one ≡ s)
 unfolding alone_of

@@ -1,8 +1,2 @@
-pub mod Composed
-pub mod Written
 pub mod Promised
-pub mod Unit
-pub mod Located
-pub mod Told
-pub mod Allowing
 pub mod Listed

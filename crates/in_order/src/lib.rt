@@ -1,14 +1,8 @@
 //! From the bytes of a source to a program, and its run in order (ANSI X3.9-1978, chapters 2 to 18).
 #![tactic(auto)]
 
-mod halt;
-mod quiet_loops;
 mod run;
 mod source;
-mod statement;
-mod stopping;
-mod walk;
 
-pub use quiet_loops::{InOrder, QuietLoops};
 pub use run::{run_by, run_in_order};
 pub use source::program_in;

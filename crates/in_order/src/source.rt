@@ -7,13 +7,14 @@ ghost use Rattle.meaning.specs.Trees.{item_tree};
 ghost use Rattle.meaning.specs.Answers.{member_of, members_of, program_of};
 ghost use Rattle.numbering.specs.Checked.{tree_of};
 
+use coding::check;
 use lexer::bare;
 use meaning::refusal::{Broken, Refusal, lesser};
 use meaning::statement::Statement;
 use meaning::syntax::Item;
 use nesting::tree;
 use parser::form;
-use programs::{Program, check};
+use programs::Program;
 use source_columns::statements;
 use std::alloc::Global;
 

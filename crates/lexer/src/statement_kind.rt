@@ -1,11 +1,45 @@
 //! Which statement a bare text can be.
 
 ghost use Rattle.std.specs.Prelude.{◌≡◌};
-ghost use Rattle.meaning.specs.Kinds.{kind_of, begins_with_digit as digit_first, kind_by_keyword as keyword_kind, kind_by_control_keyword as control_kind, kind_outside_if as other_kind, kind_behind_if as if_kind};
+ghost use Rattle.std.specs.List.{prefix_len};
+ghost use Rattle.meaning.specs.Characters.{is_digit};
+ghost use Rattle.meaning.specs.Kinds.{kind_of, begins_with_digit as digit_first, behind_digits as digits_left, behind_comma as comma_left, begins_while as while_first, kind_by_keyword as keyword_kind, kind_by_control_keyword as control_kind, kind_outside_if as other_kind, kind_behind_if as if_kind};
 
 use crate::scan::{begins, behind_closing_parenthesis, has_comma_behind, has_equals_sign};
 use meaning::statement::Bare;
 use meaning::syntax::Kind;
+
+/// How many digits stand at the front.
+fn digits_len(text: &[u8]) -> usize
+    ensures { result ≡ prefix_len is_digit text.now }
+{
+    text.iter().take_while(|c| c.is_ascii_digit()).count()
+}
+
+/// What stands behind digits.
+#[tactic(auto, using(crate::proofs::Scans::digits_dropped, crate::proofs::Scans::digits_within))]
+fn behind_digits(text: &[u8]) -> &[u8]
+    ensures { result.now ≡ digits_left text.now }
+{
+    text.split_at(digits_len(text)).1
+}
+
+/// What stands behind a comma, or the whole where none does.
+fn behind_comma(text: &[u8]) -> &[u8]
+    ensures { result.now ≡ comma_left text.now }
+{
+    match text.split_first() {
+        None => text,
+        Some((first, rest)) => if *first == b',' { rest } else { text },
+    }
+}
+
+/// Whether a text begins with `DO`, digits or none, a comma or none, and `WHILE(`.
+fn begins_while(text: &[u8]) -> bool
+    ensures { result ≡ while_first text.now }
+{
+    begins(text, b"DO") && begins(behind_comma(behind_digits(&text[2..])), b"WHILE(")
+}
 
 /// What the first keyword of a text says, of those that control the execution.
 #[tactic(auto, unfolding(meaning::specs::Kinds::kind_by_control_keyword))]
@@ -30,6 +64,8 @@ fn kind_by_control_keyword(text: &[u8]) -> Kind
         Kind::Else
     } else if begins(text, b"STOP") {
         Kind::Stop
+    } else if begins_while(text) {
+        Kind::DoWhile
     } else {
         Kind::Other
     }

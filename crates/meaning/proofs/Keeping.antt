@@ -26,7 +26,7 @@ use Rattle.meaning.specs.Maps.{Map, put}
 use Rattle.meaning.specs.Values.{Scope, value, subscripts, dimensions_in, as_integer, as_logical, integer, and_then, in_first, others}
 use Rattle.meaning.specs.Records.{edited}
 use Rattle.meaning.specs.LoopLaws.{sets}
-use Rattle.meaning.specs.Execution.{Outcome, normal, jump, stopped, fault, Ran, more, ended_by, turn, with_ok, parts_for, output, assigned, unless_defined, picked_by, by_count, by_sign, Meaning, Follow, Next, onward, at_label, Ways, goes_on, goes_on_by, leads_on, leads_on_by, simple, step, added, fold_trips, trips_from, looped, condition_of, holds, turn_if, tested, arms_from, heads, labelled, goes_at, ways_in, pass_over, fuelled, exec}
+use Rattle.meaning.specs.Execution.{Outcome, normal, jump, stopped, fault, Ran, more, ended_by, turn, with_ok, parts_for, output, assigned, unless_defined, picked_by, by_count, by_sign, Meaning, Follow, Next, onward, at_label, Ways, goes_on, goes_on_by, leads_on, leads_on_by, simple, step, added, fold_trips, trips_from, looped, while_of, ways_again, repeated, loop_by, condition_of, holds, turn_if, tested, arms_from, heads, labelled, goes_at, ways_in, pass_over, fuelled, exec}
 
 -- ---- tests
 
@@ -270,6 +270,22 @@ module _ (v : List ℕ) where
           turn-keeps line m t (λ u. with_ok (span_of scope limits m) line m (λ s. leads_on (trips_from f line variable range m u s) u go)) h (λ u. with_ok-keeps (span_of scope limits m) line m (λ s. leads_on (trips_from f line variable range m u s) u go) h (λ s is. leads_on-keeps (trips_from f line variable range m u s) u go (fold_trips-keeps f all_kept line variable other s.step range inside (trips s.first s.last s.step) (put m variable [] s.first) u (put_other m variable [] s.first other ∙ h)) keeps))
       looped-keeps s line range m t go unset inside keeps h = keeps onward m t h
 
+      again-keep : (again : Follow) (go : Ways) → Keeps again → WaysKeep go → WaysKeep (ways_again again go)
+      again-keep again go further keeps onward n u h = further n u h
+      again-keep again go further keeps (at_label s) n u h = keeps (at_label s) n u h
+
+      repeated-keeps : (e : ExprTree) (line : ℕ) (range : Members) (again : Follow) → Keeps again → (m : Map) (t : ℕ) (go : Ways) → Unset range → WaysKeep go → Has m → Has (repeated scope f e line range again m t go).map
+      unfolding repeated
+      repeated-keeps e line range again further m t go inside keeps h =
+          let r = value scope e m in
+          turn-keeps line m t (λ u. with_ok r line m (λ x. if as_logical x then leads_on (f range range m u) u (ways_again again go) else go onward m u)) h (λ u. with_ok-keeps r line m (λ x. if as_logical x then leads_on (f range range m u) u (ways_again again go) else go onward m u) h (λ x is. either-keeps (as_logical x) (leads_on (f range range m u) u (ways_again again go)) (go onward m u) (leads_on-keeps (f range range m u) u (ways_again again go) (all_kept range range inside inside m u h) (again-keep again go further keeps)) (keeps onward m u h)))
+
+      loop_by-keeps : (o : Option ExprTree) (x : ItemTree) (range : Members) (again : Follow) → Keeps again → (m : Map) (t : ℕ) (go : Ways) → is_one_of (variables_set x.shape) v ≡ false → Unset range → WaysKeep go → Has m → Has (loop_by o scope f x range again m t go).map
+      unfolding loop_by
+      loop_by-keeps None x range again further m t go unset inside keeps h = looped-keeps x.shape x.line range m t go unset inside keeps h
+      loop_by-keeps (Some e) x range again further m t go unset inside keeps h =
+          repeated-keeps e x.line range again further m t go inside keeps h
+
       arms_from-keeps : (first : Bool) (arms : Arms) (m : Map) (t : ℕ) (go : Ways) → list_any (sets v) (flat_arms arms) ≡ false → WaysKeep go → Has m → Has (arms_from scope f first arms m t go).map
       unfolding arms_from tested
       arms_from-keeps first no_arms m t go unset keeps h = keeps onward m t h
@@ -318,7 +334,7 @@ module _ (v : List ℕ) where
     pass_over-keeps program f keeps all (loop x range ms) unset inside m t h =
         let parts = or-parts (sets v x) (list_any (sets v) (flat range ++ flat ms)) inside in
         let inner = any-parts (sets v) (flat range) (flat ms) parts.1 in
-        looped-keeps (scope_of program) f keeps x.shape x.line range m t _ parts.0 inner.0 (ways-keep (scope_of program) f keeps all unset (λ n u. pass_over program f all ms n u) (λ n u hn. pass_over-keeps program f keeps all ms unset inner.1 n u hn)) h
+        loop_by-keeps (scope_of program) f keeps (while_of x.shape) x range (f all (loop x range ms)) (λ n u hn. keeps all (loop x range ms) unset inside n u hn) m t _ parts.0 inner.0 (ways-keep (scope_of program) f keeps all unset (λ n u. pass_over program f all ms n u) (λ n u hn. pass_over-keeps program f keeps all ms unset inner.1 n u hn)) h
     pass_over-keeps program f keeps all (block arms x ms) unset inside m t h =
         let parts = any-parts (sets v) (flat_arms arms) (x ∷ flat ms) inside in
         let further = or-parts (sets v x) (list_any (sets v) (flat ms)) parts.1 in

@@ -13,7 +13,7 @@ use Rattle.meaning.specs.Trips.{span_of, trips}
 use Rattle.meaning.specs.Maps.{Map, put}
 use Rattle.meaning.specs.Values.{Scope, value, subscripts, dimensions_in, as_integer, as_logical, integer}
 use Rattle.meaning.specs.Records.{edited}
-use Rattle.meaning.specs.Execution.{Outcome, normal, jump, stopped, fault, Ran, more, ended, ended_by, turn, with_ok, parts_for, output, assigned, unless_defined, picked_by, by_count, by_sign, Meaning, Follow, Next, onward, at_label, Ways, goes_on, goes_on_by, leads_on, leads_on_by, simple, step, added, fold_trips, trips_from, looped, condition_of, holds, turn_if, tested, arms_from, labelled, goes_at, ways_in, pass_over, fuelled, exec}
+use Rattle.meaning.specs.Execution.{Outcome, normal, jump, stopped, fault, Ran, more, ended, ended_by, turn, with_ok, parts_for, output, assigned, unless_defined, picked_by, by_count, by_sign, Meaning, Follow, Next, onward, at_label, Ways, goes_on, goes_on_by, leads_on, leads_on_by, simple, step, added, fold_trips, trips_from, looped, while_of, ways_again, repeated, loop_by, condition_of, holds, turn_if, tested, arms_from, labelled, goes_at, ways_in, pass_over, fuelled, exec}
 use Rattle.meaning.specs.Turns.{met_limit, Bounded}
 use Rattle.meaning.proofs.Running.{more-more, more-none, exec-fuelled}
 
@@ -253,6 +253,21 @@ module _ (scope : Scope) (f : Meaning) (bounded : BoundedMeaning f) where
       turn-bounded line m (λ u. with_ok (span_of scope limits m) line m (λ s. leads_on (trips_from f line variable range m u s) u go)) (with_ok-bounded (span_of scope limits m) line m (λ s u. leads_on (trips_from f line variable range m u s) u go) (λ s. leads_on-bounded go h (λ u. trips_from f line variable range m u s) (fold_trips-bounded f line variable s.step range bounded (trips s.first s.last s.step) (put m variable [] s.first))))
   looped-bounded s line range m go h = h onward m
 
+  again-bounded : (again : Follow) (go : Ways) → BoundedFollow again → BoundedWays go → BoundedWays (ways_again again go)
+  again-bounded again go further h onward n = further n
+  again-bounded again go further h (at_label s) n = h (at_label s) n
+
+  repeated-bounded : (e : ExprTree) (line : ℕ) (range : Members) (again : Follow) → BoundedFollow again → (m : Map) (go : Ways) → BoundedWays go → Bounded (λ t. repeated scope f e line range again m t go)
+  unfolding repeated
+  repeated-bounded e line range again further m go h =
+      let r = value scope e m in
+      turn-bounded line m (λ u. with_ok r line m (λ v. if as_logical v then leads_on (f range range m u) u (ways_again again go) else go onward m u)) (with_ok-bounded r line m (λ v u. if as_logical v then leads_on (f range range m u) u (ways_again again go) else go onward m u) (λ v. if-bounded (as_logical v) (λ u. leads_on (f range range m u) u (ways_again again go)) (λ u. go onward m u) (leads_on-bounded (ways_again again go) (again-bounded again go further h) (λ u. f range range m u) (bounded range range m)) (h onward m)))
+
+  loop_by-bounded : (o : Option ExprTree) (x : ItemTree) (range : Members) (again : Follow) → BoundedFollow again → (m : Map) (go : Ways) → BoundedWays go → Bounded (λ t. loop_by o scope f x range again m t go)
+  unfolding loop_by
+  loop_by-bounded None x range again further m go h = looped-bounded x.shape x.line range m go h
+  loop_by-bounded (Some e) x range again further m go h = repeated-bounded e x.line range again further m go h
+
   arms_from-bounded : (first : Bool) (arms : Arms) (m : Map) (go : Ways) → BoundedWays go → Bounded (λ t. arms_from scope f first arms m t go)
   unfolding arms_from tested
   arms_from-bounded first no_arms m go h = h onward m
@@ -276,7 +291,7 @@ pass_over-bounded program f bounded all none m = ended_by-bounded normal m
 pass_over-bounded program f bounded all (plain x ms) m =
     step-bounded program x.shape x.line m _ (ways-bounded (scope_of program) f bounded all (λ n u. pass_over program f all ms n u) (λ n. pass_over-bounded program f bounded all ms n))
 pass_over-bounded program f bounded all (loop x range ms) m =
-    looped-bounded (scope_of program) f bounded x.shape x.line range m _ (ways-bounded (scope_of program) f bounded all (λ n u. pass_over program f all ms n u) (λ n. pass_over-bounded program f bounded all ms n))
+    loop_by-bounded (scope_of program) f bounded (while_of x.shape) x range (f all (loop x range ms)) (λ n. bounded all (loop x range ms) n) m _ (ways-bounded (scope_of program) f bounded all (λ n u. pass_over program f all ms n u) (λ n. pass_over-bounded program f bounded all ms n))
 pass_over-bounded program f bounded all (block arms x ms) m =
     arms_from-bounded (scope_of program) f bounded true arms m _ (ways-bounded (scope_of program) f bounded all (λ n u. pass_over program f all ms n u) (λ n. pass_over-bounded program f bounded all ms n))
 

@@ -1,13 +1,14 @@
--- Programs with END DO, DO statements without a label, IMPLICIT NONE and long names, from their bytes to their bytes. Turns are counted by hand.
+-- Programs with END DO, DO WHILE, IMPLICIT NONE and long names, from their bytes to their bytes. Turns are counted by hand.
 use Rattle.std.proofs.Common.{◌≡◌, ℕ, List, [], ◌∷◌, Some, None, Err, true, false, refl}
 use Rattle.std.specs.Prelude.{codes}
 use Rattle.meaning.specs.declared.ending.Ending.TheVariants as endings
 use Rattle.meaning.specs.declared.ending.FaultKind.{FaultKind}
-use Rattle.meaning.specs.declared.ending.FaultKind.TheVariants.{F4}
+use Rattle.meaning.specs.declared.ending.FaultKind.TheVariants.{F1, F4}
 use Rattle.meaning.specs.declared.refusal.Rule.{Rule}
-use Rattle.meaning.specs.declared.refusal.Rule.TheVariants.{G1, N1, N4, K3, K4, K10}
-use Rattle.meaning.specs.Syntax.{number, name, element, exprs, no_exprs, assignment, doing, end_do}
+use Rattle.meaning.specs.declared.refusal.Rule.TheVariants.{G1, N1, N4, K2, K3, K4, K5, K10}
+use Rattle.meaning.specs.Syntax.{number, name, exprs, no_exprs, assignment, doing, doing_while, end_do}
 use Rattle.meaning.specs.Reading.{shape_of, read_shape}
+use Rattle.meaning.specs.Characters.{is_name}
 use Rattle.meaning.specs.Answers.{Answer, answer}
 use Rattle.meaning.proofs.Examples.{all_definitions}
 
@@ -33,6 +34,26 @@ do_variable_while : shape_of (codes "DOWHILE=1,N") ≡ Some (doing None false (c
 unfolding all_definitions
 do_variable_while = refl
 
+do_while : shape_of (codes "DOWHILE(I)") ≡ Some (doing_while None false (name (codes "I")))
+unfolding all_definitions
+do_while = refl
+
+do_while_label : shape_of (codes "DO10WHILE(I)") ≡ Some (doing_while (Some (codes "10")) false (name (codes "I")))
+unfolding all_definitions
+do_while_label = refl
+
+do_while_comma : shape_of (codes "DO10,WHILE(I)") ≡ Some (doing_while (Some (codes "10")) true (name (codes "I")))
+unfolding all_definitions
+do_while_comma = refl
+
+while_element : shape_of (codes "DOWHILE(I)=3") ≡ Some (assignment (codes "DOWHILE") (exprs (name (codes "I")) no_exprs) (number (codes "3")))
+unfolding all_definitions
+while_element = refl
+
+while_variable : shape_of (codes "DOWHILE=5") ≡ Some (assignment (codes "DOWHILE") no_exprs (number (codes "5")))
+unfolding all_definitions
+while_variable = refl
+
 end_do_statement : shape_of (codes "ENDDO") ≡ Some end_do
 unfolding all_definitions
 end_do_statement = refl
@@ -46,32 +67,61 @@ comma_alone : read_shape (codes "DO,I=1,2") ≡ Err G1
 unfolding all_definitions
 comma_alone = refl
 
+-- 31 characters are a name, and 32 are none
+long_name : is_name (codes "ABCDEFGHIJKLMNOPQRSTUVWXYZ01234") ≡ true
+long_name = refl
+
+too_long_name : is_name (codes "ABCDEFGHIJKLMNOPQRSTUVWXYZ012345") ≡ false
+too_long_name = refl
+
 not_under_if : read_shape (codes "IF(L)ENDDO") ≡ Err G1
 unfolding all_definitions
 not_under_if = refl
 
--- ---- turns: the DO statement, and two for each trip, as END DO takes one
+-- ---- both kinds of loops: 23 turns
 
-abbrev sum_of_rows : List ℕ
-sum_of_rows =
-    codes "      IMPLICIT NONE\n      INTEGER I,TOTALOFROWS\n      DO I=1,4\n      TOTALOFROWS=TOTALOFROWS+I\n      END DO\n      WRITE (6,10) I,TOTALOFROWS\n   10 FORMAT (2I4)\n      END\n"
+abbrev both_loops : List ℕ
+both_loops =
+    codes "      IMPLICIT NONE\n      INTEGER I,J,TOTALOFROWS\n      DO I=1,4\n      TOTALOFROWS=TOTALOFROWS+I\n      END DO\n      DO WHILE (J*J.LT.TOTALOFROWS)\n      J=J+1\n      END DO\n      WRITE (6,10) I,J,TOTALOFROWS\n   10 FORMAT (3I4)\n      END\n"
 
-sum_in_10_turns : answer sum_of_rows 10 ≡ writes (codes "   5  10\n")
+both_in_23_turns : answer both_loops 23 ≡ writes (codes "   5   4  10\n")
 unfolding all_definitions
-sum_in_10_turns = refl
+both_in_23_turns = refl
 
-sum_in_9_turns : answer sum_of_rows 9 ≡ faults F4 6
+both_in_22_turns : answer both_loops 22 ≡ faults F4 9
 unfolding all_definitions
-sum_in_9_turns = refl
+both_in_22_turns = refl
 
-sum_in_8_turns : answer sum_of_rows 8 ≡ faults F4 5
+both_in_21_turns : answer both_loops 21 ≡ faults F4 6
 unfolding all_definitions
-sum_in_8_turns = refl
+both_in_21_turns = refl
 
--- a transfer to END DO ends the trip
-to_end_do : answer (codes "      DO 10 I=1,3\n      IF (I.EQ.2) GO TO 10\n      K=K+1\n   10 END DO\n      PRINT '(2I2)',I,K\n      END\n") 99 ≡ writes (codes " 4 2\n")
+-- a condition that is false at once takes one turn; what it faults with has the line of the DO WHILE statement
+false_at_once : answer (codes "      DO WHILE (.FALSE.)\n      K=1/0\n      END DO\n      END\n") 1 ≡ ends
+unfolding all_definitions
+false_at_once = refl
+
+faulting_again : answer (codes "      I=2\n      DO 10 WHILE (6/I.GT.0)\n   10 I=I-1\n      END\n") 99 ≡ faults F1 2
+unfolding all_definitions
+faulting_again = refl
+
+-- transfers: to END DO, which ends the pass; out of the range; back to the DO WHILE statement
+to_end_do : answer (codes "      DO 10 WHILE (I.LT.3)\n      I=I+1\n      IF (I.EQ.2) GO TO 10\n      K=K+1\n   10 END DO\n      PRINT '(2I2)',I,K\n      END\n") 99 ≡ writes (codes " 3 2\n")
 unfolding all_definitions
 to_end_do = refl
+
+out_of_while : answer (codes "      DO WHILE (.TRUE.)\n      I=I+1\n      IF (I.EQ.3) GO TO 20\n      END DO\n   20 PRINT '(I2)',I\n      END\n") 99 ≡ writes (codes " 3\n")
+unfolding all_definitions
+out_of_while = refl
+
+back_to_while : answer (codes "   10 DO WHILE (I.LT.3)\n      I=I+1\n      IF (I.EQ.2) GO TO 10\n      K=K+1\n      END DO\n      PRINT '(2I2)',I,K\n      END\n") 99 ≡ writes (codes " 3 2\n")
+unfolding all_definitions
+back_to_while = refl
+
+-- a terminal statement shared with a DO WHILE
+shared_with_while : answer (codes "      DO 10 I=1,2\n      J=0\n      DO 10 WHILE (J.LT.I)\n   10 J=J+1\n      PRINT '(2I2)',I,J\n      END\n") 99 ≡ writes (codes " 3 2\n")
+unfolding all_definitions
+shared_with_while = refl
 
 -- ---- refusals
 
@@ -106,6 +156,14 @@ two_implicit = refl
 late_implicit : answer (codes "      INTEGER I\n      IMPLICIT NONE\n      END\n") 9 ≡ refused N1 2
 unfolding all_definitions
 late_implicit = refl
+
+no_condition : answer (codes "      DO WHILE (I)\n      END DO\n      END\n") 9 ≡ refused K5 1
+unfolding all_definitions
+no_condition = refl
+
+into_while : answer (codes "      GO TO 10\n      DO WHILE (.TRUE.)\n   10 END DO\n      END\n") 9 ≡ refused K2 1
+unfolding all_definitions
+into_while = refl
 
 untyped_counter : answer (codes "      IMPLICIT NONE\n      INTEGER A(2)\n      DATA (A(I),I=1,2)/2*0/\n      END\n") 9 ≡ refused K10 3
 unfolding all_definitions

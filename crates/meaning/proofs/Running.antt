@@ -13,7 +13,7 @@ use Rattle.meaning.specs.Trips.{span_of, trips}
 use Rattle.meaning.specs.Maps.{Map, put}
 use Rattle.meaning.specs.Values.{Scope, value, subscripts, dimensions_in, as_integer, as_logical, integer}
 use Rattle.meaning.specs.Records.{edited}
-use Rattle.meaning.specs.Execution.{Outcome, normal, jump, stopped, fault, Ran, more, turn, with_ok, parts_for, output, assigned, unless_defined, picked_by, by_count, by_sign, Meaning, Follow, Next, onward, at_label, Ways, goes_on, goes_on_by, leads_on, leads_on_by, simple, step, added, fold_trips, trips_from, looped, condition_of, holds, turn_if, tested, arms_from, labelled, goes_at, ways_in, pass_over, fuelled, exec}
+use Rattle.meaning.specs.Execution.{Outcome, normal, jump, stopped, fault, Ran, more, turn, with_ok, parts_for, output, assigned, unless_defined, picked_by, by_count, by_sign, Meaning, Follow, Next, onward, at_label, Ways, goes_on, goes_on_by, leads_on, leads_on_by, simple, step, added, fold_trips, trips_from, looped, while_of, ways_again, repeated, loop_by, condition_of, holds, turn_if, tested, arms_from, labelled, goes_at, ways_in, pass_over, fuelled, exec}
 
 -- ---- pieces and turns in front
 
@@ -148,6 +148,29 @@ looped-alike scope k f g alike (doing label comma variable limits) line range m 
     turn-same line m t (λ u. with_ok (span_of scope limits m) line m (λ s. leads_on (trips_from f line variable range m u s) u go)) (λ u. with_ok (span_of scope limits m) line m (λ s. leads_on (trips_from g line variable range m u s) u on)) (λ u le. with_ok-same (span_of scope limits m) line m (λ s. leads_on (trips_from f line variable range m u s) u go) (λ s. leads_on (trips_from g line variable range m u s) u on) (λ s. ap (λ r. leads_on r u go) (fold_trips-alike k f g line variable s.step range alike (trips s.first s.last s.step) (put m variable [] s.first) u (omega arith)) ∙ leads_on-same (trips_from g line variable range m u s) u go on (fewer t (suc u) go on le same)))
 looped-alike scope k f g alike s line range m t go on lt same = same onward m t (omega arith)
 
+-- the range of a DO WHILE statement, and this again with fewer turns
+leads_on-again : (k : ℕ) (r : Ran) (t : ℕ) (again further : Follow) (go on : Ways) → t < k → ((n : Map) (u : ℕ) → u < k → again n u ≡ further n u) → SameWays (suc t) go on → leads_on r t (ways_again again go) ≡ leads_on r t (ways_again further on)
+unfolding leads_on
+leads_on-again k r t again further go on lt repeats same = by r.outcome
+  where
+    by : (o : Outcome) → leads_on_by o r t (ways_again again go) ≡ leads_on_by o r t (ways_again further on)
+    by normal = ap (λ x. more r.pieces r.used x) (repeats r.map (t - r.used) (omega arith))
+    by (jump s) = ap (λ x. more r.pieces r.used x) (same (at_label s) r.map (t - r.used) (omega arith))
+    by (stopped line) = refl
+    by (fault kind line) = refl
+
+repeated-alike : (scope : Scope) (k : ℕ) (f g : Meaning) → Alike k f g → (e : ExprTree) (line : ℕ) (range : Members) (again further : Follow) (m : Map) (t : ℕ) (go on : Ways) → t < suc k → ((n : Map) (u : ℕ) → u < k → again n u ≡ further n u) → SameWays t go on → repeated scope f e line range again m t go ≡ repeated scope g e line range further m t on
+unfolding repeated
+repeated-alike scope k f g alike e line range again further m t go on lt repeats same =
+    let r = value scope e m in
+    turn-same line m t (λ u. with_ok r line m (λ v. if as_logical v then leads_on (f range range m u) u (ways_again again go) else go onward m u)) (λ u. with_ok r line m (λ v. if as_logical v then leads_on (g range range m u) u (ways_again further on) else on onward m u)) (λ u le. with_ok-same r line m (λ v. if as_logical v then leads_on (f range range m u) u (ways_again again go) else go onward m u) (λ v. if as_logical v then leads_on (g range range m u) u (ways_again further on) else on onward m u) (λ v. if-same (as_logical v) _ _ _ _ (ap (λ x. leads_on x u (ways_again again go)) (alike range range m u (omega arith)) ∙ leads_on-again k (g range range m u) u again further go on (omega arith) repeats (fewer t (suc u) go on le same)) (same onward m u (omega arith))))
+
+loop_by-alike : (o : Option ExprTree) (scope : Scope) (k : ℕ) (f g : Meaning) → Alike k f g → (x : ItemTree) (range : Members) (again further : Follow) (m : Map) (t : ℕ) (go on : Ways) → t < suc k → ((n : Map) (u : ℕ) → u < k → again n u ≡ further n u) → SameWays t go on → loop_by o scope f x range again m t go ≡ loop_by o scope g x range further m t on
+unfolding loop_by
+loop_by-alike None scope k f g alike x range again further m t go on lt repeats same = looped-alike scope k f g alike x.shape x.line range m t go on lt same
+loop_by-alike (Some e) scope k f g alike x range again further m t go on lt repeats same =
+    repeated-alike scope k f g alike e x.line range again further m t go on lt repeats same
+
 turn_if-same : (b : Bool) (line : ℕ) (m : Map) (t : ℕ) (go on : ℕ → Ran) → ((u : ℕ) → u ≤ t → go u ≡ on u) → turn_if b line m t go ≡ turn_if b line m t on
 turn_if-same true line m t go on same = turn-same line m t go on (λ u lt. same u (omega arith))
 turn_if-same false line m t go on same = same t (omega arith)
@@ -195,7 +218,7 @@ pass_over-alike program k f g alike all none m t lt = refl
 pass_over-alike program k f g alike all (plain x ms) m t lt =
     step-same program x.shape x.line m t _ _ (ways-alike k f g alike all (λ n u. pass_over program f all ms n u) (λ n u. pass_over program g all ms n u) t lt (λ n u le. pass_over-alike program k f g alike all ms n u (omega arith)))
 pass_over-alike program k f g alike all (loop x range ms) m t lt =
-    looped-alike (scope_of program) k f g alike x.shape x.line range m t _ _ lt (ways-alike k f g alike all (λ n u. pass_over program f all ms n u) (λ n u. pass_over program g all ms n u) t lt (λ n u le. pass_over-alike program k f g alike all ms n u (omega arith)))
+    loop_by-alike (while_of x.shape) (scope_of program) k f g alike x range (f all (loop x range ms)) (g all (loop x range ms)) m t _ _ lt (λ n u less. alike all (loop x range ms) n u less) (ways-alike k f g alike all (λ n u. pass_over program f all ms n u) (λ n u. pass_over program g all ms n u) t lt (λ n u le. pass_over-alike program k f g alike all ms n u (omega arith)))
 pass_over-alike program k f g alike all (block arms x ms) m t lt =
     arms-alike (scope_of program) k f g alike arms m t _ _ lt (ways-alike k f g alike all (λ n u. pass_over program f all ms n u) (λ n u. pass_over program g all ms n u) t lt (λ n u le. pass_over-alike program k f g alike all ms n u (omega arith)))
 

@@ -24,7 +24,7 @@ use Rattle.meaning.specs.Trips.{Span, span_of, trips}
 use Rattle.meaning.specs.Maps.{Map, put}
 use Rattle.meaning.specs.Values.{Scope, value, subscripts, dimensions_in, as_integer, as_logical, integer}
 use Rattle.meaning.specs.Records.{edited}
-use Rattle.meaning.specs.Execution.{Outcome, normal, jump, stopped, fault, Ran, more, ended, ended_by, turn, with_ok, parts_for, output, assigned, unless_defined, picked_by, nth_label, by_count, by_sign, Meaning, Follow, Next, onward, at_label, Ways, goes_on, goes_on_by, leads_on, leads_on_by, simple, step, added, fold_trips, trips_from, looped, condition_of, holds, turn_if, tested, arms_from, heads, labelled, goes_at, ways_in, pass_over, fuelled, exec}
+use Rattle.meaning.specs.Execution.{Outcome, normal, jump, stopped, fault, Ran, more, ended, ended_by, turn, with_ok, parts_for, output, assigned, unless_defined, picked_by, nth_label, by_count, by_sign, Meaning, Follow, Next, onward, at_label, Ways, goes_on, goes_on_by, leads_on, leads_on_by, simple, step, added, fold_trips, trips_from, looped, while_of, ways_again, repeated, loop_by, condition_of, holds, turn_if, tested, arms_from, heads, labelled, goes_at, ways_in, pass_over, fuelled, exec}
 use Rattle.meaning.proofs.Keeping.{or-parts}
 use Rattle.meaning.proofs.Lasting.{none_of_both, not_told, nothing_broken}
 
@@ -356,6 +356,22 @@ module _ (r : Roles) (items : List ItemTree) where
             turn-inside outer x.line m t (λ u. with_ok (span_of scope limits m) x.line m (λ s. leads_on (trips_from f x.line variable range m u s) u go)) (λ u. with_ok-inside outer (span_of scope limits m) x.line m (λ s. leads_on (trips_from f x.line variable range m u s) u go) (λ s. leads_on-inside outer a.items (trips_from f x.line variable range m u s) u go (trips-inside x.line variable s m u) ways))
         by s = ways onward tt m t
 
+    repeated-inside : (scope : Scope) (a : Around) (outer : List ItemTree) (e : ExprTree) (x : ItemTree) (range : Members) (again : Follow) → FollowInside outer again → (m : Map) (t : ℕ) (go : Ways) → Nowhere r items (in_range a x range) range → WaysInside a.items outer go → Inside outer (repeated scope f e x.line range again m t go)
+    unfolding repeated
+    repeated-inside scope a outer e x range again further m t go kept ways =
+        let c = value scope e m in
+        turn-inside outer x.line m t (λ u. with_ok c x.line m (λ v. if as_logical v then leads_on (f range range m u) u (ways_again again go) else go onward m u)) (λ u. with_ok-inside outer c x.line m (λ v. if as_logical v then leads_on (f range range m u) u (ways_again again go) else go onward m u) (λ v. if-inside outer (as_logical v) (leads_on (f range range m u) u (ways_again again go)) (go onward m u) (leads_on-inside outer a.items (f range range m u) u (ways_again again go) (inside (in_range a x range) a.items range range refl kept kept m u) ways_back) (ways onward tt m u)))
+      where
+        ways_back : WaysInside a.items outer (ways_again again go)
+        ways_back onward reached = further
+        ways_back (at_label s) reached = ways (at_label s) reached
+
+    loop_by-inside : (o : Option ExprTree) (scope : Scope) (a : Around) (outer : List ItemTree) (x : ItemTree) (range : Members) (again : Follow) → FollowInside outer again → (m : Map) (t : ℕ) (go : Ways) → Nowhere r items (in_range a x range) range → WaysInside a.items outer go → Inside outer (loop_by o scope f x range again m t go)
+    unfolding loop_by
+    loop_by-inside None scope a outer x range again further m t go kept ways = looped-inside scope a outer x range m t go kept ways
+    loop_by-inside (Some e) scope a outer x range again further m t go kept ways =
+        repeated-inside scope a outer e x range again further m t go kept ways
+
     arms_from-inside : (scope : Scope) (a : Around) (outer : List ItemTree) (first : Bool) (arms : Arms) (m : Map) (t : ℕ) (go : Ways) → NowhereIn r items a arms → WaysInside a.items outer go → Inside outer (arms_from scope f first arms m t go)
     unfolding arms_from tested
     arms_from-inside scope a outer first no_arms m t go kept ways = ways onward tt m t
@@ -380,7 +396,7 @@ module _ (r : Roles) (items : List ItemTree) where
       step-inside outer a.items program x.shape x.line m t _ parts.0 (ways-inside f inside a outer all (λ n u. pass_over program f all ms n u) is kept (λ n u. pass_over-inside program f inside a outer all ms is kept parts.1 n u))
   pass_over-inside program f inside a outer all (loop x range ms) is kept rest m t =
       let parts = loop_parts r items a x range ms rest in
-      looped-inside f inside (scope_of program) a outer x range m t _ parts.0 (ways-inside f inside a outer all (λ n u. pass_over program f all ms n u) is kept (λ n u. pass_over-inside program f inside a outer all ms is kept parts.1 n u))
+      loop_by-inside f inside (while_of x.shape) (scope_of program) a outer x range (f all (loop x range ms)) (λ n u. inside a outer all (loop x range ms) is kept rest n u) m t _ parts.0 (ways-inside f inside a outer all (λ n u. pass_over program f all ms n u) is kept (λ n u. pass_over-inside program f inside a outer all ms is kept parts.1 n u))
   pass_over-inside program f inside a outer all (block arms x ms) is kept rest m t =
       let parts = block_parts r items a arms x ms rest in
       arms_from-inside f inside (scope_of program) a outer true arms m t _ parts.0 (ways-inside f inside a outer all (λ n u. pass_over program f all ms n u) is kept (λ n u. pass_over-inside program f inside a outer all ms is kept parts.1 n u))

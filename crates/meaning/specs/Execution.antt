@@ -4,7 +4,7 @@ use Rattle.meaning.specs.declared.ending.FaultKind.{FaultKind}
 use Rattle.meaning.specs.declared.ending.FaultKind.TheVariants.{F4}
 use Rattle.meaning.specs.declared.ending.Value.{Value}
 use Rattle.meaning.specs.Characters.{number_of}
-use Rattle.meaning.specs.Syntax.{ExprTree, ExprsTree, ShapeTree, assignment, writing, printing, format, doing, continuing, going, computed_going, arithmetic_if, logical_if, block_if, else_if, stopping, end_do, ItemTree, ListItemsTree, FormatTree, format_label, format_constant}
+use Rattle.meaning.specs.Syntax.{ExprTree, ExprsTree, ShapeTree, assignment, writing, printing, format, doing, continuing, going, computed_going, arithmetic_if, logical_if, block_if, else_if, stopping, doing_while, end_do, ItemTree, ListItemsTree, FormatTree, format_label, format_constant}
 use Rattle.meaning.specs.Trees.{Members, none, plain, loop, block, Arms, no_arms, arm}
 use Rattle.meaning.specs.Trips.{Span, span_of, trips}
 use Rattle.meaning.specs.Formats.{Parts, no_parts, descriptors_of, format_in, undoubled}
@@ -202,6 +202,28 @@ looped scope rec (doing label comma variable limits) line range m t go =
     turn line m t (λ u. with_ok (span_of scope limits m) line m (λ s. leads_on (trips_from rec line variable range m u s) u go))
 looped scope rec s line range m t go = go onward m t
 
+-- ---- a DO WHILE and its range (own)
+
+-- the condition of a DO WHILE statement
+abbrev pub while_of : ShapeTree → Option ExprTree
+while_of (doing_while label comma e) = Some e
+while_of s = None
+
+-- behind the range the DO WHILE statement is executed again; a transfer out of the range goes on at its label
+abbrev pub ways_again : Follow → Ways → Ways
+ways_again again go onward m t = again m t
+ways_again again go (at_label s) m t = go (at_label s) m t
+
+-- a test of the condition takes a turn; where it is true the range is executed
+unfoldable pub repeated : Scope → Meaning → ExprTree → ℕ → Members → Follow → Map → ℕ → Ways → Ran
+repeated scope rec e line range again m t go =
+    turn line m t (λ u. with_ok (value scope e m) line m (λ v. if as_logical v then leads_on (rec range range m u) u (ways_again again go) else go onward m u))
+
+-- a DO or DO WHILE statement with its range
+unfoldable pub loop_by : Option ExprTree → Scope → Meaning → ItemTree → Members → Follow → Map → ℕ → Ways → Ran
+loop_by None scope rec x range again m t go = looped scope rec x.shape x.line range m t go
+loop_by (Some e) scope rec x range again m t go = repeated scope rec e x.line range again m t go
+
 -- ---- a block IF and its arms (11.6 to 11.9)
 
 -- the condition of an IF THEN or ELSE IF statement; ELSE has none
@@ -259,13 +281,14 @@ abbrev pub ways_in : Meaning → Members → Follow → Ways
 ways_in rec all go onward m t = go m t
 ways_in rec all go (at_label s) m t = goes_at rec all (labelled s all) s m t
 
--- one pass over what is left of a list; a range, an arm and what follows a transfer are executed by rec
+-- one pass over what is left of a list; a range, an arm, what follows a transfer, and a DO WHILE statement again, are executed by
+-- rec
 unfoldable pub pass_over : List ItemTree → Meaning → Meaning
 pass_over program rec all none m t = ended m
 pass_over program rec all (plain x ms) m t =
     step program x.shape x.line m t (ways_in rec all (λ n u. pass_over program rec all ms n u))
 pass_over program rec all (loop x range ms) m t =
-    looped (scope_of program) rec x.shape x.line range m t (ways_in rec all (λ n u. pass_over program rec all ms n u))
+    loop_by (while_of x.shape) (scope_of program) rec x range (rec all (loop x range ms)) m t (ways_in rec all (λ n u. pass_over program rec all ms n u))
 pass_over program rec all (block arms x ms) m t =
     arms_from (scope_of program) rec true arms m t (ways_in rec all (λ n u. pass_over program rec all ms n u))
 

@@ -5,7 +5,7 @@ use Rattle.std.specs.List.{starts_with, list_any}
 use Rattle.meaning.specs.declared.syntax.Kind.{Kind}
 use Rattle.meaning.specs.declared.syntax.Kind.TheVariants as kinds
 use Rattle.meaning.specs.Characters.{is_digit, apostrophe}
-use Rattle.meaning.specs.Syntax.{ShapeTree, assignment, writing, printing, format, doing, continuing, typing, ending, naming, implying, logical_typing, dimensioning, parameter, initializing, definition, going, computed_going, arithmetic_if, logical_if, block_if, else_if, otherwise, end_if, stopping, end_do, implicit_none}
+use Rattle.meaning.specs.Syntax.{ShapeTree, assignment, writing, printing, format, doing, continuing, typing, ending, naming, implying, logical_typing, dimensioning, parameter, initializing, definition, going, computed_going, arithmetic_if, logical_if, block_if, else_if, otherwise, end_if, stopping, doing_while, end_do, implicit_none}
 use Rattle.std.specs.Prelude.{nat_eq}
 
 -- the equals signs and commas of a text that stand outside parentheses and apostrophes, up to a parenthesis that closes what
@@ -45,6 +45,19 @@ abbrev pub begins_with_digit : List ℕ → Bool
 begins_with_digit [] = false
 begins_with_digit (c ∷ cs) = is_digit c
 
+-- what stands behind digits, and behind a comma
+unfoldable pub behind_digits : List ℕ → List ℕ
+behind_digits [] = []
+behind_digits (c ∷ cs) = if is_digit c then behind_digits cs else c ∷ cs
+
+abbrev pub behind_comma : List ℕ → List ℕ
+behind_comma [] = []
+behind_comma (c ∷ cs) = if c == 44 then cs else c ∷ cs
+
+-- DO, digits or none, a comma or none, WHILE and a parenthesis
+abbrev pub begins_while : List ℕ → Bool
+begins_while text = begins text (codes "DO") && begins (behind_comma (behind_digits (drop 2 text))) (codes "WHILE(")
+
 -- what a first keyword says
 unfoldable pub kind_by_control_keyword : List ℕ → Kind
 kind_by_control_keyword text =
@@ -57,7 +70,8 @@ kind_by_control_keyword text =
     else (if begins text (codes "ELSEIF(") then kinds.ElseIf
     else (if begins text (codes "ELSE") then kinds.Else
     else (if begins text (codes "STOP") then kinds.Stop
-    else kinds.Other))))))))
+    else (if begins_while text then kinds.DoWhile
+    else kinds.Other)))))))))
 
 unfoldable pub kind_by_keyword : List ℕ → Kind
 kind_by_keyword text =
@@ -117,5 +131,6 @@ kind_of_shape (else_if e) = kinds.ElseIf
 kind_of_shape otherwise = kinds.Else
 kind_of_shape end_if = kinds.EndIf
 kind_of_shape (stopping text) = kinds.Stop
+kind_of_shape (doing_while label comma e) = kinds.DoWhile
 kind_of_shape end_do = kinds.EndDo
 kind_of_shape implicit_none = kinds.ImplicitNone

@@ -7,13 +7,13 @@ use Rattle.meaning.specs.declared.refusal.Rule.{Rule}
 use Rattle.meaning.specs.declared.refusal.Rule.TheVariants.{N1, N2, N3, N4, N5}
 use Rattle.meaning.specs.Characters.{number_of}
 use Rattle.meaning.specs.Trees.{Members, none, plain, loop, block, Arms, no_arms, arm, Nested, flat, flatten}
-use Rattle.meaning.specs.Syntax.{ShapeTree, assignment, writing, printing, format, doing, end_do, continuing, typing, ending, naming, implying, implicit_none, logical_typing, dimensioning, parameter, definition, computed_going, logical_if, block_if, else_if, otherwise, end_if, ItemTree}
+use Rattle.meaning.specs.Syntax.{ShapeTree, assignment, writing, printing, format, doing, doing_while, end_do, continuing, typing, ending, naming, implying, implicit_none, logical_typing, dimensioning, parameter, definition, computed_going, logical_if, block_if, else_if, otherwise, end_if, ItemTree}
 use Rattle.meaning.specs.Refusals.{merge, unless, is_less}
 use Rattle.meaning.specs.LabelRules.{is_label_at, has_label}
 
 -- ---- what a statement is
 
--- what a statement does to the lists of a program unit: DO opens a range and names its label or none, END DO closes
+-- what a statement does to the lists of a program unit: DO and DO WHILE open a range and name its label or none, END DO closes
 -- one, IF THEN opens a block IF, ELSE IF and ELSE open the next arm of one, END IF closes one, END closes the program unit, and
 -- any other stands in a list and may end a range or not
 pub data Effect : Type 0 where
@@ -32,6 +32,7 @@ named_label label = option_map (λ digits. min (number_of digits) (2 ^ 32)) labe
 
 abbrev pub effect_of : ShapeTree → Effect
 effect_of (doing label comma variable limits) = opens_range (named_label label)
+effect_of (doing_while label comma e) = opens_range (named_label label)
 effect_of end_do = closes_range
 effect_of (block_if e) = opens_block
 effect_of (else_if e) = opens_arm
@@ -47,7 +48,7 @@ effect_of (logical_if e statement) = stands true
 effect_of continuing = stands true
 effect_of s = stands false
 
--- the label that a DO statement names
+-- the label that a DO or DO WHILE statement names
 abbrev pub named : Effect → Option ℕ
 named (opens_range label) = label
 named e = None
@@ -65,7 +66,7 @@ abbrev pub is_end : Effect → Bool
 is_end closes_unit = true
 is_end e = false
 
--- DO or IF THEN
+-- DO, DO WHILE or IF THEN
 abbrev pub is_opening : Effect → Bool
 is_opening (opens_range label) = true
 is_opening opens_block = true
@@ -149,7 +150,7 @@ abbrev pub IsEnded : Option ℕ → Members → Type 0
 IsEnded (Some label) range = IsRangeAt label range
 IsEnded None range = IsTrue (ends_with_end_do range)
 
--- the range of a DO statement
+-- the range of a DO or DO WHILE statement
 pub record IsRangeOf (head : ShapeTree) (range : Members) : Type 0 where
   pub label : Option ℕ
   pub names : effect_of head ≡ opens_range label

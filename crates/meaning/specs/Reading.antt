@@ -12,7 +12,7 @@ use Rattle.meaning.specs.declared.syntax.Kind.TheVariants as kinds
 use Rattle.meaning.specs.declared.refusal.Rule.{Rule}
 use Rattle.meaning.specs.declared.refusal.Rule.TheVariants.{G1, G2, G3}
 use Rattle.meaning.specs.Characters.{is_digit, is_letter, is_alphanumeric, is_name, is_number, is_label, apostrophe}
-use Rattle.meaning.specs.Syntax.{ExprTree, number, truth, name, signed, negated, binary, paren, element, call, ExprsTree, no_exprs, exprs, BoundsTree, DeclaratorTree, UnitTree, star, unit_number, LimitsTree, ListItemTree, value_item, loop_item, ListItemsTree, no_items, more_items, FormatTree, format_label, format_constant, ControlTree, LettersTree, ImplicitTree, ConstantTree, DataConstantTree, data_number, data_truth, data_name, RepeatTree, repeat_number, repeat_name, DataValueTree, DataSetTree, StopTree, stop_silent, stop_digits, stop_text, ShapeTree, assignment, writing, printing, format, doing, continuing, typing, ending, naming, implying, logical_typing, dimensioning, parameter, initializing, definition, going, computed_going, arithmetic_if, logical_if, block_if, else_if, otherwise, end_if, stopping, end_do, implicit_none}
+use Rattle.meaning.specs.Syntax.{ExprTree, number, truth, name, signed, negated, binary, paren, element, call, ExprsTree, no_exprs, exprs, BoundsTree, DeclaratorTree, UnitTree, star, unit_number, LimitsTree, ListItemTree, value_item, loop_item, ListItemsTree, no_items, more_items, FormatTree, format_label, format_constant, ControlTree, LettersTree, ImplicitTree, ConstantTree, DataConstantTree, data_number, data_truth, data_name, RepeatTree, repeat_number, repeat_name, DataValueTree, DataSetTree, StopTree, stop_silent, stop_digits, stop_text, ShapeTree, assignment, writing, printing, format, doing, continuing, typing, ending, naming, implying, logical_typing, dimensioning, parameter, initializing, definition, going, computed_going, arithmetic_if, logical_if, block_if, else_if, otherwise, end_if, stopping, doing_while, end_do, implicit_none}
 use Rattle.meaning.specs.Spelling.{operator_text, level, left_least, right_least, level_of, balanced, is_stop_number, are_data_items, begins_without_comma}
 use Rattle.meaning.specs.declared.syntax.ControlOrder.TheVariants as orders
 use Rattle.meaning.specs.Kinds.{kind_of, begins, begins_with_digit, has_equals}
@@ -349,7 +349,7 @@ unfoldable pub comma_at : Text → Bool × Text
 unfolding either
 comma_at t = either (after (44 ∷ []) t) (false, t) (λ rest. (true, rest))
 
--- the label of a DO statement and a comma behind it or none, or neither (the latter own)
+-- the label of a DO or DO WHILE statement and a comma behind it or none, or neither
 abbrev pub RangeLabel : Type 0
 RangeLabel = Option (List ℕ) × Bool
 
@@ -368,6 +368,16 @@ doing_of t = do
   behind ← after (61 ∷ []) v.1
   limits ← limits_at behind
   at_end (doing l.0.0 l.0.1 v.0 limits.0, limits.1)
+
+unfoldable pub doing_while_of : Text → Option ShapeTree
+unfolding ◌>>=◌
+doing_while_of t = do
+  rest ← after (codes "DO") t
+  l ← range_label_at rest
+  opened ← after (codes "WHILE(") l.1
+  e ← whole_expression_at opened
+  behind ← after (41 ∷ []) e.1
+  at_end (doing_while l.0.0 l.0.1 e.0, behind)
 
 -- ---- type statements
 
@@ -646,6 +656,7 @@ shape_by kinds.IfThen t = block_if_of t
 shape_by kinds.ElseIf t = else_if_of t
 shape_by kinds.Else t = alone_of (codes "ELSE") otherwise t
 shape_by kinds.EndIf t = alone_of (codes "ENDIF") end_if t
+shape_by kinds.DoWhile t = doing_while_of t
 shape_by kinds.EndDo t = alone_of (codes "ENDDO") end_do t
 shape_by kinds.ImplicitNone t = alone_of (codes "IMPLICITNONE") implicit_none t
 shape_by kind t = simple_by kind t

@@ -10,7 +10,7 @@ use Rattle.meaning.specs.declared.syntax.ControlOrder.{ControlOrder}
 use Rattle.meaning.specs.declared.syntax.ControlOrder.TheVariants as orders
 use Rattle.meaning.specs.declared.syntax.DataType.{DataType}
 use Rattle.meaning.specs.declared.syntax.DataType.TheVariants as types
-use Rattle.meaning.specs.Syntax.{ExprTree, number, truth, name, signed, negated, binary, paren, element, call, ExprsTree, no_exprs, exprs, BoundsTree, DeclaratorTree, UnitTree, star, unit_number, LimitsTree, ListItemTree, value_item, loop_item, ListItemsTree, no_items, more_items, FormatTree, format_label, format_constant, ControlTree, LettersTree, ImplicitTree, ConstantTree, DataConstantTree, data_number, data_truth, data_name, RepeatTree, repeat_number, repeat_name, DataValueTree, DataSetTree, StopTree, stop_silent, stop_digits, stop_text, ShapeTree, assignment, writing, printing, format, doing, continuing, typing, ending, naming, implying, logical_typing, dimensioning, parameter, initializing, definition, going, computed_going, arithmetic_if, logical_if, block_if, else_if, otherwise, end_if, stopping, end_do, implicit_none}
+use Rattle.meaning.specs.Syntax.{ExprTree, number, truth, name, signed, negated, binary, paren, element, call, ExprsTree, no_exprs, exprs, BoundsTree, DeclaratorTree, UnitTree, star, unit_number, LimitsTree, ListItemTree, value_item, loop_item, ListItemsTree, no_items, more_items, FormatTree, format_label, format_constant, ControlTree, LettersTree, ImplicitTree, ConstantTree, DataConstantTree, data_number, data_truth, data_name, RepeatTree, repeat_number, repeat_name, DataValueTree, DataSetTree, StopTree, stop_silent, stop_digits, stop_text, ShapeTree, assignment, writing, printing, format, doing, continuing, typing, ending, naming, implying, logical_typing, dimensioning, parameter, initializing, definition, going, computed_going, arithmetic_if, logical_if, block_if, else_if, otherwise, end_if, stopping, doing_while, end_do, implicit_none}
 use Rattle.meaning.specs.Characters.{is_letter, is_number, is_name, is_label, apostrophe}
 
 -- ---- expressions (6.1)
@@ -262,7 +262,7 @@ spell_label label = label
 abbrev pub IsWellLabel : List ℕ → Type 0
 IsWellLabel label = IsTrue (is_label label)
 
--- the label of a DO statement, and a comma behind it or none; where there is no label there is no comma (11.10, own)
+-- the label of a DO or DO WHILE statement, and a comma behind it or none; where there is no label there is no comma (11.10, own)
 abbrev pub spell_range_label : Option (List ℕ) → Bool → List ℕ
 spell_range_label None comma = []
 spell_range_label (Some label) comma = label ++ spell_comma comma
@@ -446,6 +446,7 @@ spell (else_if e) = codes "ELSEIF(" ++ (spell_expr e ++ codes ")THEN")
 spell otherwise = codes "ELSE"
 spell end_if = codes "ENDIF"
 spell (stopping text) = codes "STOP" ++ spell_stop text
+spell (doing_while label comma e) = codes "DO" ++ (spell_range_label label comma ++ (codes "WHILE(" ++ (spell_expr e ++ 41 ∷ [])))
 spell end_do = codes "ENDDO"
 spell implicit_none = codes "IMPLICITNONE"
 
@@ -475,6 +476,7 @@ IsWell (else_if e) = IsWellExpr e
 IsWell otherwise = Unit {0}
 IsWell end_if = Unit {0}
 IsWell (stopping text) = IsWellStop text
+IsWell (doing_while label comma e) = IsWellRangeLabel label comma × IsWellExpr e
 IsWell end_do = Unit {0}
 IsWell implicit_none = Unit {0}
 

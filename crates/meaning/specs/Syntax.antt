@@ -152,7 +152,8 @@ pub record ControlTree : Type 0 where
 -- a comma or none, a variable and limits (11.10), or without a label (own), CONTINUE (11.11), INTEGER and LOGICAL with their declarators (8.4.1),
 -- DIMENSION (8.1), PARAMETER (8.6), DATA with its lists and constants (9.1), GO TO (11.1), computed GO TO with labels, a comma or none, and an expression (11.2),
 -- arithmetic IF with three labels (11.4), logical IF with a statement (11.5), IF THEN, ELSE IF, ELSE and END IF (11.6 to 11.9),
--- STOP (11.12), END (3.5), END DO (own), IMPLICIT NONE (own)
+-- STOP (11.12), END (3.5), DO WHILE with a label or none, a comma or none, and a condition (own), END DO (own), IMPLICIT NONE
+-- (own)
 pub data ShapeTree : Type 0 where
   assignment : List ℕ → ExprsTree → ExprTree → ShapeTree
   writing : ControlTree → ListItemsTree → ShapeTree
@@ -178,6 +179,7 @@ pub data ShapeTree : Type 0 where
   otherwise : ShapeTree
   end_if : ShapeTree
   stopping : StopTree → ShapeTree
+  doing_while : Option (List ℕ) → Bool → ExprTree → ShapeTree
   end_do : ShapeTree
   implicit_none : ShapeTree
 
@@ -288,5 +290,6 @@ shape_tree (shapes.ElseIf condition) = else_if (expr_tree condition)
 shape_tree shapes.Else = otherwise
 shape_tree shapes.EndIf = end_if
 shape_tree (shapes.Stop text) = stopping (stop_tree text)
+shape_tree (shapes.DoWhile label comma condition) = doing_while (option_map (λ l. l.items) label) comma (expr_tree condition)
 shape_tree shapes.EndDo = end_do
 shape_tree shapes.ImplicitNone = implicit_none

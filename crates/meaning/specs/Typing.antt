@@ -6,7 +6,7 @@ use Rattle.meaning.specs.declared.syntax.DataType.{DataType}
 use Rattle.meaning.specs.declared.syntax.DataType.TheVariants as types
 use Rattle.meaning.specs.declared.syntax.Operator.{Operator}
 use Rattle.meaning.specs.declared.syntax.Operator.TheVariants as operators
-use Rattle.meaning.specs.Syntax.{ExprTree, number, truth, name, signed, negated, binary, paren, element, call, ExprsTree, no_exprs, exprs, BoundsTree, UnitTree, star, unit_number, LimitsTree, ListItemsTree, no_items, more_items, value_item, loop_item, ShapeTree, assignment, writing, printing, doing, parameter, initializing, definition, computed_going, arithmetic_if, logical_if, block_if, else_if}
+use Rattle.meaning.specs.Syntax.{ExprTree, number, truth, name, signed, negated, binary, paren, element, call, ExprsTree, no_exprs, exprs, BoundsTree, UnitTree, star, unit_number, LimitsTree, ListItemsTree, no_items, more_items, value_item, loop_item, ShapeTree, assignment, writing, printing, doing, parameter, initializing, definition, computed_going, arithmetic_if, logical_if, block_if, else_if, doing_while}
 use Rattle.meaning.specs.Types.{Types}
 use Rattle.meaning.specs.Values.{Arrays}
 use Rattle.meaning.specs.Intrinsics.{intrinsic_named}
@@ -170,6 +170,7 @@ expected_in ns defines (definition n e) = expected (ns.types n) e ∷ []
 expected_in ns defines (writing control list) = in_unit control.unit ++ in_items list
 expected_in ns defines (printing source list) = in_items list
 expected_in ns defines (doing label comma variable limits) = in_limits limits
+expected_in ns defines (doing_while label comma e) = expected logical_type e ∷ []
 expected_in ns defines (parameter cs) = map (λ c. expected (ns.types c.name) c.value) cs
 expected_in ns defines (initializing sets) = flat_map (λ x. in_items x.list) sets
 expected_in ns defines (computed_going labels comma e) = expected integer_type e ∷ []

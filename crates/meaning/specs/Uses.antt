@@ -3,7 +3,7 @@
 use Rattle.std.specs.Prelude.{ℕ, suc, Bool, true, false, not, ◌&&◌, ◌||◌, List, [], ◌∷◌, ◌++◌, map, flat_map, is_some, is_none, if◌then◌else◌, Option, Some, None}
 use Rattle.std.specs.List.{list_any, list_all, filter}
 use Rattle.std.specs.Str.{bytes_eq}
-use Rattle.meaning.specs.Syntax.{ExprTree, number, truth, name, signed, negated, binary, paren, element, call, ExprsTree, no_exprs, exprs, UnitTree, star, unit_number, LimitsTree, ListItemsTree, no_items, more_items, value_item, loop_item, DataConstantTree, data_number, data_truth, data_name, RepeatTree, repeat_number, repeat_name, DataValueTree, DataSetTree, ShapeTree, assignment, writing, printing, doing, parameter, initializing, definition, computed_going, arithmetic_if, logical_if, block_if, else_if, ItemTree}
+use Rattle.meaning.specs.Syntax.{ExprTree, number, truth, name, signed, negated, binary, paren, element, call, ExprsTree, no_exprs, exprs, UnitTree, star, unit_number, LimitsTree, ListItemsTree, no_items, more_items, value_item, loop_item, DataConstantTree, data_number, data_truth, data_name, RepeatTree, repeat_number, repeat_name, DataValueTree, DataSetTree, ShapeTree, assignment, writing, printing, doing, parameter, initializing, definition, computed_going, arithmetic_if, logical_if, block_if, else_if, doing_while, ItemTree}
 use Rattle.meaning.specs.Types.{types_of}
 use Rattle.meaning.specs.Scopes.{listed, constants_in, declarators_in, arrays_of, Definition, definitions_of, defined_by, is_specification}
 use Rattle.meaning.specs.Typing.{Names, option_list, in_bounds}
@@ -158,6 +158,7 @@ parts_of r defines (definition n e) =
 parts_of r defines (writing control list) = reading (unit_uses control.unit ++ item_uses r list)
 parts_of r defines (printing source list) = reading (item_uses r list)
 parts_of r defines (doing label comma variable limits) = record { sets = bare_use variable ∷ []; reads = limit_uses limits }
+parts_of r defines (doing_while label comma e) = reading (uses_in e)
 parts_of r defines (parameter cs) = reading (flat_map (λ c. uses_in c.value) cs)
 parts_of r defines (initializing sets) = reading (flat_map (data_set_uses r) sets)
 parts_of r defines (computed_going labels comma e) = reading (uses_in e)

@@ -272,6 +272,12 @@ pub enum Shape {
         variable: Vec<u8>,
         limits: Limits,
     },
+    /// `DO label WHILE(condition)`, with a label and a comma as DO has them.
+    DoWhile {
+        label: Option<Vec<u8>>,
+        comma: bool,
+        condition: Expr,
+    },
     /// `ENDDO`
     EndDo,
     /// `CONTINUE`
@@ -407,6 +413,7 @@ pub enum Kind {
     Write,
     Format,
     Do,
+    DoWhile,
     EndDo,
     Continue,
     Integer,

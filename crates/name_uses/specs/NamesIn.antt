@@ -1,23 +1,16 @@
 -- Names in what a statement says.
-use Rattle.std.specs.Prelude.{ℕ, Bool, ◌||◌, List, [], if◌then◌else◌, flat_map, map, Some}
+use Rattle.std.specs.Prelude.{ℕ, Bool, List, [], if◌then◌else◌, map}
 use Rattle.std.specs.Borrow.{Bor}
 use Rattle.std.specs.Global.{Vec}
-use Rattle.std.specs.List.{filter, list_any}
+use Rattle.std.specs.List.{filter}
 use Rattle.meaning.specs.declared.syntax.Declarator.{Declarator}
 use Rattle.meaning.specs.declared.syntax.NamedConstant.{NamedConstant}
-use Rattle.meaning.specs.declared.syntax.Shape.{Shape}
-use Rattle.meaning.specs.NameRules.{dummy_name, function_names, has_bounds, is_logical_type, is_real, is_real_use, names_defined}
-use Rattle.meaning.specs.Scopes.{constants_in, defined_by, listed}
-use Rattle.meaning.specs.Syntax.{ExprsTree, ShapeTree, constant_tree, declarator_tree, shape_tree}
+use Rattle.meaning.specs.NameRules.{has_bounds, is_logical_type}
+use Rattle.meaning.specs.Scopes.{constants_in, defined_by}
+use Rattle.meaning.specs.Syntax.{ShapeTree, constant_tree, declarator_tree}
 use Rattle.meaning.specs.Types.{typed_in}
 use Rattle.meaning.specs.Typing.{option_list}
 use Rattle.meaning.specs.Uses.{Roles}
-use Rattle.roles.specs.declared.functions.Function.{Function}
-use Rattle.roles.specs.declared.names.Roles.{Roles as Kept}
-use Rattle.name_uses.specs.declared.uses.NameUse.{NameUse}
-use Rattle.roles.specs.Functions.{definition_at}
-use Rattle.roles.specs.RolesAt.{roles_at}
-use Rattle.name_uses.specs.UsesAt.{uses_at}
 use Rattle.name_uses.specs.Held.{AreNames}
 
 -- names that are declared, those that are given bounds, and those of constants

@@ -314,6 +314,7 @@ pub fn add_reads<'a>(
         Shape::Write { control, list } => add_written_uses(uses, roles, &control.unit, list),
         Shape::Print { list, .. } => add_item_uses(uses, roles, list),
         Shape::Do { limits, .. } => add_limit_uses(uses, limits),
+        Shape::DoWhile { condition, .. } => add_uses(uses, condition),
         Shape::Parameter(constants) => add_constant_uses(uses, constants),
         Shape::Data(sets) => add_data_uses(uses, alloc, roles, sets),
         Shape::ComputedGoTo { value, .. } => add_uses(uses, value),

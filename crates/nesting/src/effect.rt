@@ -11,7 +11,7 @@ use meaning::syntax::{Item, Shape};
 /// What a statement does to the lists of a program unit.
 #[derive(Clone, Copy)]
 pub enum Effect {
-    /// DO opens a range, and names its label, which is 4294967296 where it is more, or none.
+    /// DO and DO WHILE open a range, and name its label, which is 4294967296 where it is more, or none.
     OpensRange(Option<u64>),
     /// END DO closes a range.
     ClosesRange,
@@ -27,7 +27,7 @@ pub enum Effect {
     Stands(bool),
 }
 
-/// The label that a DO statement names.
+/// The label that a DO or DO WHILE statement names.
 fn named_by(label: &Option<Vec<u8>>) -> Option<u64>
     ensures { result ≡ named_label (option_map (λ l. l.items) label.now) }
 {
@@ -43,6 +43,7 @@ pub fn effect_of_item(item: &Item) -> Effect
 {
     match &*item.form.shape {
         Shape::Do { label, .. } => Effect::OpensRange(named_by(label)),
+        Shape::DoWhile { label, .. } => Effect::OpensRange(named_by(label)),
         Shape::EndDo => Effect::ClosesRange,
         Shape::IfThen(_) => Effect::OpensBlock,
         Shape::ElseIf(_) => Effect::OpensArm,

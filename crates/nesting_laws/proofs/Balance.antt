@@ -4,8 +4,8 @@ use Rattle.std.specs.Prelude.{◌⊎◌, IsTrue, count_by}
 use Rattle.std.proofs.lemmas.List.Sums.{sum_by-cons, sum_by-append}
 use Rattle.meaning.specs.Syntax.{ItemTree}
 use Rattle.meaning.specs.Trees.{Members, none, plain, loop, block, Arms, no_arms, arm, flat, flat_arms}
-use Rattle.meaning.specs.Nesting.{Effect, opens_range, closes_range, opens_block, opens_arm, closes_block, closes_unit, stands, effect_of, is_else, IsRange, IsRangeAt, IsEnded, IsPlain, IsEndDo, IsWell, AreFurther}
-use Rattle.meaning.specs.RuleTold.{LackLabel, IsOpenBehind, IsInnermost}
+use Rattle.meaning.specs.Nesting.{Effect, opens_range, closes_range, opens_block, opens_arm, closes_block, stands, effect_of, is_else, IsRange, IsEnded, IsPlain, IsEndDo, IsWell, AreFurther}
+use Rattle.meaning.specs.RuleTold.{LackLabel}
 use Rattle.nesting_laws.proofs.Names.{all_left, all_right}
 
 -- ---- where a statement of two lists stands

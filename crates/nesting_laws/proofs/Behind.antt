@@ -1,5 +1,5 @@
 -- What is open behind some statements, said of these statements.
-use Rattle.std.proofs.Common.{◌≡◌, ℕ, suc, ◌≤◌, Bool, true, false, List, [], ◌∷◌, ◌++◌, length, Option, Some, None, refl, sym, ap, subst, ◌∙◌, arith, inl, inr, append_assoc}
+use Rattle.std.proofs.Common.{◌≡◌, ℕ, suc, Bool, true, false, List, [], ◌∷◌, ◌++◌, length, Option, Some, None, refl, sym, ap, subst, ◌∙◌, arith, inl, inr, append_assoc}
 use Rattle.std.specs.Prelude.{◌⊎◌, ◌&&◌, ◌||◌, not, IsTrue, IsFalse}
 use Rattle.std.specs.List.{AllByRecursion}
 use Rattle.meaning.specs.LabelRules.{is_label_at, has_label}
@@ -10,7 +10,7 @@ use Rattle.meaning.specs.RuleTold.{begins_arm, LackLabel, IsOpenBehind, IsInnerm
 use Rattle.nesting_laws.proofs.Joined.{flat_with_arm}
 use Rattle.nesting_laws.proofs.Names.{IsFresh, named_is, not_false, or_left, or_right, and_not, none_named, none_hidden, same_label, label_is, hidden_behind_same, hidden_behind_other, named_behind_other, fresh_unhidden, all_append, all_left, all_follow, fresh_around, fresh_other}
 use Rattle.nesting_laws.proofs.Sound.{IsOpenRange, IsOpenBlock, IsSound, text}
-use Rattle.nesting_laws.proofs.Balance.{InFirst, InSecond, both_cons, place, blocks_begun, blocks_ended, begun_append, ended_append, begun_as, ended_as, IsBalanced, balanced_append, balanced, further}
+use Rattle.nesting_laws.proofs.Balance.{InFirst, InSecond, both_cons, place, blocks_begun, blocks_ended, begun_as, ended_as, IsBalanced, balanced_append, balanced, further}
 use Rattle.nesting_laws.proofs.Innermost.{none_innermost, one_innermost}
 
 clash : (b : Bool) → b ≡ true → b ≡ false → ⊥

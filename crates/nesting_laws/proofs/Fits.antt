@@ -4,7 +4,7 @@ use Rattle.std.specs.Prelude.{◌&&◌, not, IsTrue, IsFalse}
 use Rattle.std.specs.List.{AllByRecursion}
 use Rattle.meaning.specs.LabelRules.{has_label}
 use Rattle.meaning.specs.Syntax.{ItemTree}
-use Rattle.meaning.specs.Nesting.{Level, in_range, effect_of, is_end_do, is_label_named, is_named, may_end}
+use Rattle.meaning.specs.Nesting.{Level, in_range, effect_of, is_end_do, is_named, may_end}
 use Rattle.nesting_laws.proofs.Names.{IsFresh, true_false, hidden_behind_same, named_behind_other, fresh_unhidden}
 use Rattle.nesting_laws.proofs.Clear.{MayClose}
 

@@ -1,17 +1,15 @@
 -- One thing at most is the innermost that is open.
-use Rattle.std.proofs.Common.{◌≡◌, Option, Some, None, ℕ, suc, ◌+◌, ◌<◌, ◌≤◌, Bool, true, false, List, [], ◌∷◌, ◌++◌, length, refl, sym, ap, subst, ◌∙◌, arith, inl, inr, append_assoc}
+use Rattle.std.proofs.Common.{◌≡◌, Option, Some, None, ℕ, suc, ◌+◌, ◌≤◌, Bool, true, false, List, [], ◌∷◌, ◌++◌, refl, sym, ap, subst, ◌∙◌, arith, inl, inr, append_assoc}
 use Rattle.std.specs.Prelude.{◌⊎◌, if◌then◌else◌}
-use Rattle.std.specs.List.{AllByRecursion}
 use Rattle.meaning.specs.Syntax.{ItemTree}
 use Rattle.meaning.specs.Trees.{Members, none, plain, loop, block, Arms, no_arms, arm, flat, flat_arms}
-use Rattle.meaning.specs.Nesting.{Unfinished, ended, body, range, branch, in_range, Effect, opens_range, closes_range, opens_block, opens_arm, closes_block, closes_unit, stands, effect_of, is_else, is_label_named, IsPlain, IsEndDo, IsEnded, IsWell, AreArms, AreFurther, add, joined, next_arm, close_block, close_range, past, past_by, behind}
+use Rattle.meaning.specs.Nesting.{Unfinished, ended, body, range, branch, in_range, Effect, opens_range, closes_range, opens_block, opens_arm, closes_block, closes_unit, stands, effect_of, is_else, is_label_named, IsPlain, IsEndDo, IsEnded, IsWell, AreFurther, add, joined, past, past_by, behind}
 use Rattle.meaning.specs.RuleTold.{IsOpenBehind, IsInnermost}
 use Rattle.nesting_laws.proofs.Joined.{flat_joined}
-use Rattle.nesting_laws.proofs.Names.{IsFresh}
 use Rattle.nesting_laws.proofs.Fits.{Fits, last_label}
 use Rattle.nesting_laws.proofs.Goes.{behind_append, add_fresh}
 use Rattle.nesting_laws.proofs.Passed.{past_is}
-use Rattle.nesting_laws.proofs.Complete.{goes_members, EndsSplit, split_end, stays_open}
+use Rattle.nesting_laws.proofs.Complete.{goes_members, split_end, stays_open}
 use Rattle.nesting_laws.proofs.Balance.{InFirst, InSecond, both_cons, place, never_cons, needs_block, blocks_begun, blocks_ended, begun_append, begun_as, ended_append, ended_as, IsWithin, balanced}
 
 -- ---- the END DO of a DO statement without a label

@@ -5,7 +5,7 @@ use Rattle.std.proofs.lemmas.List.{append-nil}
 use Rattle.std.proofs.lemmas.Bool.{leb-false}
 use Rattle.meaning.specs.Syntax.{ItemTree, ShapeTree, otherwise}
 use Rattle.meaning.specs.Trees.{Members, none, plain, loop, block, Arms, no_arms, arm, flat, flat_arms}
-use Rattle.meaning.specs.Nesting.{Unfinished, ended, body, range, branch, Level, Effect, opens_range, closes_range, opens_block, opens_arm, closes_block, closes_unit, stands, effect_of, levels, is_ended, is_else, is_end, is_named, is_end_do, may_close, is_stray_end_do, in_range, joined, may_end, with_arm, past, past_by, behind, AreArms, AreFurther, IsWell}
+use Rattle.meaning.specs.Nesting.{Unfinished, ended, body, range, branch, Level, Effect, opens_range, closes_range, opens_block, opens_arm, closes_block, closes_unit, stands, effect_of, levels, is_ended, is_else, is_end, is_named, is_end_do, may_close, in_range, joined, may_end, with_arm, past, past_by, behind, AreArms, AreFurther, IsWell}
 use Rattle.nesting_laws.proofs.Joined.{flat_joined, arms_joined, flat_with_arm}
 use Rattle.nesting_laws.proofs.Names.{IsFresh, or_left, or_right, not_false, true_false, and_not, fresh_unhidden, all_append}
 use Rattle.nesting_laws.proofs.Clear.{MayClose, IsClear, IsClearOf}

@@ -1,14 +1,14 @@
 -- What was read so far is well nested, as far as it goes, and holds the statements that were read.
-use Rattle.std.proofs.Common.{◌≡◌, ℕ, suc, ◌<◌, inl, inr, Bool, true, false, None, List, [], ◌∷◌, ◌++◌, length, Option, Some, refl, sym, ap, subst, ◌∙◌, append_assoc}
+use Rattle.std.proofs.Common.{◌≡◌, ℕ, suc, ◌<◌, inr, Bool, true, false, None, List, [], ◌∷◌, ◌++◌, length, Option, Some, refl, sym, ap, subst, ◌∙◌, append_assoc}
 use Rattle.std.specs.Prelude.{◌&&◌, not, IsFalse}
 use Rattle.std.specs.List.{AllByRecursion}
 use Rattle.std.proofs.lemmas.List.{append-nil}
-use Rattle.meaning.specs.LabelRules.{is_label_at, has_label}
+use Rattle.meaning.specs.LabelRules.{has_label}
 use Rattle.meaning.specs.Syntax.{ItemTree}
 use Rattle.meaning.specs.Trees.{Members, none, plain, loop, block, Arms, arm, flat, flat_arms}
-use Rattle.meaning.specs.Nesting.{Unfinished, ended, body, range, branch, Level, in_range, in_block, Effect, opens_range, closes_range, closes_unit, effect_of, is_end_do, is_label_named, may_close, ends_with_end_do, IsEnded, IsRangeAt, IsPlain, IsEndDo, levels, is_ended, is_else, is_named, is_hidden, may_end, joined, joined_arms, IsRange, IsWell, AreArms, AreFurther, add}
-use Rattle.nesting_laws.proofs.Joined.{joined_none, flat_joined, alone_of, well_joined, well_ranged, ends_joined}
-use Rattle.nesting_laws.proofs.Names.{IsFresh, named_is, label_is, and_right, not_false, hidden_behind_same, hidden_behind_other, named_behind_other, all_append, all_follow, fresh_around, fresh_other}
+use Rattle.meaning.specs.Nesting.{Unfinished, ended, body, range, branch, Level, in_range, in_block, Effect, opens_range, closes_range, closes_unit, effect_of, is_end_do, is_label_named, may_close, ends_with_end_do, IsEnded, IsPlain, levels, is_ended, is_else, is_named, is_hidden, may_end, joined, joined_arms, IsRange, IsWell, AreArms, AreFurther, add}
+use Rattle.nesting_laws.proofs.Joined.{flat_joined, alone_of, well_joined, well_ranged, ends_joined}
+use Rattle.nesting_laws.proofs.Names.{IsFresh, and_right, not_false, hidden_behind_same, hidden_behind_other, named_behind_other, all_append, all_follow, fresh_around, fresh_other}
 use Rattle.nesting_laws.proofs.Clear.{MayClose}
 
 pub record IsOpenRange (head : ItemTree) (s : Option ℕ) (ms : Members) (around : Unfinished) : Type 0 where

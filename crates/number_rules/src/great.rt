@@ -183,6 +183,7 @@ fn in_expressions(shape: &Shape) -> bool
         Shape::Write { control, list } => in_unit(&control.unit) || in_items(list),
         Shape::Print { list, .. } => in_items(list),
         Shape::Do { limits, .. } => in_limits(limits),
+        Shape::DoWhile { condition, .. } => in_expression(condition),
         Shape::Parameter(constants) => in_constants(constants),
         Shape::Data(sets) => in_lists(sets),
         Shape::ComputedGoTo { value, .. } => in_expression(value),

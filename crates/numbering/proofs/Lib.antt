@@ -3,3 +3,4 @@ pub mod Calling
 pub mod Finding
 pub mod Placing
 pub mod Texts
+pub mod Unbroken

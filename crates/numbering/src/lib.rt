@@ -1,16 +1,14 @@
-//! Variables and arrays in the order of their first appearance, and what the parts of a numbered program tell of names, labels and formats
-//! (ANSI X3.9-1978, 2.5, 2.12, 5.4, 8.6 and 15.4).
+//! Variables and arrays in the order of their first appearance, and programs that keep the rules, numbered, which tell of names, labels
+//! and formats (ANSI X3.9-1978, 2.5, 2.12, 5.4, 8.6 and 15.4).
 #![tactic(auto)]
 
 mod functions;
 mod numbers;
 mod parts;
+mod program;
 mod queries;
 
 pub use functions::functions_in;
 pub use numbers::variables_in_order;
 pub use parts::{Entry, FunctionAt, Parts, Storage};
-pub use queries::{
-    array_in, find_in, format_in, function_in, is_loud_in_parts, named_in, place_in_parts,
-    text_format_in,
-};
+pub use program::Program;

@@ -47,7 +47,7 @@ fn type_by_letter(letters: &[Option<DataType>], name: &[u8]) -> Option<DataType>
 }
 
 /// The place of a variable or an array.
-pub fn find_in<'a>(parts: &'a Parts, name: &[u8]) -> Place<'a>
+pub(crate) fn find_in<'a>(parts: &'a Parts, name: &[u8]) -> Place<'a>
     requires { IsNumbered parts.now }
     ensures { IsPlace (where_in parts.now.tree name.now) result }
 {
@@ -71,7 +71,7 @@ fn named_by(entry: &Entry) -> Named<'_>
 }
 
 /// What a name without parentheses stands for.
-pub fn named_in<'a>(parts: &'a Parts, name: &[u8]) -> Named<'a>
+pub(crate) fn named_in<'a>(parts: &'a Parts, name: &[u8]) -> Named<'a>
     requires { IsNumbered parts.now }
     ensures { IsNamedIn parts.now.tree name.now result }
 {
@@ -108,7 +108,7 @@ fn array_by(entry: &Entry) -> Option<Cells<'_>>
 }
 
 /// The cells of an array.
-pub fn array_in<'a>(parts: &'a Parts, name: &[u8]) -> Option<Cells<'a>>
+pub(crate) fn array_in<'a>(parts: &'a Parts, name: &[u8]) -> Option<Cells<'a>>
     requires { IsNumbered parts.now }
     ensures { IsArrayIn parts.now.tree name.now result }
 {
@@ -169,7 +169,7 @@ fn member_at(members: &[Member], at: usize) -> Option<&Member>
 }
 
 /// The statement function with a name.
-pub fn function_in<'a>(parts: &'a Parts, name: &[u8]) -> Option<Function<'a>>
+pub(crate) fn function_in<'a>(parts: &'a Parts, name: &[u8]) -> Option<Function<'a>>
     requires { IsNumbered parts.now }
     ensures { IsFunction (names_in parts.now.tree).definitions name.now result }
 {
@@ -199,7 +199,7 @@ fn label_of(digits: &[u8]) -> Option<u32>
 }
 
 /// The format of the FORMAT statement that has the label which digits spell.
-pub fn format_in<'a>(parts: &'a Parts, digits: &[u8]) -> Option<&'a Format>
+pub(crate) fn format_in<'a>(parts: &'a Parts, digits: &[u8]) -> Option<&'a Format>
     requires { IsNumbered parts.now }
     ensures { option_map (λ f. descriptors f.now) result ≡ format_at parts.now.tree digits.now }
 {
@@ -208,7 +208,7 @@ pub fn format_in<'a>(parts: &'a Parts, digits: &[u8]) -> Option<&'a Format>
 }
 
 /// The format in a character constant, if one is kept.
-pub fn text_format_in<'a>(parts: &'a Parts, text: &[u8]) -> Option<&'a Format>
+pub(crate) fn text_format_in<'a>(parts: &'a Parts, text: &[u8]) -> Option<&'a Format>
     requires { IsNumbered parts.now }
     ensures { IfSome result (λ f. format_in_text (undoubled text.now) ≡ Some (descriptors f.now)) }
 {
@@ -216,7 +216,7 @@ pub fn text_format_in<'a>(parts: &'a Parts, text: &[u8]) -> Option<&'a Format>
 }
 
 /// The place in its list to which a label leads.
-pub fn place_in_parts(parts: &Parts, label: u32) -> Option<usize>
+pub(crate) fn place_in_parts(parts: &Parts, label: u32) -> Option<usize>
     requires { IsNumbered parts.now }
     ensures { result ≡ place_in parts.now.tree label }
 {
@@ -224,7 +224,7 @@ pub fn place_in_parts(parts: &Parts, label: u32) -> Option<usize>
 }
 
 /// Whether a DO statement with this line has output in its range.
-pub fn is_loud_in_parts(parts: &Parts, line: u32) -> bool
+pub(crate) fn is_loud_in_parts(parts: &Parts, line: u32) -> bool
     requires { IsNumbered parts.now }
     ensures { result ≡ is_loud_in parts.now.tree line }
 {

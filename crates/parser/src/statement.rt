@@ -3,7 +3,7 @@
 ghost use Rattle.std.specs.Prelude.{◌≡◌, ◌<◌, false, option_map};
 ghost use Rattle.meaning.specs.Kinds.{kind_of};
 ghost use Rattle.meaning.specs.Syntax.{ExprTree, ExprsTree, assignment, expr_tree, exprs_tree, limits_tree, shape_tree};
-ghost use Rattle.meaning.specs.Reading.{Text, at_end as ends, whole_expression_at, exprs_at, subscripts_at, value_of, target_of, assignment_of, format_of, alone_of, limits_at, comma_at, range_label_at, doing_of, simple_by, logical_if_of, shape_by, shape_of, most_open, read_shape};
+ghost use Rattle.meaning.specs.Reading.{Text, at_end as ends, whole_expression_at, exprs_at, subscripts_at, value_of, target_of, assignment_of, format_of, alone_of, limits_at, comma_at, range_label_at, doing_of, doing_while_of, simple_by, logical_if_of, shape_by, shape_of, most_open, read_shape};
 ghost use Rattle.meaning.specs.Answers.{at_line};
 ghost use Rattle.meaning.specs.Reports.{Gives};
 ghost use Rattle.parser.specs.Behind.{limits_with, target_behind, step_behind, limits_behind};
@@ -218,7 +218,7 @@ pub fn split_comma(text: &[u8]) -> (bool, &[u8])
     }
 }
 
-/// The label of a DO statement and whether a comma stands behind it, or no label.
+/// The label of a DO or DO WHILE statement and whether a comma stands behind it, or no label.
 #[tactic(auto, unfolding(meaning::specs::Reading::range_label_at))]
 fn read_range_label(alloc: Global, text: &[u8]) -> Result<(Option<Vec<u8>>, bool, &[u8]), ReadError>
     ensures { Agrees (λ x. ((option_map (λ l. l.items) x.0, x.1), x.2.now)) result (range_label_at text.now) }
@@ -229,6 +229,26 @@ fn read_range_label(alloc: Global, text: &[u8]) -> Result<(Option<Vec<u8>>, bool
     let (label, rest) = read_label(alloc, text)?;
     let (comma, rest) = split_comma(rest);
     Ok((Some(label), comma, rest))
+}
+
+/// A DO WHILE statement.
+#[tactic(auto, unfolding(meaning::specs::Reading::doing_while_of))]
+fn read_do_while(alloc: Global, text: &[u8]) -> Result<Shape, ReadError>
+    ensures { Agrees (λ x. shape_tree x) result (doing_while_of text.now) }
+{
+    let rest = expect(b"DO", text)?;
+    let (label, comma, rest) = read_range_label(alloc, rest)?;
+    let rest = expect(b"WHILE(", rest)?;
+    let (condition, rest) = read_whole_expression(alloc, rest)?;
+    let rest = expect(b")", rest)?;
+    at_end(
+        Shape::DoWhile {
+            label,
+            comma,
+            condition,
+        },
+        rest,
+    )
 }
 
 /// A DO statement (ANSI X3.9-1978, 11.10).
@@ -262,6 +282,7 @@ fn read_simple(alloc: Global, kind: Kind, text: &[u8]) -> Result<Shape, ReadErro
         Kind::Write => read_write(alloc, text),
         Kind::Format => Err(ReadError::NoReading),
         Kind::Do => Err(ReadError::NoReading),
+        Kind::DoWhile => Err(ReadError::NoReading),
         Kind::EndDo => Err(ReadError::NoReading),
         Kind::ImplicitNone => Err(ReadError::NoReading),
         Kind::Continue => read_alone(b"CONTINUE", Shape::Continue, text),
@@ -320,6 +341,7 @@ fn read_statement(alloc: Global, kind: Kind, text: &[u8]) -> Result<Shape, ReadE
         Kind::Write => read_simple(alloc, kind, text),
         Kind::Format => read_format(alloc, text),
         Kind::Do => read_do(alloc, text),
+        Kind::DoWhile => read_do_while(alloc, text),
         Kind::EndDo => read_alone(b"ENDDO", Shape::EndDo, text),
         Kind::ImplicitNone => read_alone(b"IMPLICITNONE", Shape::ImplicitNone, text),
         Kind::Continue => read_simple(alloc, kind, text),

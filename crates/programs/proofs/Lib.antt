@@ -1,3 +1,0 @@
-pub mod Settings
-pub mod Places
-pub mod Kept

@@ -3,16 +3,16 @@ use Rattle.std.specs.Prelude.{◌≡◌, ◌⊎◌, ℕ, Bool, true, false, List
 use Rattle.meaning.specs.declared.syntax.Tree.{Tree}
 use Rattle.meaning.specs.Characters.{number_of}
 use Rattle.meaning.specs.Scopes.{defined_by}
-use Rattle.meaning.specs.Syntax.{ExprTree, ExprsTree, LimitsTree, ListItemsTree, StopTree, ShapeTree, assignment, format, doing, continuing, typing, ending, naming, implying, logical_typing, dimensioning, parameter, initializing, definition, going, computed_going, arithmetic_if, logical_if, block_if, else_if, otherwise, end_if, stopping, end_do, implicit_none}
+use Rattle.meaning.specs.Syntax.{ExprTree, ExprsTree, LimitsTree, StopTree, ShapeTree, assignment, format, doing, continuing, typing, ending, naming, implying, logical_typing, dimensioning, parameter, initializing, definition, going, computed_going, arithmetic_if, logical_if, block_if, else_if, otherwise, end_if, stopping, doing_while, end_do, implicit_none}
 use Rattle.numbering.specs.Checked.{names_in}
 use Rattle.landmarks.specs.Quiet.{output_in}
 use Rattle.postfix.specs.declared.code.Code.{Code}
 use Rattle.programs.specs.declared.action.Action.{Action}
-use Rattle.programs.specs.declared.action.Action.TheVariants.{Pass, Assign, Continue, GoTo, ComputedGoTo, ArithmeticIf, Stop, Output, If', Test, Repeat as Do}
+use Rattle.programs.specs.declared.action.Action.TheVariants.{Pass, Assign, Continue, GoTo, ComputedGoTo, ArithmeticIf, Stop, Output, If', Test, Repeat as Do, While}
 use Rattle.programs.specs.declared.action.Repeat.{Repeat}
 use Rattle.programs.specs.declared.action.Target.{Target}
 use Rattle.programs.specs.Codes.{AreLimits, IsCell, IsCode, IsTarget}
-use Rattle.programs.specs.Items.{AreItems, AreItemsOf}
+use Rattle.programs.specs.Items.{AreItemsOf}
 
 -- ---- what is passed over
 
@@ -93,6 +93,14 @@ pub record Tests (t : Tree) (c : Code) (s : ShapeTree) : Type 0 where
   pub is : (s ≡ block_if condition) ⊎ (s ≡ else_if condition)
   pub code : IsCode t condition c
 
+-- the condition of a DO WHILE statement
+pub record Whiles (t : Tree) (c : Code) (s : ShapeTree) : Type 0 where
+  pub label : Option (List ℕ)
+  pub comma : Bool
+  pub condition : ExprTree
+  pub is : s ≡ doing_while label comma condition
+  pub code : IsCode t condition c
+
 pub record Repeats (t : Tree) (r : Repeat) (s : ShapeTree) : Type 0 where
   pub label : Option (List ℕ)
   pub comma : Bool
@@ -114,20 +122,4 @@ Acts t (Output list) s = AreItemsOf t (output_in s) list
 Acts t (If' c p a) s = Conditional t c (Acts t a) s
 Acts t (Test c) s = Tests t c s
 Acts t (Do r) s = Repeats t r s
-
--- ---- parts of statements
-
--- an assignment to this place
-abbrev pub AssignsTo : Tree → Target → ExprTree → Action → Type 0
-AssignsTo t target e (Assign place c) = (place ≡ target) × IsCode t e c
-AssignsTo t target e a = ⊥
-
--- the test of this condition
-abbrev pub TestsBy : Tree → ExprTree → Action → Type 0
-TestsBy t e (Test c) = IsCode t e c
-TestsBy t e a = ⊥
-
--- a WRITE or PRINT statement with the codes of this list
-abbrev pub WritesList : Tree → ListItemsTree → Action → Type 0
-WritesList t list (Output codes) = AreItems t list codes
-WritesList t list a = ⊥
+Acts t (While c) s = Whiles t c s

@@ -2,14 +2,14 @@
 use Rattle.std.specs.Prelude.{◌≡◌, Bool, true, false, not, IsTrue, Option, Some, None}
 use Rattle.std.specs.Borrow.{Bor}
 use Rattle.meaning.specs.declared.syntax.Tree.{Tree}
-use Rattle.meaning.specs.Execution.{condition_of}
+use Rattle.meaning.specs.Execution.{condition_of, while_of}
 use Rattle.meaning.specs.Syntax.{ShapeTree, doing, logical_if}
 use Rattle.landmarks.specs.Quiet.{output_in}
 use Rattle.postfix.specs.declared.code.Code.{Code}
 use Rattle.programs.specs.declared.action.Action.{Action}
 use Rattle.programs.specs.declared.action.ListCodes.{ListCodes}
 use Rattle.programs.specs.declared.action.Repeat.{Repeat}
-use Rattle.programs.specs.Acts.{Acts, Conditional, Repeats, Tests}
+use Rattle.programs.specs.Acts.{Acts, Conditional, Repeats, Tests, Whiles}
 use Rattle.programs.specs.Items.{AreItemsOf}
 
 abbrev pub is_logical_if : ShapeTree → Bool
@@ -31,6 +31,10 @@ ConditionIs t s None = condition_of s ≡ None
 abbrev pub RepeatIs : Tree → ShapeTree → Option (Bor Repeat) → Type 0
 RepeatIs t s (Some r) = Repeats t r.now s
 RepeatIs t s None = IsTrue (not (is_doing s))
+
+abbrev pub WhileIs : Tree → ShapeTree → Option (Bor Code) → Type 0
+WhileIs t s (Some c) = Whiles t c.now s
+WhileIs t s None = while_of s ≡ None
 
 abbrev pub ListIs : Tree → ShapeTree → Option (Bor ListCodes) → Type 0
 ListIs t s (Some list) = AreItemsOf t (output_in s) list.now

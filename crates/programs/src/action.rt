@@ -3,7 +3,7 @@
 ghost use Rattle.meaning.specs.declared.syntax.Tree.{Tree};
 ghost use Rattle.meaning.specs.Syntax.{ShapeTree};
 ghost use Rattle.programs.specs.Acts.{Acts};
-ghost use Rattle.programs.specs.Asked.{ConditionIs, ConditionalIs, ListIs, RepeatIs};
+ghost use Rattle.programs.specs.Asked.{ConditionIs, ConditionalIs, ListIs, RepeatIs, WhileIs};
 
 use postfix::Code;
 
@@ -85,6 +85,8 @@ pub enum Action {
     Test(Code),
     /// DO
     Repeat(Repeat),
+    /// DO WHILE, with the code of the condition.
+    While(Code),
 }
 
 impl Action {
@@ -114,6 +116,16 @@ impl Action {
     {
         match self {
             Action::Output(list) => Some(list),
+            _ => None,
+        }
+    }
+
+    /// The condition of a DO WHILE statement.
+    pub fn while_condition(&self) -> Option<&Code>
+        ensures { (t : Tree) (s : ShapeTree) → Acts t self.now s → WhileIs t s result }
+    {
+        match self {
+            Action::While(condition) => Some(condition),
             _ => None,
         }
     }

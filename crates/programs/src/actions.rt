@@ -24,7 +24,7 @@ fn put_at(places: &mut Vec<u32>, line: u32, place: u32) -> Result<(), NoCode>
 
 /// What statements need. `places` has, for each line, where in `actions` that of its statement stands.
 #[derive(Drop)]
-pub(crate) struct Actions {
+pub struct Actions {
     pub places: Vec<u32>,
     pub actions: Vec<Action>,
 }

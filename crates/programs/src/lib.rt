@@ -4,11 +4,8 @@
 
 mod action;
 mod actions;
-mod codes;
-mod functions;
-mod items;
 mod program;
-mod statement;
 
 pub use action::{Action, ListCode, ListCodes, Repeat, Target, WholeArray};
-pub use program::{Program, check};
+pub use actions::Actions;
+pub use program::Program;

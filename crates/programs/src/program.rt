@@ -1,7 +1,6 @@
 //! Programs that keep the rules, with what their statements need.
 
-ghost use Rattle.std.specs.Prelude.{◌≡◌, ◌<◌, [], IfOk, IfSome, Ok, Some, length, option_map};
-ghost use Rattle.meaning.specs.Reports.{Gives};
+ghost use Rattle.std.specs.Prelude.{◌≡◌, ◌<◌, [], IfSome, Ok, Some, length, option_map};
 ghost use Rattle.meaning.specs.Rules.{checked};
 ghost use Rattle.meaning.specs.Trees.{members_tree, nested};
 ghost use Rattle.landmarks.specs.Kept.{IsKept};
@@ -10,29 +9,22 @@ ghost use Rattle.landmarks.specs.Places.{place_in};
 ghost use Rattle.format_edit.specs.Formatted.{descriptors};
 ghost use Rattle.numbering.specs.Agreed.{IsReadFrom};
 ghost use Rattle.numbering.specs.Told.{AreStarts, format_at};
-ghost use Rattle.roles.specs.Listed.{trees_at};
 ghost use Rattle.numbering.specs.Checked.{count_in, items_in, names_in, numbers_in};
 ghost use Rattle.programs.specs.Kept.{AreFunctions, AreKept};
 ghost use Rattle.programs.specs.Programs.{IsActionAt};
 
 use crate::Action;
 use crate::actions::Actions;
-use crate::functions::functions_of;
-use crate::statement::action_of;
-use compiler::NoCode;
 use expressions::Numbering;
 use format_edit::Format;
-use meaning::refusal::Refusal;
-use meaning::syntax::{Item, Tree};
+use meaning::syntax::Tree;
 use postfix::Code;
-use roles::items_of;
-use std::alloc::Global;
 use std::marker::Model;
 
 /// A program that keeps the rules, what each statement needs, and the codes of its statement functions.
 #[derive(Drop)]
 pub(crate) struct Parts {
-    pub unit: checker::Program,
+    pub unit: numbering::Program,
     pub actions: Actions,
     pub functions: Vec<Code>,
 }
@@ -59,6 +51,21 @@ impl Model for Program {
 }
 
 impl Program {
+    /// The program with what its statements need, and with the codes of its statement functions.
+    pub fn new(unit: numbering::Program, actions: Actions, functions: Vec<Code>) -> Program
+        requires actions { AreKept unit actions (items_in unit) }
+        requires functions { AreFunctions unit functions.items }
+        ensures { result ≡ unit }
+    {
+        Program {
+            parts: Parts {
+                unit,
+                actions,
+                functions,
+            },
+        }
+    }
+
     /// Its program unit, which breaks no rule.
     pub fn tree(&self) -> &Tree
         ensures tree { result.now ≡ self.now }
@@ -76,21 +83,21 @@ impl Program {
         self.parts.unit.starts()
     }
 
-    /// The format of the FORMAT statement that has the label which digits spell, as `checker::Program` has it.
+    /// The format of the FORMAT statement that has the label which digits spell, as `numbering::Program` has it.
     pub fn format(&self, digits: &[u8]) -> Option<&Format>
         ensures { option_map (λ f. descriptors f.now) result ≡ format_at self.now digits.now }
     {
         self.parts.unit.format(digits)
     }
 
-    /// The format in a character constant, if one is kept, as `checker::Program` has it.
+    /// The format in a character constant, if one is kept, as `numbering::Program` has it.
     pub fn text_format(&self, text: &[u8]) -> Option<&Format>
         ensures { IfSome result (λ f. IsReadFrom text.now (Some f.now)) }
     {
         self.parts.unit.text_format(text)
     }
 
-    /// The place in its list to which a transfer to the label leads, as `checker::Program` has it.
+    /// The place in its list to which a transfer to the label leads, as `numbering::Program` has it.
     pub fn place(&self, label: u32) -> Option<usize>
         ensures { result ≡ place_in self.now label }
     {
@@ -145,76 +152,5 @@ impl Program {
         ensures { AreFunctions self.now result.now }
     {
         &self.parts.functions
-    }
-}
-
-// What statements need.
-fn actions_of(alloc: Global, items: &[&Item], program: &checker::Program) -> Result<Actions, NoCode>
-    ensures { IfOk result (λ a. AreKept program.now a (trees_at items.now)) }
-{
-    let mut actions = Actions::new(alloc);
-    for item in items {
-        let action = match action_of(alloc, &*item.form.shape, program) {
-            Ok(action) => action,
-            Err(reason) => {
-                drop(actions);
-                return Err(reason);
-            }
-        };
-        match actions.add(item.line, action) {
-            Ok(()) => {}
-            Err(reason) => {
-                drop(actions);
-                return Err(reason);
-            }
-        }
-    }
-    Ok(actions)
-}
-
-// What is kept beside a program.
-#[derive(Drop)]
-struct Kept {
-    actions: Actions,
-    functions: Vec<Code>,
-}
-
-// What its statements need, and the codes of its statement functions.
-fn kept_of(alloc: Global, program: &checker::Program) -> Result<Kept, NoCode>
-    ensures actions { IfOk result (λ k. AreKept program.now k.actions (items_in program.now)) }
-    ensures functions { IfOk result (λ k. AreFunctions program.now k.functions.items) }
-{
-    let items = items_of(alloc, program.tree())?;
-    let functions = functions_of(alloc, items.as_slice(), program)?;
-    match actions_of(alloc, items.as_slice(), program) {
-        Ok(actions) => Ok(Kept { actions, functions }),
-        Err(reason) => {
-            drop(functions);
-            Err(reason)
-        }
-    }
-}
-
-/// Checks a program unit by the rules of the language, as `checker::check` does, and makes what its statements need: the program, or
-/// the least broken rule of the least line. `Memory` where a growth was refused; also for trees that no source text has: where
-/// a statement function stands in a range or an arm, where lines of statements don't ascend, where an expression needs room for more
-/// than 1,024 numbers.
-pub fn check(alloc: Global, tree: Tree) -> Result<Program, Refusal>
-    ensures exact { Gives (λ p. nested p) result (checked (nested tree)) }
-    ensures tree { IfOk result (λ p. p ≡ tree) }
-{
-    let unit = checker::check(alloc, tree)?;
-    match kept_of(alloc, &unit) {
-        Ok(Kept { actions, functions }) => Ok(Program {
-            parts: Parts {
-                unit,
-                actions,
-                functions,
-            },
-        }),
-        Err(_) => {
-            drop(unit);
-            Err(Refusal::Memory)
-        }
     }
 }

@@ -1,16 +1,10 @@
 -- Names of data of type REAL in what a statement says.
-use Rattle.std.specs.Prelude.{ℕ, Bool, ◌||◌, List, [], if◌then◌else◌, flat_map, map, Some}
-use Rattle.std.specs.Borrow.{Bor}
-use Rattle.std.specs.Global.{Vec}
-use Rattle.std.specs.List.{filter, list_any}
-use Rattle.meaning.specs.declared.syntax.Declarator.{Declarator}
-use Rattle.meaning.specs.declared.syntax.NamedConstant.{NamedConstant}
+use Rattle.std.specs.Prelude.{ℕ, Bool, ◌||◌, List, flat_map, Some}
+use Rattle.std.specs.List.{list_any}
 use Rattle.meaning.specs.declared.syntax.Shape.{Shape}
-use Rattle.meaning.specs.NameRules.{dummy_name, function_names, has_bounds, is_logical_type, is_real, is_real_use, names_defined}
-use Rattle.meaning.specs.Scopes.{constants_in, defined_by, listed}
-use Rattle.meaning.specs.Syntax.{ExprsTree, ShapeTree, constant_tree, declarator_tree, shape_tree}
-use Rattle.meaning.specs.Types.{typed_in}
-use Rattle.meaning.specs.Typing.{option_list}
+use Rattle.meaning.specs.NameRules.{dummy_name, function_names, is_real, is_real_use, names_defined}
+use Rattle.meaning.specs.Scopes.{listed}
+use Rattle.meaning.specs.Syntax.{ExprsTree, shape_tree}
 use Rattle.meaning.specs.Uses.{Roles}
 use Rattle.roles.specs.declared.functions.Function.{Function}
 use Rattle.roles.specs.declared.names.Roles.{Roles as Kept}
@@ -18,7 +12,6 @@ use Rattle.name_uses.specs.declared.uses.NameUse.{NameUse}
 use Rattle.roles.specs.Functions.{definition_at}
 use Rattle.roles.specs.RolesAt.{roles_at}
 use Rattle.name_uses.specs.UsesAt.{uses_at}
-use Rattle.name_uses.specs.Held.{AreNames}
 use Rattle.name_uses.specs.NamesIn.{}
 
 abbrev pub any_real : Roles → List (List ℕ) → Bool

@@ -175,6 +175,7 @@ pub fn has_wrong_type(roles: &Roles, defines: bool, shape: &Shape) -> bool
         Shape::Write { control, list } => in_unit(roles, &control.unit) || in_items(roles, list),
         Shape::Print { list, .. } => in_items(roles, list),
         Shape::Do { limits, .. } => in_limits(roles, limits),
+        Shape::DoWhile { condition, .. } => is_mistyped(roles, Some(DataType::Logical), condition),
         Shape::Parameter(constants) => in_constants(roles, constants),
         Shape::Data(sets) => in_sets(roles, sets),
         Shape::ComputedGoTo { value, .. } => is_no_integer(roles, value),

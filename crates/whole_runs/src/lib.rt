@@ -7,5 +7,6 @@ mod whole;
 
 pub use listing::list_values;
 pub use whole::{
-    add_whole, item_whole, limits_whole, list_whole, loop_whole, set_whole, test_whole,
+    add_whole, condition_whole, item_whole, limits_whole, list_whole, loop_whole, set_whole,
+    test_whole,
 };

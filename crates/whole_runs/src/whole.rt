@@ -5,28 +5,31 @@ ghost use Rattle.meaning.specs.declared.syntax.Loop.{out-Loop};
 ghost use Rattle.meaning.specs.Execution.{step};
 ghost use Rattle.meaning.specs.Lists.{listed, list_limit};
 ghost use Rattle.meaning.specs.Maps.{put};
-ghost use Rattle.meaning.specs.Syntax.{LimitsTree, list_items_tree, shape_tree};
+ghost use Rattle.meaning.specs.Syntax.{ExprTree, LimitsTree, list_items_tree, shape_tree};
 ghost use Rattle.meaning.specs.Trees.{flat, item_tree, members_tree};
 ghost use Rattle.meaning.specs.Trips.{span_of};
 ghost use Rattle.numbering.specs.Checked.{items_in, count_in};
 ghost use Rattle.numbering.specs.Starts.{map_of};
 ghost use Rattle.values.specs.Programs.{scope_in};
-ghost use Rattle.programs.specs.Codes.{AreLimits, IsCell};
+ghost use Rattle.programs.specs.Codes.{AreLimits, IsCell, IsCode};
 ghost use Rattle.programs.specs.Items.{AreItems};
 ghost use Rattle.programs.specs.Programs.{IsStatement};
 ghost use Rattle.evaluator.specs.Known.{AreStatements};
 ghost use Rattle.evaluator.specs.Limited.{SpanIs};
 ghost use Rattle.evaluator.specs.Listing.{ListIs};
-ghost use Rattle.evaluator.specs.Over.{MovesIn, TestsIn, loop_as};
+ghost use Rattle.evaluator.specs.Over.{ConditionIn, MovesIn, TestsIn, loop_as};
 ghost use Rattle.landmarks.specs.Kept.{IsKept};
 ghost use Rattle.landmarks.specs.Quiet.{WritesNothing, is_writing};
 ghost use Rattle.evaluator.specs.Statements.{Adds, Spends};
 
 use crate::listing::list_values;
 use array_store::Whole;
-use evaluator::{Span, add_to, run_item, run_loop, set_variable, test_arm, values_of_codes};
+use evaluator::{
+    Span, add_to, run_item, run_loop, set_variable, test_arm, test_condition, values_of_codes,
+};
 use meaning::ending::{Fault, FaultKind, Outcome, Value};
 use meaning::syntax::{Item, ListItems, Loop};
+use postfix::Code;
 use programs::{ListCodes, Program, Repeat};
 use std::alloc::{AllocError, Global};
 
@@ -104,6 +107,27 @@ pub fn test_whole(
     ensures len { length cells.new ≡ length cells.old }
 {
     test_arm(program, first, head, cells, turns)
+}
+
+/// Whether the condition of a statement at a line is true, or the fault of its test, which takes a turn. The cells keep their
+/// values.
+pub fn condition_whole(
+    program: &Program,
+    line: u32,
+    code: &Code,
+    cells: &mut Whole,
+    turns: &mut u64,
+) -> Result<bool, Fault>
+    requires sized { length cells.old ≡ count_in program.now }
+    ensures tests { (e : ExprTree) → IsCode program.now e code.now →
+        ConditionIn program.now cells.old e line turns.old turns.new result }
+    ensures spends { turns.new ≤ turns.old }
+    ensures taken { IfOk result (λ _. turns.new < turns.old) }
+    ensures kept { (e : ExprTree) → IsCode program.now e code.now →
+        map_of program.now cells.new ≡ map_of program.now cells.old }
+    ensures len { length cells.new ≡ length cells.old }
+{
+    test_condition(program, line, code, cells, turns)
 }
 
 /// Adds to a variable, by its cell. A sum outside INTEGER is F2, and the variable stays.

@@ -1,5 +1,4 @@
-use Rattle.std.proofs.Common.{refl, ◌≡◌, ◌∙◌, ap, option_map}
-use Rattle.std.specs.Prelude.{slice_get}
+use Rattle.std.proofs.Common.{refl, ◌∙◌, ap, option_map}
 use Rattle.command_line.specs.CommandLine.{file, values}
 use Rattle.command_line.proofs.Words.{files_given, lone_file, many_files, no_file}
 use Rattle.command_line.proofs.options.file_given.Goals as goal

@@ -1,4 +1,4 @@
-use Rattle.std.proofs.Common.{rules, ◌≡◌}
+use Rattle.std.proofs.Common.{rules}
 use Rattle.std.specs.Str.Parse.{ParsesUnsigned, ExplainsUnsignedError, HasUnsignedDigitsIfOk}
 use Rattle.command_line.proofs.Words.{number_is}
 use Rattle.command_line.proofs.options.number_given.Goals as goal

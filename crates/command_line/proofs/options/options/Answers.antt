@@ -1,4 +1,4 @@
-use Rattle.std.proofs.Common.{◌≡◌, ◌∙◌, sym, ap, map, option_map, subst, List, []}
+use Rattle.std.proofs.Common.{◌≡◌, ◌∙◌, sym, ap, map, subst, []}
 use Rattle.std.specs.Prelude.{◌⊎◌, Err}
 use Rattle.clap.specs.Faults.{fault_of, is_simple_and_free}
 use Rattle.clap.specs.Kinds.{HasKind}

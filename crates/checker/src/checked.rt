@@ -1,0 +1,58 @@
+//! The check of a program unit by the rules of the language.
+
+ghost use Rattle.std.specs.Prelude.{◌≡◌, IfOk};
+ghost use Rattle.meaning.specs.Reports.{Gives};
+ghost use Rattle.meaning.specs.Rules.{checked};
+ghost use Rattle.meaning.specs.Trees.{nested};
+
+use crate::formats::Formats;
+use crate::rules::{Kept, Names, kept_of};
+use meaning::refusal::Refusal;
+use meaning::syntax::Tree;
+use numbering::{Parts, Program};
+use std::alloc::Global;
+
+/// Checks a program unit by the rules on labels, names, constants, arrays, DO variables, units, formats, DATA and statement
+/// functions: the program, whose statements are the unit's, or the least broken rule of the least line. `Memory` where a growth
+/// was refused; also for trees that no source text has, where a statement function stands in a range or an arm and no DO or block
+/// IF statement before it.
+pub fn check(alloc: Global, tree: Tree) -> Result<Program, Refusal>
+    ensures exact { Gives (λ p. nested p) result (checked (nested tree)) }
+    ensures tree { IfOk result (λ p. p ≡ tree) }
+{
+    match kept_of(alloc, &tree) {
+        Ok(
+            Kept {
+                names,
+                functions,
+                function_count,
+                no_dummies,
+                formats,
+                landmarks,
+            },
+        ) => {
+            let Names {
+                entries,
+                letters,
+                starts,
+            } = names;
+            let Formats { by_label, texts } = formats;
+            Ok(Program::new(Parts {
+                tree,
+                entries,
+                letters,
+                functions,
+                function_count,
+                no_dummies,
+                starts,
+                formats: by_label,
+                texts,
+                landmarks,
+            }))
+        }
+        Err(refusal) => {
+            drop(tree);
+            Err(refusal)
+        }
+    }
+}

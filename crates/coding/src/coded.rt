@@ -1,0 +1,85 @@
+//! From a program unit to a program that keeps the rules, with what its statements need.
+
+ghost use Rattle.std.specs.Prelude.{◌≡◌, IfOk};
+ghost use Rattle.meaning.specs.Reports.{Gives};
+ghost use Rattle.meaning.specs.Rules.{checked};
+ghost use Rattle.meaning.specs.Trees.{nested};
+ghost use Rattle.roles.specs.Listed.{trees_at};
+ghost use Rattle.numbering.specs.Checked.{items_in};
+ghost use Rattle.programs.specs.Kept.{AreFunctions, AreKept};
+
+use crate::functions::functions_of;
+use crate::statement::action_of;
+use compiler::NoCode;
+use meaning::refusal::Refusal;
+use meaning::syntax::{Item, Tree};
+use numbering::Program;
+use postfix::Code;
+use programs::Actions;
+use roles::items_of;
+use std::alloc::Global;
+
+// What statements need.
+fn actions_of(alloc: Global, items: &[&Item], program: &Program) -> Result<Actions, NoCode>
+    ensures { IfOk result (λ a. AreKept program.now a (trees_at items.now)) }
+{
+    let mut actions = Actions::new(alloc);
+    for item in items {
+        let action = match action_of(alloc, &*item.form.shape, program) {
+            Ok(action) => action,
+            Err(reason) => {
+                drop(actions);
+                return Err(reason);
+            }
+        };
+        match actions.add(item.line, action) {
+            Ok(()) => {}
+            Err(reason) => {
+                drop(actions);
+                return Err(reason);
+            }
+        }
+    }
+    Ok(actions)
+}
+
+// What is kept beside a program.
+#[derive(Drop)]
+struct Kept {
+    actions: Actions,
+    functions: Vec<Code>,
+}
+
+// What its statements need, and the codes of its statement functions.
+fn kept_of(alloc: Global, program: &Program) -> Result<Kept, NoCode>
+    ensures actions { IfOk result (λ k. AreKept program.now k.actions (items_in program.now)) }
+    ensures functions { IfOk result (λ k. AreFunctions program.now k.functions.items) }
+{
+    let items = items_of(alloc, program.tree())?;
+    let functions = functions_of(alloc, items.as_slice(), program)?;
+    match actions_of(alloc, items.as_slice(), program) {
+        Ok(actions) => Ok(Kept { actions, functions }),
+        Err(reason) => {
+            drop(functions);
+            Err(reason)
+        }
+    }
+}
+
+/// Checks a program unit by the rules of the language, as `checker::check` does, and makes what its statements need: the program, or
+/// the least broken rule of the least line. `Memory` where a growth was refused; also for trees that no source text has: where
+/// a statement function stands in a range or an arm, where lines of statements don't ascend, where an expression needs room for more
+/// than 1,024 numbers.
+pub fn check(alloc: Global, tree: Tree) -> Result<programs::Program, Refusal>
+    ensures exact { Gives (λ p. nested p) result (checked (nested tree)) }
+    ensures tree { IfOk result (λ p. p ≡ tree) }
+{
+    let unit = checker::check(alloc, tree)?;
+    match kept_of(alloc, &unit) {
+        Ok(Kept { actions, functions }) => Ok(programs::Program::new(unit, actions, functions)),
+        Err(_) => {
+            drop(unit);
+            Err(Refusal::Memory)
+        }
+    }
+}

@@ -1,0 +1,11 @@
+//! What the statements and the statement functions of programs that keep the rules are executed by (ANSI X3.9-1978, chapters 6, 10 to 12
+//! and 15).
+#![tactic(auto)]
+
+mod coded;
+mod codes;
+mod functions;
+mod items;
+mod statement;
+
+pub use coded::check;

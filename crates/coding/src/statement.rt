@@ -1,0 +1,304 @@
+//! What single statements need (ANSI X3.9-1978, 10.1, chapter 11 and 12.8).
+
+ghost use Rattle.std.specs.Prelude.{◌≡◌, ℕ, Bool, List, Option, IfOk, Some, map};
+ghost use Rattle.meaning.specs.declared.syntax.Tree.{Tree};
+ghost use Rattle.meaning.specs.Characters.{number_of};
+ghost use Rattle.meaning.specs.Syntax.{arithmetic_if, assignment, doing, going, expr_tree, exprs_tree, limits_tree, list_items_tree, logical_if, shape_tree, computed_going};
+ghost use Rattle.numbering.specs.Told.{IsArrayIn};
+ghost use Rattle.programs.specs.Acts.{Acts};
+ghost use Rattle.coding.specs.Parts.{AssignsTo, TestsBy, WhilesBy, WritesList};
+ghost use Rattle.programs.specs.Codes.{IsTarget};
+
+use crate::codes::{cell_of, code_in, repeat_in};
+use crate::items::list_code;
+use compiler::{NoCode, Scene, place_of};
+use expressions::{Cells, Numbering};
+use meaning::number::number;
+use meaning::syntax::{Expr, Exprs, Limits, ListItems, Shape};
+use numbering::Program;
+use programs::{Action, Target};
+use std::alloc::Global;
+
+// The label that digits spell.
+fn target(digits: &[u8]) -> Result<u32, NoCode>
+    ensures { IfOk result (λ label. number_of digits.now ≡ label) }
+{
+    let label = number(digits);
+    if label > 0xffff_ffff {
+        return Err(NoCode::Unruly);
+    }
+    Ok(label as u32)
+}
+
+// The labels that digits spell, first to last.
+fn targets(alloc: Global, labels: &[Vec<u8>]) -> Result<Vec<u32>, NoCode>
+    ensures { IfOk result (λ found. map number_of (map (λ l. l.items) labels.now) ≡ found.items) }
+{
+    let mut found = Vec::new(alloc);
+    for label in labels {
+        found.push(target(label)?)?;
+    }
+    Ok(found)
+}
+
+// The code of an element's place.
+fn element_in(
+    alloc: Global,
+    name: &[u8],
+    cells: Cells<'_>,
+    subscripts: &Exprs,
+    program: &Program,
+) -> Result<Target, NoCode>
+    requires array { IsArrayIn program.now name.now (Some cells) }
+    ensures { IfOk result (IsTarget program.now name.now (exprs_tree subscripts.now)) }
+{
+    let scene = Scene {
+        dummies: &Exprs::Empty,
+        callable: program.functions(),
+        cells: program.starts().len(),
+    };
+    match place_of(alloc, name, cells.place, subscripts, scene, program) {
+        Ok(code) => Ok(Target::Element(code)),
+        Err(reason) => Err(reason),
+    }
+}
+
+// An assignment to this place.
+fn assigned(
+    alloc: Global,
+    target: Target,
+    value: &Expr,
+    program: &Program,
+) -> Result<Action, NoCode>
+    ensures { IfOk result (λ a. AssignsTo program.now target (expr_tree value.now) a) }
+{
+    match code_in(alloc, value, program) {
+        Ok(code) => Ok(Action::Assign(target, code)),
+        Err(reason) => {
+            drop(target);
+            Err(reason)
+        }
+    }
+}
+
+// An assignment, or what defines a statement function.
+fn assignment_action(
+    alloc: Global,
+    name: &[u8],
+    subscripts: &Exprs,
+    value: &Expr,
+    program: &Program,
+) -> Result<Action, NoCode>
+    ensures { IfOk result (λ a. Acts program.now a
+        (assignment name.now (exprs_tree subscripts.now) (expr_tree value.now))) }
+{
+    match subscripts {
+        Exprs::Empty => assigned(
+            alloc,
+            Target::Variable(cell_of(name, program)?),
+            value,
+            program,
+        ),
+        Exprs::More(_, _) => match program.array(name) {
+            Some(cells) => {
+                let target = element_in(alloc, name, cells, subscripts, program)?;
+                assigned(alloc, target, value, program)
+            }
+            None => Ok(Action::Pass),
+        },
+    }
+}
+
+// A computed GO TO.
+fn computed_action(
+    alloc: Global,
+    labels: &[Vec<u8>],
+    value: &Expr,
+    program: &Program,
+) -> Result<Action, NoCode>
+    ensures { (comma : Bool) → IfOk result (λ a. Acts program.now a
+        (computed_going (map (λ l. l.items) labels.now) comma (expr_tree value.now))) }
+{
+    let found = targets(alloc, labels)?;
+    match code_in(alloc, value, program) {
+        Ok(code) => Ok(Action::ComputedGoTo(found, code)),
+        Err(reason) => Err(reason),
+    }
+}
+
+// An arithmetic IF.
+fn arithmetic_action(
+    alloc: Global,
+    value: &Expr,
+    negative: &[u8],
+    zero: &[u8],
+    positive: &[u8],
+    program: &Program,
+) -> Result<Action, NoCode>
+    ensures { IfOk result (λ a. Acts program.now a
+        (arithmetic_if (expr_tree value.now) negative.now zero.now positive.now)) }
+{
+    let below = target(negative)?;
+    let at_zero = target(zero)?;
+    let above = target(positive)?;
+    match code_in(alloc, value, program) {
+        Ok(code) => Ok(Action::ArithmeticIf(code, below, at_zero, above)),
+        Err(reason) => Err(reason),
+    }
+}
+
+// A condition of a block IF.
+fn test_action(alloc: Global, condition: &Expr, program: &Program) -> Result<Action, NoCode>
+    ensures { IfOk result (λ a. TestsBy program.now (expr_tree condition.now) a) }
+{
+    match code_in(alloc, condition, program) {
+        Ok(code) => Ok(Action::Test(code)),
+        Err(reason) => Err(reason),
+    }
+}
+
+// A DO WHILE statement.
+fn while_action(alloc: Global, condition: &Expr, program: &Program) -> Result<Action, NoCode>
+    ensures { IfOk result (λ a. WhilesBy program.now (expr_tree condition.now) a) }
+{
+    match code_in(alloc, condition, program) {
+        Ok(code) => Ok(Action::While(code)),
+        Err(reason) => Err(reason),
+    }
+}
+
+// A DO statement.
+fn repeat_action(
+    alloc: Global,
+    variable: &[u8],
+    limits: &Limits,
+    program: &Program,
+) -> Result<Action, NoCode>
+    ensures { (label : Option (List ℕ)) (comma : Bool) → IfOk result (λ a. Acts program.now a
+        (doing label comma variable.now (limits_tree limits.now))) }
+{
+    match repeat_in(alloc, variable, limits, program) {
+        Ok(repeat) => Ok(Action::Repeat(repeat)),
+        Err(reason) => Err(reason),
+    }
+}
+
+// A WRITE or PRINT statement with this list.
+fn output_action(alloc: Global, list: &ListItems, program: &Program) -> Result<Action, NoCode>
+    ensures { IfOk result (λ a. WritesList program.now (list_items_tree list.now) a) }
+{
+    match list_code(alloc, list, program) {
+        Ok(codes) => Ok(Action::Output(codes)),
+        Err(reason) => Err(reason),
+    }
+}
+
+// What a GO TO needs.
+fn going_action(label: &[u8]) -> Result<Action, NoCode>
+    ensures { (t : Tree) → IfOk result (λ a. Acts t a (going label.now)) }
+{
+    Ok(Action::GoTo(target(label)?))
+}
+
+// What a statement needs that is passed over. Another one has nothing here.
+fn idle_action(shape: &Shape) -> Result<Action, NoCode>
+    ensures { (t : Tree) → IfOk result (λ a. Acts t a (shape_tree shape.now)) }
+{
+    match shape {
+        Shape::Program(_) => Ok(Action::Pass),
+        Shape::Implicit(_) => Ok(Action::Pass),
+        Shape::ImplicitNone => Ok(Action::Pass),
+        Shape::Parameter(_) => Ok(Action::Pass),
+        Shape::Integer(_) => Ok(Action::Pass),
+        Shape::Logical(_) => Ok(Action::Pass),
+        Shape::Dimension(_) => Ok(Action::Pass),
+        Shape::Data(_) => Ok(Action::Pass),
+        Shape::Format(_) => Ok(Action::Pass),
+        Shape::Definition(_, _) => Ok(Action::Pass),
+        Shape::Else => Ok(Action::Pass),
+        Shape::EndIf => Ok(Action::Pass),
+        Shape::End => Ok(Action::Pass),
+        _ => Err(NoCode::Unruly),
+    }
+}
+
+// What a statement needs that goes to a label, or is passed over. Another one has nothing here.
+fn transfer_action(alloc: Global, shape: &Shape, program: &Program) -> Result<Action, NoCode>
+    ensures { IfOk result (λ a. Acts program.now a (shape_tree shape.now)) }
+{
+    match shape {
+        Shape::GoTo(label) => going_action(label),
+        Shape::ComputedGoTo {
+            labels,
+            comma: _,
+            value,
+        } => computed_action(alloc, labels, value, program),
+        Shape::ArithmeticIf {
+            value,
+            negative,
+            zero,
+            positive,
+        } => arithmetic_action(alloc, value, negative, zero, positive, program),
+        _ => idle_action(shape),
+    }
+}
+
+// What a statement needs that is no logical IF.
+fn simple_action(alloc: Global, shape: &Shape, program: &Program) -> Result<Action, NoCode>
+    ensures { IfOk result (λ a. Acts program.now a (shape_tree shape.now)) }
+{
+    match shape {
+        Shape::Assignment {
+            name,
+            subscripts,
+            value,
+        } => assignment_action(alloc, name, subscripts, value, program),
+        Shape::Continue => Ok(Action::Continue),
+        Shape::EndDo => Ok(Action::Continue),
+        Shape::DoWhile { condition, .. } => while_action(alloc, condition, program),
+        Shape::Stop(_) => Ok(Action::Stop),
+        Shape::Write { control: _, list } => output_action(alloc, list, program),
+        Shape::Print { format: _, list } => output_action(alloc, list, program),
+        Shape::IfThen(condition) => test_action(alloc, condition, program),
+        Shape::ElseIf(condition) => test_action(alloc, condition, program),
+        Shape::Do {
+            label: _,
+            comma: _,
+            variable,
+            limits,
+        } => repeat_action(alloc, variable, limits, program),
+        _ => transfer_action(alloc, shape, program),
+    }
+}
+
+// What a logical IF needs.
+fn conditional_action(
+    alloc: Global,
+    condition: &Expr,
+    statement: &Shape,
+    program: &Program,
+) -> Result<Action, NoCode>
+    ensures { IfOk result (λ a. Acts program.now a
+        (logical_if (expr_tree condition.now) (shape_tree statement.now))) }
+{
+    let code = code_in(alloc, condition, program)?;
+    match simple_action(alloc, statement, program) {
+        Ok(action) => Ok(Action::If(code, Box::new(alloc, action)?)),
+        Err(reason) => {
+            drop(code);
+            Err(reason)
+        }
+    }
+}
+
+/// What a statement needs. A statement that the rules of the language don't leave has nothing (`NoCode`).
+pub(crate) fn action_of(alloc: Global, shape: &Shape, program: &Program) -> Result<Action, NoCode>
+    ensures { IfOk result (λ a. Acts program.now a (shape_tree shape.now)) }
+{
+    match shape {
+        Shape::LogicalIf(condition, statement) => {
+            conditional_action(alloc, condition, statement, program)
+        }
+        _ => simple_action(alloc, shape, program),
+    }
+}
