@@ -19,7 +19,8 @@ Options, with their ranges and what stands for those that are not given:
   --turns N      1 to 1000000000000, 1000000000: the turns that the program has
   -h, --help     shows this text
   -V, --version  shows the version
-With two workers or more, DO loops without output are tried in parallel; the answer is that of one worker.
+With two workers or more, DO loops without output are tried in parallel, DO WHILE apart;
+the answer is that of one worker.
 
 Exit statuses, with the line on standard error:
   0  END was reached, or a text was asked for: none; a STOP statement was executed: STOP, STOP 7 or STOP TEXT
@@ -44,7 +45,7 @@ Rules, which a source is refused for breaking:
   N2   END is missing, or a statement follows it
   N3   ELSE IF, ELSE, END IF or END where no block IF, or none of its arms, may go on or end so
   N4   a DO range that crosses a block IF or another, ends wrongly or never; END DO that ends none
-  N5   more than 32 DO statements and block IFs open at once
+  N5   more than 32 DO and DO WHILE statements and block IFs open at once
   K1   a label that an earlier statement has
   K2   a transfer to a label that no statement has, or that may not be a target, or into a range or an arm
   K3   a name that is REAL, or that no type statement names under IMPLICIT NONE

@@ -3,7 +3,8 @@
 //! (gfortran 12.2, by `gfortran -std=legacy -w -finit-local-zero`) where it takes the program and means the same by it; which
 //! rule is told and which fault comes from docs/LANGUAGE.md. A first line `C TURNS n` gives the program n turns; any other has
 //! 1,000,000,000. The examples, in the folder `examples` there, end without a fault; the files beside them hold their records alone.
-//! A program with a DO statement is run by 40 plans; any other by two, and so is each example. By each plan it comes to the same.
+//! A program with a DO or DO WHILE statement is run by 40 plans; any other by two, and so is each example. By each plan it comes to
+//! the same.
 #![tactic(auto)]
 
 use executor::run::run;

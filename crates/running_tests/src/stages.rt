@@ -22,6 +22,14 @@ const RECURRENCE: &str =
 const FOUR_BEFORE: &str =
     "      INTEGER A(20)\n      DO 10 I=5,20\n   10 A(I)=A(I-4)+1\n      WRITE (6,20) A(20)\n   20 FORMAT (I3)\n      END\n";
 
+/// A loop that is executed three times, each time by one stage of four blocks of two trips.
+const EXECUTED_AGAIN: &str =
+    "      INTEGER A(8)\n      DO WHILE (K.LT.3)\n      DO 10 I=1,8\n   10 A(I)=A(I)+I\n      K=K+1\n      END DO\n      WRITE (6,20) A\n   20 FORMAT (8I3)\n      END\n";
+
+/// Lengths of Collatz's sequences: what a block does goes on while its numbers aren't 1, and no block needs what another one did.
+const LENGTHS: &str =
+    "      INTEGER L(8)\n      DO I=1,8\n      N=I\n      DO WHILE (N.NE.1)\n      L(I)=L(I)+1\n      IF (MOD(N,2).EQ.1) N=6*N+2\n      N=N/2\n      END DO\n      END DO\n      WRITE (6,20) L\n   20 FORMAT (8I3)\n      END\n";
+
 /// Counts the blocks that enter.
 #[derive(Drop)]
 struct Counting {
@@ -39,6 +47,8 @@ const ENTERED: &[(&str, u64, u64, &str)] = &[
     (PERMUTED, 2, 4, "  2  6  1  3  5  8  7  4\n"),
     (RECURRENCE, 1, 36, "  8\n"),
     (FOUR_BEFORE, 2, 20, "  4\n"),
+    (EXECUTED_AGAIN, 2, 12, "  3  6  9 12 15 18 21 24\n"),
+    (LENGTHS, 2, 4, "  0  1  7  2  5  8 16  3\n"),
 ];
 
 /// How many blocks of so many trips enter, if the source ends with these records.

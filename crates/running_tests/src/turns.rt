@@ -82,6 +82,34 @@ const TURNS: &[(&str, &[u32], &str)] = &[
         &[1, 2, 3, 1, 2, 3, 1],
         "",
     ),
+    // END DO in each trip; DO WHILE for each test of its condition, the one that is false too
+    (
+        "      DO I=1,4\n      L=L+I\n      END DO\n      DO WHILE (J*J.LT.L)\n      J=J+1\n      END DO\n      WRITE (6,10) I,J,L\n   10 FORMAT (3I4)\n      END\n",
+        &[
+            1, 2, 3, 2, 3, 2, 3, 2, 3, 4, 5, 6, 4, 5, 6, 4, 5, 6, 4, 5, 6, 4, 7,
+        ],
+        "   5   4  10\n",
+    ),
+    // from the range to a DO WHILE statement, and to its END DO
+    (
+        "   10 DO WHILE (I.LT.4)\n      I=I+1\n      IF (I.EQ.2) GO TO 10\n      IF (I.EQ.3) GO TO 20\n      J=J+1\n   20 END DO\n      END\n",
+        &[
+            1, 2, 3, 4, 5, 6, 1, 2, 3, 3, 1, 2, 3, 4, 4, 6, 1, 2, 3, 4, 5, 6, 1,
+        ],
+        "",
+    ),
+    // a DO statement in the range of a DO WHILE, with a terminal statement of both
+    (
+        "      DO 10 WHILE (K.LT.3)\n      DO 10 I=1,2\n   10 K=K+1\n      END\n",
+        &[1, 2, 3, 3, 1, 2, 3, 3, 1],
+        "",
+    ),
+    // a DO WHILE in the range of a DO statement, false at once in the first trip
+    (
+        "      DO 10 I=0,2\n      DO 10 WHILE (J.LT.I)\n   10 J=J+1\n      END\n",
+        &[1, 2, 2, 3, 2, 2, 3, 2],
+        "",
+    ),
     // a whole list
     (
         "      DO 10 K=1,2\n   10 I=I+K\n      WRITE (6,20) (I,(J,J=1,2),I=1,2),I\n   20 FORMAT (7I2)\n      END\n",
@@ -121,6 +149,10 @@ const TO_ITSELF: &str = "   10 GO TO 10\n      END\n";
 /// Sources that never end by themselves, and the lines of their first statements.
 const ENDLESS: &[(&str, &[u32])] = &[
     (TO_ITSELF, &[1, 1, 1, 1, 1]),
+    (
+        "      DO WHILE (.TRUE.)\n      END DO\n      END\n",
+        &[1, 2, 1, 2, 1],
+    ),
     // the transfer under a logical IF takes a turn of its own
     ("   10 IF (.TRUE.) GO TO 10\n      END\n", &[1, 1, 1, 1]),
     (

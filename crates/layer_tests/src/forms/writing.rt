@@ -407,6 +407,22 @@ fn write_do(out: &mut Text, shape: &Shape) {
     }
 }
 
+/// DO WHILE: its label or a sign that it has none, a comma, its condition.
+fn write_while(out: &mut Text, shape: &Shape) {
+    if let Shape::DoWhile {
+        label,
+        comma,
+        condition,
+    } = shape
+    {
+        match label {
+            Some(label) => write_named(out, b"while ", label),
+            None => out.put(b"while -"),
+        }
+        write_condition(out, if *comma { b" , " } else { b" " }, condition);
+    }
+}
+
 /// A form with its parts told apart.
 #[cycle(shape)]
 pub fn write_shape(out: &mut Text, shape: &Shape) {
@@ -416,6 +432,7 @@ pub fn write_shape(out: &mut Text, shape: &Shape) {
         Shape::Print { .. } => write_output(out, shape),
         Shape::Format(text) => write_named(out, b"format ", text),
         Shape::Do { .. } => write_do(out, shape),
+        Shape::DoWhile { .. } => write_while(out, shape),
         Shape::EndDo => out.put(b"enddo"),
         Shape::ImplicitNone => out.put(b"implicit none"),
         Shape::Continue => out.put(b"continue"),

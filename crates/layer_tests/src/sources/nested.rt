@@ -19,6 +19,7 @@ fn letter(item: &Item) -> u8 {
         Shape::Write { .. } | Shape::Print { .. } => b'w',
         Shape::Format(_) => b'f',
         Shape::Continue => b'c',
+        Shape::EndDo => b'd',
         Shape::End => b'e',
         _ => b'o',
     }
@@ -188,6 +189,22 @@ const NESTED: &[(&str, &str)] = &[
         "DO 20 I=1,2; DO 10 I=1,2; 10 J=1; IF(L)THEN; DO 10 I=1,2; 10 J=1; END IF; 20 J=1; END",
         "((s)[(s)]s)e",
     ),
+    // DO WHILE, and DO without a label: END DO is the last of its range.
+    ("DO WHILE(L); J=1; END DO; END", "(sd)e"),
+    ("DO 10 WHILE(L); J=1; 10 END DO; END", "(sd)e"),
+    ("DO 10,WHILE(L); 10 J=1; END", "(s)e"),
+    ("DO WHILE(L); 10 J=1; 20 END DO; J=1; END", "(sd)se"),
+    ("DO WHILE(L); DO I=1,2; END DO; END DO; END", "((d)d)e"),
+    (
+        "DO 20 I=1,2; DO 10 WHILE(L); 10 J=1; DO WHILE(L); END DO; 20 END DO; END",
+        "((s)(d)d)e",
+    ),
+    ("DO 10 I=1,2; DO 10 WHILE(L); 10 J=1; END", "((s))e"),
+    ("DO 10 WHILE(L); DO 10 I=1,2; 10 J=1; END", "((s))e"),
+    (
+        "IF(L)THEN; DO WHILE(L); IF(L)THEN; J=1; END IF; END DO; ELSE; DO WHILE(L); END DO; END IF; END",
+        "[([s]d)|(d)]e",
+    ),
     // Nothing in a range ends it but its label.
     (
         "DO 10 I=1,2; STOP; GO TO 9; IF(J)7,8,9; 10 J=1; END",
@@ -245,6 +262,7 @@ const ORDER: &[Refused] = &[
     ("IF(J)7,8,9; INTEGER M; END", Rule::N1, 2),
     ("IF(L)CONTINUE; INTEGER M; END", Rule::N1, 2),
     ("STOP; INTEGER M; END", Rule::N1, 2),
+    ("DO WHILE(L); INTEGER M; END DO; END", Rule::N1, 2),
     ("DO 10 I=1,2; INTEGER M; 10 CONTINUE; END", Rule::N1, 2),
     ("DO 10 I=1,2; 10 J=1; INTEGER M; END", Rule::N1, 3),
     ("IF(L)THEN; INTEGER M; END IF; END", Rule::N1, 2),
@@ -441,6 +459,29 @@ const RANGES: &[Refused] = &[
         Rule::N4,
         5,
     ),
+    // DO WHILE, END DO, and DO without a label.
+    ("DO WHILE(L); END", Rule::N4, 2),
+    ("DO WHILE(L); 10 CONTINUE; END", Rule::N4, 3),
+    ("DO 10 WHILE(L); END DO; END", Rule::N4, 2),
+    ("DO 10 WHILE(L); 20 END DO; END", Rule::N4, 2),
+    ("DO WHILE(L); END DO; END DO; END", Rule::N4, 3),
+    ("DO 10 WHILE(L); 10 STOP; END", Rule::N4, 2),
+    ("DO 10 I=1,2; 10 DO WHILE(L); END DO; END", Rule::N4, 2),
+    ("DO 10 I=1,2; DO WHILE(L); 10 J=1; END", Rule::N4, 3),
+    ("DO 10 I=1,2; DO WHILE(L); DO 10 WHILE(L); END", Rule::N4, 3),
+    ("DO 10 I=1,2; DO 10 WHILE(L); 10 END DO; END", Rule::N4, 3),
+    (
+        "DO 10 WHILE(L); DO WHILE(L); 10 END DO; END DO; END",
+        Rule::N4,
+        3,
+    ),
+    ("DO WHILE(L); IF(L)THEN; END DO; END IF; END", Rule::N4, 3),
+    (
+        "DO 10 WHILE(L); IF(L)THEN; 10 J=1; END IF; END",
+        Rule::N4,
+        3,
+    ),
+    ("IF(L)THEN; DO WHILE(L); END IF; END DO; END", Rule::N3, 3),
     // A DO statement's own label isn't in its range, and one that stands only before it ends nothing.
     ("10 DO 10 I=1,2; END", Rule::N4, 2),
     ("10 J=1; DO 10 I=1,2; J=1; END", Rule::N4, 4),
@@ -528,6 +569,12 @@ const DEEPEST: &[(&str, u32, &str, &str)] = &[
         "((((((((((((((((((((((((((((((((s))))))))))))))))))))))))))))))))(s)e",
     ),
     (
+        "DO 10 WHILE(L)",
+        32,
+        "10 J=1; END",
+        "((((((((((((((((((((((((((((((((s))))))))))))))))))))))))))))))))e",
+    ),
+    (
         "IF(L)THEN; END IF",
         33,
         "END",
@@ -568,6 +615,8 @@ const TOO_DEEP: &[(&str, u32, &str, Rule, u32)] = &[
     ),
     ("IF(L)THEN", 32, "IF(L)THEN; END", Rule::N5, 33),
     ("IF(L)THEN", 32, "DO 10 I=1,2; 10 J=1; END", Rule::N5, 33),
+    ("IF(L)THEN", 32, "DO WHILE(L); END", Rule::N5, 33),
+    ("DO WHILE(L)", 32, "DO 10 WHILE(L); END", Rule::N5, 33),
     ("IF(L)THEN; ELSE", 32, "IF(L)THEN; END", Rule::N5, 65),
     (
         "DO 10 I=1,2",

@@ -20,6 +20,7 @@ fn word_for(action: Option<&Action>) -> &'static str {
         Some(Action::If(_, _)) => "if",
         Some(Action::Test(_)) => "test",
         Some(Action::Repeat(_)) => "repeat",
+        Some(Action::While(_)) => "while",
     }
 }
 
@@ -32,11 +33,14 @@ const STATEMENTS: &[&[u8]] = &[
     b"IF(J.EQ.2)THEN",
     b"ELSE",
     b"END IF",
+    b"DO WHILE(J.EQ.3)",
+    b"END DO",
     b"STOP",
 ];
 
 const WORDS: &[&str] = &[
-    "pass", "pass", "variable", "element", "if", "test", "pass", "pass", "stop", "pass", "none",
+    "pass", "pass", "variable", "element", "if", "test", "pass", "pass", "while", "continue",
+    "stop", "pass", "none",
 ];
 
 /// The action of the statement at each line; END is the last, and no statement stands behind it.

@@ -1,0 +1,8 @@
+C TURNS 2
+C     THE ASSIGNMENT BEHIND END DO WANTS THE THIRD TURN.
+      I=1
+      DO WHILE (I.EQ.0)
+      J=J+1
+      END DO
+      J=5
+      END

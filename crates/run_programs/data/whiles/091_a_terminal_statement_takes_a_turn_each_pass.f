@@ -1,0 +1,5 @@
+C TURNS 7
+C     4 TESTS, AND 3 PASSES OF 1.
+      DO 10 WHILE (I.LT.3)
+   10 I=I+1
+      END

@@ -1,0 +1,8 @@
+C TURNS 21
+C     5 TESTS; EACH PASS THE ASSIGNMENT, IF, ANOTHER ONE, END DO: 5+4*4.
+      DO 10 WHILE (I.LT.4)
+      I=I+1
+      IF (MOD(I,2).EQ.0) GO TO 10
+      K=K+1
+   10 END DO
+      END

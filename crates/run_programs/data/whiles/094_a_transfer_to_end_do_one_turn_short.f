@@ -1,0 +1,8 @@
+C TURNS 20
+C     THE LAST TEST WANTS THE 21ST TURN.
+      DO 10 WHILE (I.LT.4)
+      I=I+1
+      IF (MOD(I,2).EQ.0) GO TO 10
+      K=K+1
+   10 END DO
+      END

@@ -1,0 +1,14 @@
+C TURNS 24
+C     AN INNER LOOP OF K PASSES 1+4*K; OUTER PASSES 2, THAT AND END DO,
+C     SO 8 AND 12; THREE OUTER TESTS AND WRITE.
+      DO WHILE (I.LT.2)
+      I=I+1
+      J=0
+      DO WHILE (J.LT.I)
+      J=J+1
+      K=K+J
+      END DO
+      END DO
+      WRITE (6,10) I,J,K
+   10 FORMAT (3I3)
+      END

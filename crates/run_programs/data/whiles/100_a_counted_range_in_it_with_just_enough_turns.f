@@ -1,0 +1,14 @@
+C TURNS 24
+C     3 BEFORE THE COUNTED RANGE, 1+10*2 FOR IT; THE ASSIGNMENT BEHIND
+C     IT WANTS THE 25TH TURN.
+      INTEGER A(10)
+      N=1
+      DO WHILE (N.LT.6)
+      WRITE (6,30) N
+      DO 20 I=1,10
+      A(I)=A(I)+N
+   20 CONTINUE
+      N=N+1
+      END DO
+   30 FORMAT (I4)
+      END

@@ -1,0 +1,6 @@
+C TURNS 3
+C     THE SECOND TEST WANTS THE FOURTH TURN.
+      I=1
+      DO 10 WHILE (1/I.EQ.1)
+   10 I=I-1
+      END

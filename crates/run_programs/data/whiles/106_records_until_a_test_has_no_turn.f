@@ -1,0 +1,8 @@
+C TURNS 12
+C     EACH PASS A TEST, TWO STATEMENTS AND END DO.
+      DO WHILE (I.LT.100)
+      I=I+1
+      WRITE (6,10) I
+      END DO
+   10 FORMAT (I4)
+      END

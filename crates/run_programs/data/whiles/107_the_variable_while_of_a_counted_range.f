@@ -1,0 +1,11 @@
+      INTEGER WHILE
+      DO 10 WHILE=1,2
+   10 K=K+WHILE
+      DO WHILE=1,3
+      K=K+10*WHILE
+      END DO
+      DO 20,WHILE=1,4
+   20 K=K+100*WHILE
+      WRITE (6,30) WHILE,K
+   30 FORMAT (2I5)
+      END

@@ -1,0 +1,7 @@
+      INTEGER WHILE
+      DO WHILE (WHILE.LT.5)
+      WHILE=WHILE+2
+      END DO
+      WRITE (6,10) WHILE
+   10 FORMAT (I4)
+      END

@@ -1,0 +1,6 @@
+      INTEGER DOWHILE
+      DOWHILE=5
+      D O W H I L E = DOWHILE+1
+      WRITE (6,10) DOWHILE
+   10 FORMAT (I4)
+      END

@@ -1,0 +1,10 @@
+      DO 00010 WHILE (I.LT.3)
+      I=I+1
+   10 END DO
+      DO 20 WHILE (I.LT.6)
+00020 I=I+1
+      DO 99999 WHILE (I.LT.8)
+99999 I=I+1
+      WRITE (6,30) I
+   30 FORMAT (I4)
+      END

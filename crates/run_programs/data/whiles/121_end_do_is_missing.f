@@ -1,0 +1,3 @@
+      DO WHILE (I.LT.3)
+      I=I+1
+      END

@@ -1,0 +1,4 @@
+      DO 10 WHILE (I.LT.3)
+      I=I+1
+   20 END DO
+      END

@@ -1,0 +1,7 @@
+      IF (I.EQ.0) THEN
+      DO WHILE (I.LT.3)
+      I=I+1
+      ELSE
+      END DO
+      END IF
+      END

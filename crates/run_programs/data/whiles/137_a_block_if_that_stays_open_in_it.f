@@ -1,0 +1,3 @@
+      DO WHILE (I.LT.3)
+      IF (I.EQ.1) THEN
+      END

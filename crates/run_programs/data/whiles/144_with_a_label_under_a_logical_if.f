@@ -1,0 +1,3 @@
+      IF (I.EQ.1) DO 10 WHILE (I.LT.3)
+   10 I=I+1
+      END

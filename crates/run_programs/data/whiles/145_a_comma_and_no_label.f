@@ -1,0 +1,4 @@
+      DO, WHILE (I.LT.3)
+      I=I+1
+      END DO
+      END

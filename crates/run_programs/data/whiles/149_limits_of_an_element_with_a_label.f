@@ -1,0 +1,4 @@
+      INTEGER WHILE(3)
+      DO 10 WHILE (I)=1,2
+   10 CONTINUE
+      END

@@ -1,0 +1,3 @@
+      DO WHILE ()
+      END DO
+      END

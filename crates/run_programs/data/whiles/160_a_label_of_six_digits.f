@@ -1,0 +1,3 @@
+      DO 000010 WHILE (I.LT.3)
+   10 END DO
+      END

@@ -1,0 +1,4 @@
+      DO WHILE (I)
+      I=I-1
+      END DO
+      END

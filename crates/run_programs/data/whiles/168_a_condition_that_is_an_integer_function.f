@@ -1,0 +1,3 @@
+      DO WHILE (MAX(I,1))
+      END DO
+      END

@@ -1,0 +1,3 @@
+      DO WHILE (I.LT.3.AND.J)
+      END DO
+      END

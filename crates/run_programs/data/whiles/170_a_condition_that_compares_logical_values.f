@@ -1,0 +1,4 @@
+      LOGICAL L,M
+      DO WHILE (L.EQ.M)
+      END DO
+      END

@@ -1,0 +1,3 @@
+      DO WHILE (X.LT.3)
+      END DO
+      END
