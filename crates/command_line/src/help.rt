@@ -17,7 +17,6 @@ Options, with their ranges and what stands for those that are not given:
   --block N      1 to 1000000, 64: the trips of a loop in a worker's block
   --window N     1 to 256, 8: the blocks that are tried at a time
   --turns N      1 to 1000000000000, 1000000000: the turns that the program has
-  --count        tells behind the ending how many turns the program used
   -h, --help     shows this text
   -V, --version  shows the version
 With two workers or more, DO loops without output are tried in parallel, DO WHILE apart;

@@ -40,4 +40,3 @@ pub mod Promise
 pub mod Reports
 pub mod Stores
 pub mod Arrays
-pub mod Endings

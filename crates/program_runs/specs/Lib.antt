@@ -4,4 +4,3 @@ pub mod Located
 pub mod Quiet
 pub mod Recorded
 pub mod Walk
-pub mod Reported
