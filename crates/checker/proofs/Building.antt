@@ -1,26 +1,32 @@
 -- What is kept of names agrees with what the statements say.
-use Rattle.std.proofs.Common.{◌≡◌, ℕ, ◌+◌, ◌-◌, ◌<◌, ◌≤◌, ◌^◌, ℤ, pos, Bool, true, false, List, [], ◌∷◌, length, map, replicate, Option, Some, None, option_map, unwrap_or, refl, sym, ap, ap₂, subst, ◌∙◌, arith}
-use Rattle.std.specs.Prelude.{if◌then◌else◌, flat_map}
+use Rattle.std.proofs.Common.{◌≡◌, ℕ, ◌+◌, ◌<◌, ◌≤◌, ◌^◌, ℤ, pos, Bool, true, false, true≢false, List, [], ◌∷◌, length, Option, Some, None, option_map, unwrap_or, refl, sym, ap, ap₂, subst, ◌∙◌}
+use Rattle.std.specs.Prelude.{if◌then◌else◌, flat_map, is_some}
+use Rattle.std.specs.Global.{Vec}
 use Rattle.std.specs.List.{fold, list_any}
 use Rattle.std.specs.Option.{option_or}
 use Rattle.std.specs.Str.{bytes_eq}
 use Rattle.std.proofs.Math.Path.{fun_ext}
-use Rattle.std.proofs.lemmas.List.{length-replicate}
 use Rattle.meaning.specs.declared.syntax.Tree.{Tree}
+use Rattle.meaning.specs.declared.ending.Value.{Value}
 use Rattle.meaning.specs.Arrays.{cell_of, cells_of, place, size}
 use Rattle.meaning.specs.Initial.{starts_from}
+use Rattle.meaning.specs.Maps.{map_by, value_at}
+use Rattle.meaning.specs.Stores.{known}
 use Rattle.meaning.specs.Scopes.{arrays_of}
 use Rattle.meaning.specs.Syntax.{ItemTree}
 use Rattle.meaning.specs.Types.{declared_by, types_of, has_implicit_none}
 use Rattle.meaning.specs.Uses.{roles_of}
 use Rattle.meaning.specs.Values.{Arrays, dimensions_in}
+use Rattle.meaning.proofs.Elements.{one_to_one}
+use Rattle.array_store.specs.Whole.{world_of}
 use Rattle.roles.specs.declared.names.Roles.{Roles}
 use Rattle.roles.specs.Keeping.{kept_at}
 use Rattle.roles.specs.Listed.{trees_at}
 use Rattle.roles.specs.RolesAt.{roles_at}
 use Rattle.roles.specs.TypedNames.{implicit_parts, letter_type, typed_names}
 use Rattle.k_rules.specs.declared.verdict.Facts.{Facts}
-use Rattle.data_rules.specs.DataSets.{given_by}
+use Rattle.data_rules.specs.DataSets.{given_by, nothing}
+use Rattle.data_rules.specs.Slots.{slot_if}
 use Rattle.k_rules.specs.Judged.{arrays_in, constant_in, starts_in}
 use Rattle.numbering.specs.declared.parts.Entry.{Entry}
 use Rattle.numbering.specs.declared.parts.Storage.{Storage}
@@ -29,14 +35,14 @@ use Rattle.numbering.specs.Appearing.{variables_at}
 use Rattle.checker.specs.Built.{AreNames, count_at}
 use Rattle.numbering.specs.Checked.{count_in, items_in, names_in}
 use Rattle.checker.specs.Entries.{Placed, Said, described, first_of, names_given, place_from, placed, said, stored}
-use Rattle.checker.specs.Given.{AreGiven, first_said, firsts_in}
+use Rattle.checker.specs.Given.{first_said, firsts_in, number_given, starts_by}
 use Rattle.numbering.specs.Kept.{IsStored, IsTyped, StartsWithByte, array_of, by_first, storage_kept, type_if, value_kept}
 use Rattle.numbering.specs.Numbered.{named, variables_of}
 use Rattle.numbering.specs.Starts.{map_of, start_in}
 use Rattle.numbering.specs.Whereabouts.{Whereabouts, where_in}
 use Rattle.checker.proofs.Absent.{bounded, no_array, unknown, untyped}
 use Rattle.checker.proofs.CellsOf.{first_cells, first_leads, no_first}
-use Rattle.checker.proofs.Starting.{all_given, all_placed, given_to, zeros_start}
+use Rattle.checker.proofs.Starting.{all_placed, all_shown, given_to, has_cells, known_value, many_by, nothing_shown, number_if, shown, value_by}
 
 -- ---- what is said of a name, by its first cell and by whether statements give it something
 
@@ -111,9 +117,6 @@ module _ (arrays : Arrays) (vs : List (List ℕ)) (n : List ℕ) (some : array_o
         room = subst (λ (x : Placed). x.first + size x.dimensions ≤ cells_of (named arrays vs)) (sym p) led.room;
       }
 
-below : (n : ℕ) → n < 2 ^ 64 - 1 → n < 2 ^ 64
-below n lt = omega arith
-
 -- ---- all of it
 
 pub record Naming (t : Tree) (k : Names) : Type 0 where
@@ -125,7 +128,7 @@ pub record Naming (t : Tree) (k : Names) : Type 0 where
   pub many : length k.starts.items ≡ count_in t
   pub started : (n : List ℕ) (ss : List ℤ) → map_of t k.starts.items n ss ≡ start_in t n ss
 
-module _ (t : Tree) (f : Facts) (r : Roles) (k : Names) (items : trees_at r.items.now ≡ items_in t) (constants : (n : List ℕ) → constant_in f n ≡ (names_in t).known n) (arrays : (n : List ℕ) → arrays_in f n ≡ arrays_of (items_in t) n) (starts : starts_in f ≡ map (given_by (roles_of (items_in t)).names) (starts_from (roles_of (items_in t)) [] (items_in t))) (names : AreNames f r k) where
+module _ (t : Tree) (f : Facts) (r : Roles) (k : Names) (items : trees_at r.items.now ≡ items_in t) (constants : (n : List ℕ) → constant_in f n ≡ (names_in t).known n) (arrays : (n : List ℕ) → arrays_in f n ≡ arrays_of (items_in t) n) (starts : starts_in f ≡ given_by (roles_of (items_in t)).names (starts_from (roles_of (items_in t)) [] (items_in t))) (names : AreNames f r k) where
   abbrev all : List ItemTree
   all = items_in t
 
@@ -156,26 +159,67 @@ module _ (t : Tree) (f : Facts) (r : Roles) (k : Names) (items : trees_at r.item
   types_are : (n : List ℕ) → (roles_at r).names.types n ≡ (names_in t).types n
   types_are n = ap (λ xs. types_of xs n) items
 
-  started_all : (length k.starts.items ≡ count_in t) × (map_of t k.starts.items ≡ start_in t)
-  started_all =
+  first_kept : (n : List ℕ) → firsts_in k.entries n ≡ first_at n
+  first_kept n = first_is f r n (kept_at k.entries n) (first_at n) (given_at n) (names.started.said n)
+
+  -- a name without cells was given nothing
+  nothing_given : (n : List ℕ) → first_at n ≡ None → (i : ℕ) → number_given (starts_in f n i) ≡ pos 0
+  nothing_given n none i = by (kept_at f.starts n) refl
+    where
+      by : (o : Option (Vec (Option Value))) → kept_at f.starts n ≡ o → number_given (slot_if o i) ≡ pos 0
+      by None is = refl
+      by (Some w) is =
+          absurd (true≢false (sym (has_cells k.entries f.starts.entries names.started.placed n (ap is_some is)) ∙ ap is_some (first_kept n ∙ none)))
+
+  abbrev cells : List ℤ
+  cells = starts_by f (variables_at r)
+
+  stands_at : (n : List ℕ) (ss : List ℤ) → value_at (known (world_of cells)) (cell_of (named (arrays_in f) (variables_at r)) n ss) ≡ number_if (starts_in f n) (place (dimensions_in (arrays_in f n)) ss)
+  stands_at n ss = by_first (first_at n) refl
+    where
+      by_none : first_at n ≡ None → (o : Option ℕ) → pos 0 ≡ number_if (starts_in f n) o
+      by_none none None = refl
+      by_none none (Some i) = sym (nothing_given n none i)
+
+      by_place : (c : ℕ) → first_at n ≡ Some c → (o : Option ℕ) → place (dimensions_in (arrays_in f n)) ss ≡ o → value_at (known (world_of cells)) (option_map (λ i. c + i) o) ≡ number_if (starts_in f n) o
+      by_place c is None at = refl
+      by_place c is (Some i) at =
+          known_value cells (c + i) ∙ value_by f n i ((one_to_one (dimensions_in (arrays_in f n))).small ss i at) (variables_at r) c is
+
+      by_first : (o : Option ℕ) → first_at n ≡ o → value_at (known (world_of cells)) (cell_of (named (arrays_in f) (variables_at r)) n ss) ≡ number_if (starts_in f n) (place (dimensions_in (arrays_in f n)) ss)
+      by_first None is =
+          ap (value_at (known (world_of cells))) ((no_first (arrays_in f) n (variables_at r) is).1 ss) ∙ by_none is (place (dimensions_in (arrays_in f n)) ss)
+      by_first (Some c) is =
+          ap (value_at (known (world_of cells))) (sym (first_cells (arrays_in f) n (variables_at r) c is ss))
+          ∙ by_place c is (place (dimensions_in (arrays_in f n)) ss) refl
+
+  starts_shown : start_in t ≡ shown (roles_of all).names (starts_in f)
+  starts_shown =
       let rs = roles_of all in
-      let given : AreGiven (firsts_in k.entries) (map (given_by rs.names) (starts_from rs [] all)) (replicate (count_in t) (pos 0)) k.starts.items =
-      subst (λ c. AreGiven (firsts_in k.entries) (map (given_by rs.names) (starts_from rs [] all)) (replicate c (pos 0)) k.starts.items) counted
-      (subst (λ gs. AreGiven (firsts_in k.entries) gs (replicate (count_at f r) (pos 0)) k.starts.items) starts names.given) in
-      let so = all_given (arrays_of all) vs rs.names refl (firsts_in k.entries) (λ n c is. first_cells (arrays_of all) n vs c (sym (firsts n) ∙ sym (first_is f r n (kept_at k.entries n) (first_at n) (given_at n) (names.said n)) ∙ is)) (starts_from rs [] all) (all_placed rs [] all) (replicate (count_in t) (pos 0)) k.starts.items (length-replicate (count_in t) (pos 0)) given in
-      (so.0, so.1 ∙ ap (λ m. fold given_to m (starts_from rs [] all)) (zeros_start (cell_of (named (arrays_of all) vs)) (count_in t)))
+      ap (λ m. fold given_to m (starts_from rs [] all)) (nothing_shown rs.names)
+      ∙ all_shown rs.names (starts_from rs [] all) nothing (all_placed rs [] all)
+      ∙ ap (shown rs.names) (sym starts)
+
+  started_at : (n : List ℕ) (ss : List ℤ) → map_of t k.starts.items n ss ≡ start_in t n ss
+  unfolding map_by
+  started_at n ss =
+      ap (λ values. value_at (known (world_of values)) (cell_of (named (arrays_of all) vs) n ss)) names.started.given
+      ∙ sym (ap₂ (λ a ns. value_at (known (world_of cells)) (cell_of (named a ns) n ss)) own_arrays variables)
+      ∙ stands_at n ss
+      ∙ ap (λ a. number_if (starts_in f n) (place (dimensions_in (a n)) ss)) own_arrays
+      ∙ sym (ap (λ m. m n ss) starts_shown)
 
   pub naming : Naming t k
   naming = record {
-    valued = λ n. value_is f r n (kept_at k.entries n) (first_at n) (given_at n) (names.said n) (λ h. constants n ∙ unknown (types_of all) all n (given_in n h)) ∙ constants n;
-    typed = λ n. subst (λ o. IsTyped o (kept_at k.entries n)) (types_are n) (type_is f r n (kept_at k.entries n) (first_at n) (given_at n) (names.said n));
-    lettered = λ n byte none. by_letters n byte (untyped all n (given_in n (not_given f r n (kept_at k.entries n) (first_at n) (given_at n) (names.said n) none)));
+    valued = λ n. value_is f r n (kept_at k.entries n) (first_at n) (given_at n) (names.started.said n) (λ h. constants n ∙ unknown (types_of all) all n (given_in n h)) ∙ constants n;
+    typed = λ n. subst (λ o. IsTyped o (kept_at k.entries n)) (types_are n) (type_is f r n (kept_at k.entries n) (first_at n) (given_at n) (names.started.said n));
+    lettered = λ n byte none. by_letters n byte (untyped all n (given_in n (not_given f r n (kept_at k.entries n) (first_at n) (given_at n) (names.started.said n) none)));
     stored = λ n.
         stored_is (arrays_of all) vs n (bounded all n) (no_array all n) (storage_kept (kept_at k.entries n)) (first_at n) (sym (firsts n))
-        (storage_is f r n (kept_at k.entries n) (first_at n) (given_at n) (names.said n) ∙ ap (λ a. option_map (place_from (dimensions_in (a n))) (first_at n)) own_arrays);
-    few = below (count_in t) (subst (λ c. c < 2 ^ 64 - 1) counted names.few);
-    many = started_all.0;
-    started = λ n ss. ap (λ m. m n ss) started_all.1;
+        (storage_is f r n (kept_at k.entries n) (first_at n) (given_at n) (names.started.said n) ∙ ap (λ a. option_map (place_from (dimensions_in (a n))) (first_at n)) own_arrays);
+    few = subst (λ c. c < 2 ^ 64) counted names.started.few;
+    many = ap length names.started.given ∙ many_by f (variables_at r) ∙ counted;
+    started = started_at;
   }
     where
       by_letters : (n : List ℕ) → StartsWithByte n → declared_by (typed_names all) n ≡ None → by_first k.letters.items n ≡ types_of all n

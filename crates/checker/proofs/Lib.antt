@@ -6,4 +6,3 @@ pub mod Ruled
 pub mod Building
 pub mod Found
 pub mod Agreeing
-pub mod Giving

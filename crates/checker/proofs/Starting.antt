@@ -1,27 +1,41 @@
--- The map that the values of the cells stand for when DATA statements have given some of them.
-use Rattle.std.proofs.Common.{◌≡◌, ℕ, zero, suc, ◌+◌, ◌<◌, ℤ, pos, List, [], ◌∷◌, ◌++◌, length, map, replicate, Option, Some, None, option_map, refl, sym, ap, subst, ◌∙◌}
-use Rattle.std.specs.Prelude.{slice_get, slice_set, unwrap_or}
+-- The map that the values of the cells stand for is the one that a program starts with.
+use Rattle.std.proofs.Common.{◌≡◌, ℕ, ◌+◌, ◌<◌, ℤ, pos, Bool, true, false, ◌&&◌, List, [], ◌∷◌, ◌++◌, length, get_or, cond, Option, Some, None, option_map, unwrap_or, refl, sym, ap, ap₂, subst, ◌∙◌, arith}
+use Rattle.std.specs.Prelude.{◌==◌, if◌then◌else◌, is_some}
+use Rattle.std.specs.Cmp.Lexicographic.{pointwise}
+use Rattle.std.specs.Global.{Vec}
 use Rattle.std.specs.List.{fold}
+use Rattle.std.specs.Map.{lookup}
+use Rattle.std.specs.Ordering.{int_eq}
+use Rattle.std.specs.Str.{bytes_eq}
 use Rattle.std.proofs.Math.Path.{fun_ext}
-use Rattle.std.proofs.lemmas.List.{length-set}
-use Rattle.meaning.specs.Arrays.{Named, cell_of, cells_of, place}
-use Rattle.meaning.specs.Initial.{Start, starts_from, starts_at, starts_or_none, sets_of}
-use Rattle.meaning.specs.Maps.{CellNumbers, Map, map_by, put, start, value_at}
+use Rattle.std.proofs.lemmas.Bool.{false≢true}
+use Rattle.std.proofs.lemmas.List.{get_or-append-add, get_or_append_left, length-append}
+use Rattle.std.proofs.lemmas.List.FromFn.{get_or-map-range_with_len, length-map-range_with_len}
+use Rattle.std.proofs.lemmas.Option.{unwrap_or-slice_get}
+use Rattle.std.specs.Cmp.Rules.{signed_items}
+use Rattle.std.proofs.lemmas.Slice.Eq.{bytes_eq-Decides}
+use Rattle.indexmap.specs.IndexMap.{IndexMap}
+use Rattle.meaning.specs.declared.ending.Value.{Value}
+use Rattle.meaning.specs.Arrays.{cells_of, place}
+use Rattle.meaning.specs.Initial.{Start, same_target, starts_from, starts_at, starts_or_none, sets_of, target}
+use Rattle.meaning.specs.Maps.{Map, put, start}
 use Rattle.meaning.specs.NumberRules.{known_behind_all}
-use Rattle.meaning.specs.Stores.{known, overlay, with_value}
+use Rattle.meaning.specs.Stores.{known, overlay}
 use Rattle.meaning.specs.Syntax.{ItemTree}
 use Rattle.meaning.specs.Typing.{Names}
 use Rattle.meaning.specs.Uses.{Roles}
-use Rattle.meaning.specs.Values.{Arrays, as_integer, dimensions_in}
-use Rattle.meaning.proofs.Elements.{own_cells}
-use Rattle.meaning.proofs.Maps.{put_is}
-use Rattle.meaning.proofs.Stores.{known-after_write}
+use Rattle.meaning.specs.Values.{as_integer, dimensions_in}
 use Rattle.array_store.specs.Whole.{world_of}
-use Rattle.array_store.proofs.Wholes.{written_is}
-use Rattle.data_rules.specs.DataSets.{HasPlace, given_by}
+use Rattle.data_rules.specs.DataSets.{HasPlace, given_behind, nothing, place_at, place_of}
+use Rattle.data_rules.specs.DataStages.{Found, with_found}
 use Rattle.data_rules.proofs.DataPairing.{Each, IfEach, sets_placed}
-use Rattle.checker.specs.Given.{AreGiven, IsGiven}
+use Rattle.data_rules.proofs.DataStarting.{same_place}
+use Rattle.k_rules.specs.declared.verdict.Facts.{Facts}
+use Rattle.k_rules.specs.Judged.{arrays_in, starts_in}
+use Rattle.numbering.specs.declared.parts.Entry.{Entry}
 use Rattle.numbering.specs.Numbered.{named}
+use Rattle.checker.specs.Entries.{cells_at, first_of}
+use Rattle.checker.specs.Given.{HasCells, firsts_in, number_given, starts_by, values_of}
 
 abbrev Placed : Names → Start → Type 0
 Placed ns s = HasPlace ns s.target
@@ -44,60 +58,129 @@ all_placed r before (x ∷ xs) =
     (or_none_placed r.names (starts_at r before x) (sets_placed r (known_behind_all r before) (sets_of x.shape)))
     (all_placed r (before ++ x ∷ []) xs)
 
--- ---- where nothing is given
+-- ---- the map of what was given
 
-zeros : (c d : ℕ) → unwrap_or (slice_get (replicate c (pos 0)) d) (pos 0) ≡ pos 0
-zeros zero d = refl
-zeros (suc c) zero = refl
-zeros (suc c) (suc d) = zeros c d
+abbrev pub number_if : (ℕ → Option Value) → Option ℕ → ℤ
+number_if given None = pos 0
+number_if given (Some i) = number_given (given i)
 
-zeros_known : (c d : ℕ) → known (world_of (replicate c (pos 0))) d ≡ pos 0
-unfolding known overlay
-zeros_known c d = zeros c d
-
-pub zeros_start : (numbers : CellNumbers) (c : ℕ) → map_by numbers (known (world_of (replicate c (pos 0)))) ≡ start
-unfolding map_by start
-zeros_start numbers c = fun_ext (λ n. fun_ext (λ ss. by (numbers n ss)))
-  where
-    by : (o : Option ℕ) → value_at (known (world_of (replicate c (pos 0)))) o ≡ pos 0
-    by None = refl
-    by (Some d) = zeros_known c d
-
--- ---- one value
+abbrev pub shown : Names → Found → Map
+shown ns found = λ n ss. number_if (found n) (place_at ns (target n ss))
 
 abbrev pub given_to : Map → Start → Map
 given_to m s = put m s.target.name s.target.subscripts (as_integer s.value)
 
-module _ (arrays : Arrays) (vs : List (List ℕ)) where
-  abbrev all : List Named
-  all = named arrays vs
+both_true : (a b : Bool) → (a && b) ≡ true → (a ≡ true) × (b ≡ true)
+both_true true true h = (refl, refl)
+both_true true false h = absurd (false≢true h)
+both_true false b h = absurd (false≢true h)
 
-  -- the map that values stand for
-  abbrev pub stands : List ℤ → Map
-  stands values = map_by (cell_of all) (known (world_of values))
+module _ (ns : Names) where
+  no_place : (s : Start) → HasPlace ns s.target → (n : List ℕ) (ss : List ℤ) → place_at ns (target n ss) ≡ None → same_target s.target (target n ss) ≡ true → ⊥
+  no_place s at n ss none same =
+      let both = both_true (bytes_eq s.target.name n) (pointwise int_eq s.target.subscripts ss) same in
+      let here : place_at ns s.target ≡ place_at ns (target n ss) =
+      ap₂ (λ p ts. place (dimensions_in (ns.arrays p)) ts) ((bytes_eq-Decides s.target.name n).0 both.0) ((signed_items s.target.subscripts ss).0 both.1) in
+      some_none at.0 (sym at.1 ∙ here ∙ none)
+    where
+      some_none : (i : ℕ) → Some i ≡ None → ⊥
+      some_none i e = absurd cc
 
-  written : (values : List ℤ) (c : ℕ) (v : ℤ) → c < length values → known (world_of (slice_set values c v)) ≡ with_value (known (world_of values)) c v
-  written values c v lt =
-      ap known (written_is values c v lt) ∙ fun_ext (λ d. known-after_write c v (world_of values) d)
+  shown_more : (found : Found) (s : Start) → HasPlace ns s.target → given_to (shown ns found) s ≡ shown ns (with_found s.target.name (place_of ns s) s.value found)
+  unfolding put
+  shown_more found s at = fun_ext (λ n. fun_ext (λ ss. by_place n ss (place_at ns (target n ss)) refl))
+    where
+      by_place : (n : List ℕ) (ss : List ℤ) (o : Option ℕ) → place_at ns (target n ss) ≡ o → (if same_target s.target (target n ss) then as_integer s.value else number_if (found n) o) ≡ number_if (with_found s.target.name (place_of ns s) s.value found n) o
+      by_place n ss None none = by_test (same_target s.target (target n ss)) refl
+        where
+          by_test : (b : Bool) → same_target s.target (target n ss) ≡ b → (if b then as_integer s.value else pos 0) ≡ pos 0
+          by_test true same = absurd (no_place s at n ss none same)
+          by_test false other = refl
+      by_place n ss (Some i) is =
+          let t : Start = record { target = target n ss; value = s.value } in
+          let test : (bytes_eq n s.target.name && (place_of ns s == i)) ≡ same_target s.target (target n ss) =
+          ap (λ j. bytes_eq n s.target.name && (place_of ns s == j)) (sym (ap (λ o. unwrap_or o 0) is)) ∙ same_place ns s t at (i, is) in
+          ap (λ b. if b then as_integer s.value else number_given (found n i)) (sym test) ∙ by_test (bytes_eq n s.target.name && (place_of ns s == i))
+        where
+          by_test : (b : Bool) → (if b then as_integer s.value else number_given (found n i)) ≡ number_given (if b then Some s.value else found n i)
+          by_test true = refl
+          by_test false = refl
 
-  one_given : (ns : Names) → ns.arrays ≡ arrays → (firsts : List ℕ → Option ℕ) → ((n : List ℕ) (c : ℕ) → firsts n ≡ Some c → (ss : List ℤ) → option_map (λ i. c + i) (place (dimensions_in (arrays n)) ss) ≡ cell_of all n ss) → (s : Start) → HasPlace ns s.target → (old new : List ℤ) → length old ≡ cells_of all → IsGiven firsts (given_by ns s) old new → (length new ≡ cells_of all) × (stands new ≡ given_to (stands old) s)
-  one_given ns same firsts leads s placed old new many given =
-      let n = s.target.name in
-      let ss = s.target.subscripts in
-      let at : place (dimensions_in (arrays n)) ss ≡ Some placed.0 = ap (λ a. place (dimensions_in (a n)) ss) (sym same) ∙ placed.1 in
-      let here : unwrap_or (place (dimensions_in (ns.arrays n)) ss) 0 ≡ placed.0 = ap (λ o. unwrap_or o 0) placed.1 in
-      let cell = given.first + placed.0 in
-      let is_here : cell_of all n ss ≡ Some cell = sym (leads n given.first given.found ss) ∙ ap (option_map (λ i. given.first + i)) at in
-      let lt : cell < length old = subst (λ k. cell < k) (sym many) ((own_cells all).small n ss cell is_here) in
-      let set : new ≡ slice_set old cell (as_integer s.value) = given.values ∙ ap (λ i. slice_set old (given.first + i) (as_integer s.value)) here in (
-        ap length set ∙ length-set old cell (as_integer s.value) ∙ many,
-        ap stands set ∙ ap (map_by (cell_of all)) (written old cell (as_integer s.value) lt)
-            ∙ put_is (cell_of all) (known (world_of old)) n ss cell (as_integer s.value) is_here (λ p ts h. (own_cells all).own n p ss ts cell is_here h),
-      )
+  pub all_shown : (ss : List Start) (found : Found) → Each (Placed ns) ss → fold given_to (shown ns found) ss ≡ shown ns (given_behind ns ss found)
+  all_shown [] found placed = refl
+  all_shown (s ∷ ss) found placed =
+      ap (λ m. fold given_to m ss) (shown_more found s placed.0) ∙ all_shown ss (with_found s.target.name (place_of ns s) s.value found) placed.1
 
-  pub all_given : (ns : Names) → ns.arrays ≡ arrays → (firsts : List ℕ → Option ℕ) → ((n : List ℕ) (c : ℕ) → firsts n ≡ Some c → (ss : List ℤ) → option_map (λ i. c + i) (place (dimensions_in (arrays n)) ss) ≡ cell_of all n ss) → (ss : List Start) → Each (Placed ns) ss → (old new : List ℤ) → length old ≡ cells_of all → AreGiven firsts (map (given_by ns) ss) old new → (length new ≡ cells_of all) × (stands new ≡ fold given_to (stands old) ss)
-  all_given ns same firsts leads [] placed old new many given = (ap length given ∙ many, ap stands given)
-  all_given ns same firsts leads (s ∷ ss) placed old new many given =
-      let one = one_given ns same firsts leads s placed.0 old given.0 many given.1 in
-      let rest = all_given ns same firsts leads ss placed.1 given.0 new one.0 given.2 in
-      (rest.0, rest.1 ∙ ap (λ m. fold given_to m ss) one.1)
+  pub nothing_shown : start ≡ shown ns nothing
+  unfolding start
+  nothing_shown = fun_ext (λ n. fun_ext (λ ss. by (place_at ns (target n ss))))
+    where
+      by : (o : Option ℕ) → pos 0 ≡ number_if (λ i. None) o
+      by None = refl
+      by (Some i) = refl
+
+-- ---- the values of the cells, one name's behind another's
+
+module _ (f : Facts) where
+  many_of : (n : List ℕ) → length (values_of f n) ≡ cells_at f n
+  many_of n = length-map-range_with_len (λ i. number_given (starts_in f n i)) 0 (cells_at f n)
+
+  pub many_by : (names : List (List ℕ)) → length (starts_by f names) ≡ cells_of (named (arrays_in f) names)
+  many_by [] = refl
+  many_by (x ∷ names) = length-append (values_of f x) (starts_by f names) ∙ ap₂ ◌+◌ (many_of x) (many_by names)
+
+  own_value : (n : List ℕ) (i : ℕ) → i < cells_at f n → get_or (values_of f n) i (pos 0) ≡ number_given (starts_in f n i)
+  own_value n i lt = get_or-map-range_with_len (λ j. number_given (starts_in f n j)) 0 (cells_at f n) i i (pos 0) lt (zero_more i)
+    where
+      zero_more : (k : ℕ) → 0 + k ≡ k
+      zero_more k = omega arith
+
+  module _ (n : List ℕ) (i : ℕ) (lt : i < cells_at f n) where
+    pub value_by : (names : List (List ℕ)) (c : ℕ) → first_of (named (arrays_in f) names) n ≡ Some c → get_or (starts_by f names) (c + i) (pos 0) ≡ number_given (starts_in f n i)
+    value_by [] c is = absurd cc
+    value_by (x ∷ names) c is = by_test (bytes_eq n x) refl is (λ d. value_by names d)
+      where
+        rest : List ℤ
+        rest = starts_by f names
+
+        behind : (d : ℕ) → first_of (named (arrays_in f) names) n ≡ Some d → ((d : ℕ) → first_of (named (arrays_in f) names) n ≡ Some d → get_or rest (d + i) (pos 0) ≡ number_given (starts_in f n i)) → get_or (values_of f x ++ rest) ((cells_at f x + d) + i) (pos 0) ≡ number_given (starts_in f n i)
+        behind d at more =
+            let shifted : (cells_at f x + d) + i ≡ length (values_of f x) + (d + i) = grouped (cells_at f x) d i ∙ ap (λ k. k + (d + i)) (sym (many_of x)) in
+            ap (λ k. get_or (values_of f x ++ rest) k (pos 0)) shifted ∙ get_or-append-add (values_of f x) rest (d + i) (pos 0) ∙ more d at
+          where
+            grouped : (a b k : ℕ) → (a + b) + k ≡ a + (b + k)
+            grouped a b k = omega arith
+
+        by_first : (o : Option ℕ) → first_of (named (arrays_in f) names) n ≡ o → option_map (λ d. cells_at f x + d) o ≡ Some c → ((d : ℕ) → first_of (named (arrays_in f) names) n ≡ Some d → get_or rest (d + i) (pos 0) ≡ number_given (starts_in f n i)) → get_or (values_of f x ++ rest) (c + i) (pos 0) ≡ number_given (starts_in f n i)
+        by_first None at e more = absurd cc
+        by_first (Some d) at e more =
+            ap (λ k. get_or (values_of f x ++ rest) (k + i) (pos 0)) (sym (ap (λ o. unwrap_or o c) e)) ∙ behind d at more
+
+        by_test : (b : Bool) → bytes_eq n x ≡ b → (if b then Some 0 else option_map (λ d. cells_at f x + d) (first_of (named (arrays_in f) names) n)) ≡ Some c → ((d : ℕ) → first_of (named (arrays_in f) names) n ≡ Some d → get_or rest (d + i) (pos 0) ≡ number_given (starts_in f n i)) → get_or (values_of f x ++ rest) (c + i) (pos 0) ≡ number_given (starts_in f n i)
+        by_test true same e more =
+            let here : n ≡ x = (bytes_eq-Decides n x).0 same in
+            let inside : i < length (values_of f x) = subst (λ k. i < k) (ap (cells_at f) here ∙ sym (many_of x)) lt in
+            ap (λ k. get_or (values_of f x ++ rest) (k + i) (pos 0)) (sym (ap (λ o. unwrap_or o c) e)) ∙ front i
+            ∙ get_or_append_left (values_of f x) rest (pos 0) i inside
+            ∙ ap (λ y. get_or (values_of f y) i (pos 0)) (sym here) ∙ own_value n i lt
+          where
+            front : (k : ℕ) → get_or (values_of f x ++ rest) (0 + k) (pos 0) ≡ get_or (values_of f x ++ rest) k (pos 0)
+            front k = ap (λ j. get_or (values_of f x ++ rest) j (pos 0)) (zero_more k)
+              where
+                zero_more : (k : ℕ) → 0 + k ≡ k
+                zero_more k = omega arith
+        by_test false other e more = by_first (first_of (named (arrays_in f) names) n) refl e more
+
+pub known_value : (values : List ℤ) (c : ℕ) → known (world_of values) c ≡ get_or values c (pos 0)
+unfolding known overlay
+known_value values c = unwrap_or-slice_get values c (pos 0)
+
+-- ---- names that were given values have cells
+
+pub has_cells : {S : Type 0} (m : IndexMap (Vec ℕ) Entry S) (es : List (Vec ℕ × Vec (Option Value))) → HasCells m es → (n : List ℕ) → is_some (lookup (λ k. bytes_eq n k.items) es) ≡ true → is_some (firsts_in m n) ≡ true
+has_cells m [] h n there = absurd (false≢true there)
+has_cells m (e ∷ es) h n there = by_test (bytes_eq n e.0.items) refl there (λ k. has_cells m es h.1 n k)
+  where
+    by_test : (b : Bool) → bytes_eq n e.0.items ≡ b → is_some (cond b (Some e.1) (lookup (λ k. bytes_eq n k.items) es)) ≡ true → (is_some (lookup (λ k. bytes_eq n k.items) es) ≡ true → is_some (firsts_in m n) ≡ true) → is_some (firsts_in m n) ≡ true
+    by_test true same there rest = ap (λ p. is_some (firsts_in m p)) ((bytes_eq-Decides n e.0.items).0 same) ∙ h.0
+    by_test false other there rest = rest there

@@ -1,5 +1,5 @@
 -- What is made of a program unit that keeps the rules.
-use Rattle.std.specs.Prelude.{◌≡◌, ◌<◌, ◌-◌, ◌^◌, ℕ, pos, List, [], map, Ok, Some, replicate, slice_get}
+use Rattle.std.specs.Prelude.{◌≡◌, ◌<◌, ◌^◌, ℕ, ℤ, List, [], Ok, Some, slice_get}
 use Rattle.meaning.specs.declared.syntax.Tree.{Tree}
 use Rattle.meaning.specs.Arrays.{cells_of}
 use Rattle.roles.specs.declared.names.Roles.{Roles}
@@ -21,21 +21,23 @@ use Rattle.std.specs.Global.{Vec}
 use Rattle.indexmap.specs.IndexMap.{IndexMap}
 use Rattle.numbering.specs.declared.parts.Entry.{Entry}
 use Rattle.checker.specs.Entries.{AreSaid}
-use Rattle.checker.specs.Given.{AreGiven, firsts_in}
+use Rattle.checker.specs.Given.{HasCells, starts_by}
 use Rattle.numbering.specs.Appearing.{variables_at}
 use Rattle.numbering.specs.Numbered.{named}
 
 abbrev pub count_at : Facts → Roles → ℕ
 count_at f r = cells_of (named (arrays_in f) (variables_at r))
 
-abbrev pub AreSaidOf : {S : Type 0} → Facts → Roles → IndexMap (Vec ℕ) Entry S → Type 0
-AreSaidOf f r m = AreSaid f r (variables_at r) m
+-- what is kept of names, of which these are variables and arrays, and the values that their cells start with
+pub record AreStarted {S : Type 0} (f : Facts) (r : Roles) (names : List (List ℕ)) (m : IndexMap (Vec ℕ) Entry S) (starts : Vec ℤ) : Type 0 where
+  pub said : AreSaid f r names m
+  pub given : starts.items ≡ starts_by f names
+  pub placed : HasCells m f.starts.entries
+  pub few : cells_of (named (arrays_in f) names) < 2 ^ 64
 
 -- what is kept of names
 pub record AreNames (f : Facts) (r : Roles) (k : Names) : Type 0 where
-  pub said : AreSaidOf f r k.entries
-  pub given : AreGiven (firsts_in k.entries) (starts_in f) (replicate (count_at f r) (pos 0)) k.starts.items
-  pub few : count_at f r < 2 ^ 64 - 1
+  pub started : AreStarted f r (variables_at r) k.entries k.starts
   pub letters : (c : ℕ) → c < 256 → slice_get k.letters.items c ≡ Some (letter_type (has_implicit_none (trees_at r.items.now)) (implicit_parts (trees_at r.items.now)) c)
 
 -- a tree with what is kept beside it
@@ -58,4 +60,4 @@ pub record IsJudged (t : Tree) (f : Facts) : Type 0 where
   pub accepted : checked (nested t) ≡ Ok (nested t)
   pub constants : (n : List ℕ) → constant_in f n ≡ (names_in t).known n
   pub arrays : (n : List ℕ) → arrays_in f n ≡ (names_in t).arrays n
-  pub starts : starts_in f ≡ map (given_by (roles_of (items_in t)).names) (starts_from (roles_of (items_in t)) [] (items_in t))
+  pub starts : starts_in f ≡ given_by (roles_of (items_in t)).names (starts_from (roles_of (items_in t)) [] (items_in t))

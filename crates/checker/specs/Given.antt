@@ -1,13 +1,14 @@
--- What values of cells are given by DATA statements, one after another (ANSI X3.9-1978, chapter 9).
-use Rattle.std.specs.Prelude.{◌≡◌, ℕ, ◌+◌, ℤ, List, [], ◌∷◌, Option, Some, None, map, pos, replicate, slice_set}
+-- What the cells start with: what DATA statements give, and 0 elsewhere (ANSI X3.9-1978, chapters 9 and 17).
+use Rattle.std.specs.Prelude.{◌≡◌, ℕ, true, ℤ, pos, List, flat_map, is_some, map, Option, Some, None}
 use Rattle.std.specs.Global.{Vec}
+use Rattle.std.specs.List.{AllByRecursion, range_with_len}
 use Rattle.indexmap.specs.IndexMap.{IndexMap}
+use Rattle.meaning.specs.declared.ending.Value.{Value}
 use Rattle.meaning.specs.Values.{as_integer}
-use Rattle.data_rules.specs.declared.filling.Start.{Start}
-use Rattle.data_rules.specs.DataStages.{Given}
-use Rattle.data_rules.specs.Marked.{given_at}
+use Rattle.k_rules.specs.declared.verdict.Facts.{Facts}
+use Rattle.k_rules.specs.Judged.{starts_in}
 use Rattle.numbering.specs.declared.parts.Entry.{Entry}
-use Rattle.checker.specs.Entries.{Placed, Said, said_at}
+use Rattle.checker.specs.Entries.{Placed, Said, cells_at, said_at}
 
 abbrev pub first_placed : Option Placed → Option ℕ
 first_placed None = None
@@ -18,26 +19,24 @@ abbrev pub first_said : Option Said → Option ℕ
 first_said None = None
 first_said (Some s) = first_placed s.storage
 
--- a cell counted from a name's first one has the value
-pub record IsGiven (firsts : List ℕ → Option ℕ) (g : Given) (old new : List ℤ) : Type 0 where
-  pub first : ℕ
-  pub found : firsts g.name ≡ Some first
-  pub values : new ≡ slice_set old (first + g.place) (as_integer g.value)
-
--- one after another
-abbrev pub AreGiven : (List ℕ → Option ℕ) → List Given → List ℤ → List ℤ → Type 0
-AreGiven firsts [] old new = new ≡ old
-AreGiven firsts (g ∷ gs) old new = (mid : List ℤ) × IsGiven firsts g old mid × AreGiven firsts gs mid new
-
 abbrev pub firsts_in : {S : Type 0} → IndexMap (Vec ℕ) Entry S → List ℕ → Option ℕ
 firsts_in m n = first_said (said_at m n)
 
--- what DATA statements give to the cells of entries
-abbrev pub GivesStart : {S : Type 0} → IndexMap (Vec ℕ) Entry S → Start → List ℤ → List ℤ → Type 0
-GivesStart m s old new = IsGiven (firsts_in m) (given_at s) old new
+-- each name that was given values has cells
+abbrev pub HasCells : {S : Type 0} → IndexMap (Vec ℕ) Entry S → List (Vec ℕ × Vec (Option Value)) → Type 0
+HasCells m es = AllByRecursion (λ e. is_some (firsts_in m e.0.items) ≡ true) es
 
-abbrev pub GivesStarts : {S : Type 0} → IndexMap (Vec ℕ) Entry S → List Start → List ℤ → List ℤ → Type 0
-GivesStarts m starts old new = AreGiven (firsts_in m) (map given_at starts) old new
+-- the number of a place that was given this
+abbrev pub number_given : Option Value → ℤ
+number_given None = pos 0
+number_given (Some v) = as_integer v
 
-abbrev pub zeroes : ℕ → List ℤ
-zeroes count = replicate count (pos 0)
+-- those of so many places, those of a name's, and those of names, one behind another
+abbrev pub values_in : (ℕ → Option Value) → ℕ → List ℤ
+values_in given cells = map (λ i. number_given (given i)) (range_with_len 0 cells)
+
+abbrev pub values_of : Facts → List ℕ → List ℤ
+values_of f n = values_in (starts_in f n) (cells_at f n)
+
+abbrev pub starts_by : Facts → List (List ℕ) → List ℤ
+starts_by f names = flat_map (values_of f) names

@@ -39,7 +39,7 @@ fn dimensions_named(alloc: Global, facts: &Facts, name: &[u8]) -> Result<Vec<Dim
 }
 
 /// A sum. The `AllocError` comes where it is 2^64 or more. No number of cells gets there: in a program unit that keeps the rules
-/// all arrays have 1,048,576 elements at most together, and beside these each variable has one cell, and its name stands in the
+/// all arrays have 16,777,216 elements at most together, and beside these each variable has one cell, and its name stands in the
 /// unit's tree.
 pub(crate) fn plus(a: usize, b: usize) -> Result<usize, AllocError>
     ensures { IfOk result (λ k. k ≡ a + b) }
@@ -61,8 +61,8 @@ fn times(a: usize, b: usize) -> Result<usize, AllocError>
 }
 
 /// How many cells dimensions take. The `AllocError` comes where there are 2^64 or more; in a program unit that keeps the rules no
-/// extent is below 1, and there are 1,048,576 at most.
-fn cells_in(dimensions: &[Dimension]) -> Result<usize, AllocError>
+/// extent is below 1, and there are 16,777,216 at most.
+pub(crate) fn cells_in(dimensions: &[Dimension]) -> Result<usize, AllocError>
     ensures { IfOk result (λ k. k ≡ size (map dimension dimensions.now)) }
 {
     let mut found: usize = 1;

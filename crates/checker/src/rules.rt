@@ -6,7 +6,8 @@ ghost use Rattle.meaning.specs.Rules.{checked};
 ghost use Rattle.meaning.specs.Trees.{nested};
 ghost use Rattle.numbering.specs.Agreed.{IsNumbered};
 ghost use Rattle.roles.specs.Listed.{trees_at};
-ghost use Rattle.checker.specs.Built.{AreNames, AreSaidOf, IsJudged, count_at, parts_by};
+ghost use Rattle.roles.specs.NameSets.{texts};
+ghost use Rattle.checker.specs.Built.{AreNames, AreStarted, IsJudged, parts_by};
 ghost use Rattle.numbering.specs.Checked.{items_in};
 
 use crate::entries::{Storing, entries_of};
@@ -40,13 +41,23 @@ pub(crate) struct Kept {
     pub landmarks: Landmarks,
 }
 
-/// What is kept of the names of a program unit, and how many cells they take.
-fn stored_names(alloc: Global, roles: &Roles, facts: &Facts) -> Result<Storing, AllocError>
-    ensures next { IfOk result (λ s. s.next ≡ count_at facts.now roles.now) }
-    ensures said { IfOk result (λ s. AreSaidOf facts.now roles.now s.entries) }
+/// What is kept of the names of a program unit, of which these are variables and arrays, and the values that the cells start with.
+fn entries_with_starts(
+    alloc: Global,
+    roles: &Roles,
+    facts: &Facts,
+    names: &[Vec<u8>],
+) -> Result<(IndexMap<Vec<u8>, Entry>, Vec<i32>), AllocError>
+    ensures { IfOk result (λ k. AreStarted facts.now roles.now (texts names.now) k.0 k.1) }
 {
-    let names = variables_in_order(alloc, roles)?;
-    entries_of(alloc, roles, facts, names.as_slice())
+    let Storing { entries, next } = entries_of(alloc, roles, facts, names)?;
+    match starts_of(alloc, &entries, facts, names, next) {
+        Ok(starts) => Ok((entries, starts)),
+        Err(AllocError) => {
+            drop(entries);
+            Err(AllocError)
+        }
+    }
 }
 
 /// What is kept of the names of a program unit, and the values that the cells start with.
@@ -54,18 +65,13 @@ fn names_of(alloc: Global, roles: &Roles, facts: &Facts) -> Result<Names, AllocE
     ensures { IfOk result (AreNames facts.now roles.now) }
 {
     let letters = letter_types_of(alloc, roles)?;
-    let Storing { entries, next } = stored_names(alloc, roles, facts)?;
-    match starts_of(alloc, &entries, &facts.starts, next) {
-        Ok(starts) => Ok(Names {
-            entries,
-            letters,
-            starts,
-        }),
-        Err(AllocError) => {
-            drop(entries);
-            Err(AllocError)
-        }
-    }
+    let names = variables_in_order(alloc, roles)?;
+    let (entries, starts) = entries_with_starts(alloc, roles, facts, names.as_slice())?;
+    Ok(Names {
+        entries,
+        letters,
+        starts,
+    })
 }
 
 /// What is kept of a program unit that breaks no rule, by what its statements say of names.

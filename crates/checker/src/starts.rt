@@ -1,13 +1,17 @@
 //! The values that cells start with (ANSI X3.9-1978, chapters 9 and 17).
 
-ghost use Rattle.std.specs.Prelude.{◌≡◌, ◌-◌, ◌<◌, ◌^◌, slice_set, IfOk, OnOk};
-ghost use Rattle.checker.specs.Entries.{said};
-ghost use Rattle.checker.specs.Given.{GivesStart, GivesStarts, first_placed, firsts_in, zeroes};
+ghost use Rattle.std.specs.Prelude.{◌≡◌, ◌++◌, ◌<◌, ◌^◌, map, IfOk, OnOk};
+ghost use Rattle.std.specs.List.{AllByRecursion, range_with_len};
+ghost use Rattle.data_rules.specs.Slots.{slot_at};
+ghost use Rattle.roles.specs.NameSets.{texts};
+ghost use Rattle.checker.specs.Entries.{cells_at, said};
+ghost use Rattle.checker.specs.Given.{HasCells, first_placed, firsts_in, number_given, starts_by, values_in, values_of};
 
-use crate::entries::plus;
-use data_rules::Start;
+use crate::entries::cells_in;
 use expressions::as_integer;
 use indexmap::IndexMap;
+use k_rules::Facts;
+use meaning::ending::Value;
 use numbering::Entry;
 use std::alloc::{AllocError, Global};
 
@@ -31,71 +35,96 @@ fn first_cell(entries: &IndexMap<Vec<u8>, Entry>, name: &[u8]) -> Option<usize>
     }
 }
 
-/// Gives a cell a value. The `AllocError` comes where there is no such cell.
-fn give_cell(values: &mut Vec<i32>, cell: usize, value: i32) -> Result<(), AllocError>
-    ensures { OnOk result (values.new.items ≡ slice_set values.old.items cell value) }
-{
-    if cell < values.len() {
-        values[cell] = value;
-        Ok(())
-    } else {
-        Err(AllocError)
-    }
-}
-
-/// Gives the cell of a variable or an array element its value. The `AllocError` comes where there is no such cell. In a program
-/// unit that keeps the rules each item of a DATA statement has one: it is a variable, an array or an element within its array's
-/// bounds, and a name that stands in a DATA statement is numbered with those of all other statements.
-fn give(
-    values: &mut Vec<i32>,
+/// Asks whether each name that was given values has cells. The `AllocError` comes where one has none. In a program unit that keeps
+/// the rules each has: it is a variable's or an array's, and a name that stands in a DATA statement is numbered with those of all
+/// other statements.
+fn ask_for_cells(
     entries: &IndexMap<Vec<u8>, Entry>,
-    start: &Start,
+    given: &IndexMap<Vec<u8>, Vec<Option<Value>>>,
 ) -> Result<(), AllocError>
-    ensures { OnOk result (GivesStart entries.now start.now values.old.items values.new.items) }
+    ensures { IfOk result (λ _. HasCells entries.now given.now.entries) }
 {
-    match first_cell(entries, start.name) {
-        Some(first) => {
-            let cell = plus(first, start.place as usize)?;
-            give_cell(values, cell, as_integer(start.value))?;
-            Ok(())
+    for (name, _) in given.iter() {
+        if first_cell(entries, name).is_none() {
+            return Err(AllocError);
         }
-        None => Err(AllocError),
-    }
-}
-
-/// Gives the cells of variables and array elements their values, one after another.
-fn give_all(
-    values: &mut Vec<i32>,
-    entries: &IndexMap<Vec<u8>, Entry>,
-    starts: &[Start],
-) -> Result<(), AllocError>
-    ensures { OnOk result (GivesStarts entries.now starts.now values.old.items values.new.items) }
-{
-    for start in starts {
-        give(values, entries, start)?;
     }
     Ok(())
 }
 
-/// So many cells of 0.
-fn zeros(alloc: Global, count: usize) -> Result<Vec<i32>, AllocError>
-    ensures items { IfOk result (λ cells. cells.items ≡ zeroes count) }
-    ensures few { IfOk result (λ _. count < 2 ^ 64 - 1) }
+/// The value of a cell whose place was given this, which is 0 where it was given none.
+fn number_of(slot: Option<Value>) -> i32
+    ensures { result ≡ number_given slot }
 {
-    vec![in alloc; 0; count]
+    match slot {
+        Some(value) => as_integer(value),
+        None => 0,
+    }
 }
 
-/// The values that so many cells start with: what DATA statements give, and 0 elsewhere.
+/// What a place was given.
+fn slot_of(slots: &[Option<Value>], place: usize) -> Option<Value>
+    ensures { result ≡ slot_at slots.now place }
+{
+    match slots.get(place) {
+        Some(slot) => *slot,
+        None => None,
+    }
+}
+
+/// Adds the values of so many cells of a name whose places were given these.
+fn add_values(
+    starts: &mut Vec<i32>,
+    slots: &[Option<Value>],
+    cells: usize,
+) -> Result<(), AllocError>
+    ensures { OnOk result (starts.new.items ≡ starts.old.items ++ values_in (slot_at slots.now) cells) }
+{
+    for place in 0..cells {
+        starts.push(number_of(slot_of(slots, place)))?;
+    }
+    Ok(())
+}
+
+/// How many cells a name has. The `AllocError` comes where there are 2^64 or more.
+fn cells_of(facts: &Facts, name: &[u8]) -> Result<usize, AllocError>
+    ensures { IfOk result (λ k. k ≡ cells_at facts.now name.now) }
+{
+    match facts.arrays.get(name) {
+        Some(dimensions) => cells_in(dimensions),
+        None => Ok(1),
+    }
+}
+
+/// Adds the values that the cells of a name start with.
+fn add_starts(starts: &mut Vec<i32>, facts: &Facts, name: &[u8]) -> Result<(), AllocError>
+    ensures { OnOk result (starts.new.items ≡ starts.old.items ++ values_of facts.now name.now) }
+{
+    let cells = cells_of(facts, name)?;
+    match facts.starts.get(name) {
+        Some(slots) => add_values(starts, slots, cells),
+        None => add_values(starts, &[], cells),
+    }
+}
+
+/// The values that so many cells, which are those of these names, one behind another, start with: what DATA statements give, and 0
+/// elsewhere.
 pub(crate) fn starts_of(
     alloc: Global,
     entries: &IndexMap<Vec<u8>, Entry>,
-    starts: &[Start],
+    facts: &Facts,
+    names: &[Vec<u8>],
     count: usize,
 ) -> Result<Vec<i32>, AllocError>
-    ensures given { IfOk result (λ v. GivesStarts entries.now starts.now (zeroes count) v.items) }
-    ensures few { IfOk result (λ _. count < 2 ^ 64 - 1) }
+    ensures given { IfOk result (λ v. v.items ≡ starts_by facts.now (texts names.now)) }
+    ensures placed { IfOk result (λ _. HasCells entries.now facts.now.starts.entries) }
+    ensures few { IfOk result (λ _. count < 2 ^ 64) }
 {
-    let mut values = zeros(alloc, count)?;
-    give_all(&mut values, entries, starts)?;
-    Ok(values)
+    ask_for_cells(entries, &facts.starts)?;
+    let mut starts = Vec::new(alloc);
+    starts.reserve(count)?;
+    for name in names {
+        add_starts(&mut starts, facts, name)?;
+    }
+    Ok(starts)
 }

@@ -20,17 +20,18 @@ use Rattle.clap.specs.declared.parser.matches.ArgMatches.{ArgMatches}
 use Rattle.clap.specs.ValueTests.{is_unsigned_in}
 use Rattle.clap.specs.Kinds.{HasKind, IsAmong, Kinds, or_else}
 use Rattle.clap.specs.Lexer.{long_of, short_of}
-use Rattle.clap.specs.Faults.{bundle_fault, bundle_step_fault, check_fault, defaults_fault, entered_fault, given_default_fault, flag_word_fault, flags_fault, long_fault, other_fault, settle_fault, short_fault, step_fault, fault_of, turn_fault, use_fault, walk_fault}
+use Rattle.clap.specs.Faults.{bundle_fault, bundle_step_fault, check_fault, default_fault, defaults_fault, entered_fault, given_default_fault, flag_word_fault, flags_fault, long_fault, other_fault, settle_fault, short_fault, step_fault, fault_of, turn_fault, use_fault, walk_fault}
 use Rattle.clap.specs.Simple.{Shape, built, entered, filled, help_rule, matches_of, version_rule, with_index}
 use Rattle.clap.specs.Walk.{Held, Row, Rule, Step, Waiting, Walk, after_flag, after_step, all_of, arg_by_long, bundle_met, bundle_step, default_rows, done, finished, has_row, is_empty, idle, is_pending, long_met, long_or_other, option, plain, plain_word, positional, pushed, reading_by, short_met, short_or_plain, subcommand_met, subcommand_or_other, trailing, walked, with_default, one_of, row_text, rows_of, settled, used, with_values, without}
 use Rattle.clap.specs.declared.error.kind.ErrorKind.{ErrorKind}
 use Rattle.clap.specs.declared.error.kind.ErrorKind.TheVariants as kind
-use Rattle.clap.specs.declared.parser.matches.ValueSource.TheVariants.{CommandLine}
+use Rattle.clap.specs.declared.parser.matches.ValueSource.{ValueSource}
+use Rattle.clap.specs.declared.parser.matches.ValueSource.TheVariants.{CommandLine, DefaultValue}
 use Rattle.clap.specs.declared.builder.value_parser.Reading.{Reading}
 use Rattle.clap.specs.declared.builder.value_parser.Reading.TheVariants.{AsWritten}
-use Rattle.command_line.specs.Command.{f77run, fault_for, file_rule, number_rule}
-use Rattle.command_line.specs.CommandLine.{Given, Line, Part, Text, Word, asked_by, asked_for, asks, behind, block, closed, default_of, ends, errs, file, first, give, gives, greatest, holding, letter_word, long_or_short, long_word, meet, moved, nothing_read, read, request, short_word, take, is_in, is_number, name_of, number_in, number_of, put, put_if, turns, values, window, word_of, workers}
-use Rattle.command_line.specs.Matches.{Fits_all, IsGiven, IsNumber, Rows, as_seen, fits, fits_under, seen}
+use Rattle.command_line.specs.Command.{count_rule, f77run, fault_for, file_rule, number_rule}
+use Rattle.command_line.specs.CommandLine.{Given, Line, Part, Text, Texts, Word, alone, asked_by, asked_for, asks, behind, block, closed, counts, default_of, ends, errs, file, first, give, gives, greatest, holding, letter_word, long_or_short, long_word, meet, moved, nothing_read, read, short_word, take, is_in, is_number, name_of, number_in, number_of, put, put_count, put_if, turns, values, window, with_text, word_of, workers}
+use Rattle.command_line.specs.Matches.{AreGiven, Fits_all, HoldTexts, IsGiven, IsNumber, as_flag, as_seen, fits, fits_under, seen}
 use Rattle.command_line.specs.declared.asked.OptionsFault.{OptionsFault}
 use Rattle.command_line.specs.declared.asked.OptionsFault.TheVariants as fault
 
@@ -65,16 +66,16 @@ all_of-seen id (r ∷ rs) = go (bytes_eq r.id id) (all_of-seen id rs)
     go false e = e
 
 -- one more value of an id
-abbrev pub put_row : Text → Text → List Row → List Row
-put_row id v rows = with_values id AsWritten CommandLine (v ∷ []) rows
+abbrev pub put_row : ValueSource → Text → Text → List Row → List Row
+put_row s id v rows = with_values id AsWritten s (v ∷ []) rows
 
 abbrev added : Option (List Text × Reading) → Text → Option (List Text × Reading)
 added None v = Some (v ∷ [], AsWritten)
 added (Some s) v = Some (s.0 ++ v ∷ [], s.1)
 
-seen_put : (id other v : Text) (rows : List Row) → seen other (put_row id v rows) ≡ cond (bytes_eq id other) (added (seen other rows) v) (seen other rows)
-seen_put id other v [] = refl
-seen_put id other v (r ∷ rs) = go (bytes_eq r.id id) refl (bytes_eq r.id other) refl (bytes_eq id other) refl (seen_put id other v rs)
+seen_put : (s : ValueSource) (id other v : Text) (rows : List Row) → seen other (put_row s id v rows) ≡ cond (bytes_eq id other) (added (seen other rows) v) (seen other rows)
+seen_put s id other v [] = refl
+seen_put s id other v (r ∷ rs) = go (bytes_eq r.id id) refl (bytes_eq r.id other) refl (bytes_eq id other) refl (seen_put s id other v rs)
   where
     same : bytes_eq r.id id ≡ true → bytes_eq r.id other ≡ bytes_eq id other
     same e = ap (λ (t : Text). bytes_eq t other) ((bytes_eq-Decides r.id id).0 e)
@@ -85,17 +86,17 @@ seen_put id other v (r ∷ rs) = go (bytes_eq r.id id) refl (bytes_eq r.id other
         true≢false (sym ((bytes_eq-Decides r.id id).1 joined) ∙ b)
 
     go : (b : Bool) → bytes_eq r.id id ≡ b → (d : Bool) → bytes_eq r.id other ≡ d → (c : Bool) → bytes_eq id other ≡ c
-        → seen other (put_row id v rs) ≡ cond (bytes_eq id other) (added (seen other rs) v) (seen other rs)
-        → seen other (cond b (record r { values = r.values ++ v ∷ []; source = Some (Rattle.clap.specs.Walk.stronger r.source CommandLine) } ∷ rs) (r ∷ put_row id v rs))
+        → seen other (put_row s id v rs) ≡ cond (bytes_eq id other) (added (seen other rs) v) (seen other rs)
+        → seen other (cond b (record r { values = r.values ++ v ∷ []; source = Some (Rattle.clap.specs.Walk.stronger r.source s) } ∷ rs) (r ∷ put_row s id v rs))
         ≡ cond c (added (cond d (Some (r.values, r.reading)) (seen other rs)) v) (cond d (Some (r.values, r.reading)) (seen other rs))
     go true b true d true c ih = ap (λ t. cond t (Some (r.values ++ v ∷ [], r.reading)) (seen other rs)) d
     go true b true d false c ih = absurd (true≢false (sym d ∙ same b ∙ c))
     go true b false d true c ih = absurd (true≢false (sym c ∙ sym (same b) ∙ d))
     go true b false d false c ih = ap (λ t. cond t (Some (r.values ++ v ∷ [], r.reading)) (seen other rs)) d
     go false b true d true c ih = absurd (never b d c)
-    go false b true d false c ih = ap (λ t. cond t (Some (r.values, r.reading)) (seen other (put_row id v rs))) d
+    go false b true d false c ih = ap (λ t. cond t (Some (r.values, r.reading)) (seen other (put_row s id v rs))) d
     go false b false d f c ih =
-        ap (λ t. cond t (Some (r.values, r.reading)) (seen other (put_row id v rs))) d ∙ ih ∙ ap (λ t. cond t (added (seen other rs) v) (seen other rs)) c
+        ap (λ t. cond t (Some (r.values, r.reading)) (seen other (put_row s id v rs))) d ∙ ih ∙ ap (λ t. cond t (added (seen other rs) v) (seen other rs)) c
 
 without_none : (id : Text) (rows : List Row) → has_row id rows ≡ false → without id rows ≡ rows
 without_none id [] none = refl
@@ -107,7 +108,7 @@ without_none id (r ∷ rs) none = go (bytes_eq r.id id) none (without_none id rs
 
 -- ---- what was given, and rows
 
-values_put : (part other : Part) (v : Text) (given : Given)
+values_put : (part other : Part) (v : Text) (given : Texts)
     → values other (given ++ (part, v) ∷ []) ≡ values other given ++ cond (bytes_eq (name_of part) (name_of other)) (v ∷ []) []
 values_put part other v [] = go (bytes_eq (name_of part) (name_of other))
   where
@@ -126,13 +127,57 @@ added_seen : (vs : List Text) (v : Text) → added (as_seen vs) v ≡ as_seen (v
 added_seen [] v = refl
 added_seen (x ∷ xs) v = refl
 
-rows_put : (part : Part) (v : Text) (given : Given) (rows : List Row) → Rows given rows → Rows (given ++ (part, v) ∷ []) (put_row (name_of part) v rows)
-rows_put part v given rows h other =
-    seen_put (name_of part) (name_of other) v rows ∙ go (bytes_eq (name_of part) (name_of other)) ∙ sym (ap as_seen (values_put part other v given))
+texts_put : (part : Part) (v : Text) (given : Given) (rows : List Row)
+    → HoldTexts given rows → HoldTexts (with_text part v given) (put_row CommandLine (name_of part) v rows)
+texts_put part v given rows h other =
+    seen_put CommandLine (name_of part) (name_of other) v rows ∙ go (bytes_eq (name_of part) (name_of other)) ∙ sym (ap as_seen (values_put part other v given.texts))
   where
-    go : (b : Bool) → cond b (added (seen (name_of other) rows) v) (seen (name_of other) rows) ≡ as_seen (values other given ++ cond b (v ∷ []) [])
-    go true = ap (λ s. added s v) (h other) ∙ added_seen (values other given) v
-    go false = h other ∙ ap as_seen (sym (append-nil (values other given)))
+    go : (b : Bool) → cond b (added (seen (name_of other) rows) v) (seen (name_of other) rows) ≡ as_seen (values other given.texts ++ cond b (v ∷ []) [])
+    go true = ap (λ s. added s v) (h other) ∙ added_seen (values other given.texts) v
+    go false = h other ∙ ap as_seen (sym (append-nil (values other given.texts)))
+
+no_flag : (part : Part) → bytes_eq (name_of part) (codes "count") ≡ false
+no_flag workers = refl
+no_flag block = refl
+no_flag window = refl
+no_flag turns = refl
+no_flag file = refl
+
+-- the flag has a row where it was given, until the defaults are put in
+abbrev pub flag_so_far : Bool → Option (List Text × Reading)
+flag_so_far true = Some (codes "true" ∷ [], AsWritten)
+flag_so_far false = None
+
+-- the rows hold what was given
+abbrev pub Rows : Given → List Row → Type 0
+Rows given rows = HoldTexts given rows × (seen (codes "count") rows ≡ flag_so_far given.count)
+
+has_flag : (given : Given) (rows : List Row) (b : Bool) → Rows given rows → given.count ≡ b → has_row (codes "count") rows ≡ is_some (flag_so_far b)
+has_flag given rows b h is = has_row-seen (codes "count") rows ∙ ap is_some (h.1 ∙ ap flag_so_far is)
+
+rows_put : (part : Part) (v : Text) (given : Given) (rows : List Row)
+    → Rows given rows → Rows (with_text part v given) (put_row CommandLine (name_of part) v rows)
+rows_put part v given rows h = (
+  texts_put part v given rows h.0,
+  seen_put CommandLine (name_of part) (codes "count") v rows
+      ∙ ap (λ b. cond b (added (seen (codes "count") rows) v) (seen (codes "count") rows)) (no_flag part) ∙ h.1,
+)
+
+-- a row of the flag changes no text
+texts_beside_flag : (s : ValueSource) (v : Text) (given : Given) (rows : List Row) → HoldTexts given rows → HoldTexts given (put_row s (codes "count") v rows)
+texts_beside_flag s v given rows h other =
+    seen_put s (codes "count") (name_of other) v rows ∙ ap (λ b. cond b (added (seen (name_of other) rows) v) (seen (name_of other) rows)) (apart other) ∙ h other
+  where
+    apart : (part : Part) → bytes_eq (codes "count") (name_of part) ≡ false
+    apart workers = refl
+    apart block = refl
+    apart window = refl
+    apart turns = refl
+    apart file = refl
+
+flag_seen : (s : ValueSource) (v : Text) (rows : List Row) → seen (codes "count") rows ≡ None
+    → seen (codes "count") (put_row s (codes "count") v rows) ≡ Some (v ∷ [], AsWritten)
+flag_seen s v rows none = seen_put s (codes "count") (codes "count") v rows ∙ ap (λ o. added o v) none
 
 all_put : {X : Type 0} (test : X → Bool) (xs : List X) (x : X) → list_all test xs ≡ true → test x ≡ true → list_all test (xs ++ x ∷ []) ≡ true
 all_put test [] x h e = ap (λ b. b && true) e
@@ -185,7 +230,7 @@ numbered_put : (part : Part) (most : ℕ) (v : Text) (given : Given) (rows : Lis
     → Comes (put_if (is_some (first part given)) (is_in most v) part v given) (use_fault false (number_at (name_of part) most) (v ∷ []) rows)
     (used (number_at (name_of part) most) (v ∷ []) rows)
 numbered_put part most v given rows known small h all =
-    go (is_some (first part given)) (is_in most v) (has_row-seen (name_of part) rows ∙ ap is_some (h part) ∙ first_seen (values part given)) (in_range most v small) refl
+    go (is_some (first part given)) (is_in most v) (has_row-seen (name_of part) rows ∙ ap is_some (h.0 part) ∙ first_seen (values part given.texts)) (in_range most v small) refl
   where
     kinds : Bool → Bool → Kinds
     kinds again good = or_else (cond (again && true) (kind.ArgumentConflict ∷ []) []) (or_else (cond good [] (kind.ValueValidation ∷ [])) [])
@@ -195,8 +240,8 @@ numbered_put part most v given rows known small h all =
     go true good a g i = (kind.ArgumentConflict, ap₂ kinds a g, refl)
     go false true a g i = (
       ap₂ kinds a g,
-      subst (λ l. Rows (given ++ (part, v) ∷ []) (put_row (name_of part) v l)) (sym (without_none (name_of part) rows a)) (rows_put part v given rows h),
-      all_put fits given (part, v) all (ap (λ o. fits_under o v) known ∙ i),
+      subst (λ l. Rows (with_text part v given) (put_row CommandLine (name_of part) v l)) (sym (without_none (name_of part) rows a)) (rows_put part v given rows h),
+      all_put fits given.texts (part, v) all (ap (λ o. fits_under o v) known ∙ i),
     )
     go false false a g i = (kind.ValueValidation, ap₂ kinds a g, refl)
 
@@ -213,7 +258,27 @@ put_told workers v given rows h all = numbered_put workers 64 v given rows refl 
 put_told block v given rows h all = numbered_put block 1000000 v given rows refl (omega arith) h all
 put_told window v given rows h all = numbered_put window 256 v given rows refl (omega arith) h all
 put_told turns v given rows h all = numbered_put turns 1000000000000 v given rows refl (omega arith) h all
-put_told file v given rows h all = (refl, rows_put file v given rows h, all_put fits given (file, v) all refl)
+put_told file v given rows h all = (refl, rows_put file v given rows h, all_put fits given.texts (file, v) all refl)
+
+abbrev count_at : Rule
+count_at = with_index 1 (filled count_rule)
+
+flag_put : (given : Given) (rows : List Row) → Rows given rows → Fits_all given
+    → Comes (put_count given) (use_fault false count_at [] rows) (used count_at [] rows)
+flag_put given rows h all = go given.count refl
+  where
+    kinds : Bool → Kinds
+    kinds again = or_else (cond (again && true) (kind.ArgumentConflict ∷ []) []) []
+
+    go : (b : Bool) → given.count ≡ b
+        → Comes (cond b (Err fault.GivenTwice) (Ok (record given { count = true }))) (use_fault false count_at [] rows) (used count_at [] rows)
+    go true is = (kind.ArgumentConflict, ap kinds (has_flag given rows true h is), refl)
+    go false is = (
+      ap kinds (has_flag given rows false h is),
+      subst (λ l. Rows (record given { count = true }) (put_row CommandLine (codes "count") (codes "true") l)) (sym (without_none (codes "count") rows (has_flag given rows false h is)))
+          (texts_beside_flag CommandLine (codes "true") given rows h.0, flag_seen CommandLine (codes "true") rows (h.1 ∙ ap flag_so_far is)),
+      all,
+    )
 
 -- what clap holds for what is held here
 abbrev pub pending_of : Option (Part × Option Text) → Option (Text × List Text)
@@ -280,12 +345,12 @@ request_told : (r : Result Given OptionsFault) (wanted : OptionsFault) (asked : 
 request_told (Ok given) wanted asked kinds all_kinds rows w c is law = (asked, law asked (ap (λ k. or_else k (asked ∷ [])) c.0), is)
 request_told (Err f) wanted asked kinds all_kinds rows w c is law = (c.0, law c.0 (ap (λ k. or_else k (asked ∷ [])) c.1), c.2)
 
--- an option with its value in one word
-given_told : (r : Result Given OptionsFault) (part : Part) (v : Text) (kinds after : Kinds) (rows more : List Row) (only : Bool) → Comes r kinds rows
-    → ((given : Given) → Rows given rows → Fits_all given → Comes (put part v given) after more)
-    → Steps (behind r (λ given. behind (put part v given) (λ put_in. Ok (record { given = put_in; held = None; only_files = only }))))
+-- what is given by a word alone: an option with its value, or the flag
+given_told : (r : Result Given OptionsFault) (next : Given → Result Given OptionsFault) (kinds after : Kinds) (rows more : List Row) (only : Bool) → Comes r kinds rows
+    → ((given : Given) → Rows given rows → Fits_all given → Comes (next given) after more)
+    → Steps (behind r (λ given. behind (next given) (λ put_in. Ok (record { given = put_in; held = None; only_files = only }))))
     (or_else (or_else kinds after) []) (standing None only more idle)
-given_told (Ok given) part v kinds after rows more only c next = go (put part v given) (next given c.1 c.2)
+given_told (Ok given) next kinds after rows more only c law = go (next given) (law given c.1 c.2)
   where
     same : or_else (or_else kinds after) [] ≡ after
     same = nil_behind (or_else kinds after) ∙ ap (λ k. or_else k after) c.0
@@ -294,7 +359,7 @@ given_told (Ok given) part v kinds after rows more only c next = go (put part v 
         → Steps (behind r (λ put_in. Ok (record { given = put_in; held = None; only_files = only }))) (or_else (or_else kinds after) []) (standing None only more idle)
     go (Ok put_in) d = (same ∙ d.0, (more, idle, refl, d.1, d.2, inl refl))
     go (Err f) d = (d.0, same ∙ d.1, d.2)
-given_told (Err f) part v kinds after rows more only c next = (c.0, ap (λ k. or_else (or_else k after) []) c.1, c.2)
+given_told (Err f) next kinds after rows more only c law = (c.0, ap (λ k. or_else (or_else k after) []) c.1, c.2)
 
 abbrev top : Shape
 top = (built f77run).top
@@ -328,7 +393,7 @@ valued_told : (part : Part) (v : Text) (given : Given) (held : Held_part) (rows 
     (or_else (or_else (settle_fault rules false (holds rows held)) (use_fault false (rule_at part) (v ∷ []) (settled rules (holds rows held)).rows)) [])
     (standing None false (used (rule_at part) (v ∷ []) (settled rules (holds rows held)).rows) idle)
 valued_told part v given held rows h all =
-    given_told (closed given held) part v _ _ (settled rules (holds rows held)).rows _ false (closed_told given held rows h all)
+    given_told (closed given held) (put part v) _ _ (settled rules (holds rows held)).rows _ false (closed_told given held rows h all)
     (λ g r f. put_told part v g (settled rules (holds rows held)).rows r f)
 
 -- the word of an option
@@ -345,6 +410,13 @@ part_told window (Some v) word given held rows waiting h all = valued_told windo
 part_told turns (Some v) word given held rows waiting h all = valued_told turns v given held rows h all
 part_told file (Some v) word given held rows waiting h all = valued_told file v given held rows h all
 
+count_told : (value : Option Text) (word : Text) (given : Given) (held : Held_part) (rows : List Row) (waiting : Waiting)
+    → Rows given rows → Fits_all given → Named (alone counts value) (Some count_at) value word given held rows waiting
+count_told None word given held rows waiting h all =
+    given_told (closed given held) put_count _ _ (settled rules (holds rows held)).rows _ false (closed_told given held rows h all)
+    (λ g r f. flag_put g (settled rules (holds rows held)).rows r f)
+count_told (Some v) word given held rows waiting h all = (kind.TooManyValues, refl, refl)
+
 abbrev help_at : Rule
 help_at = with_index 2 (filled help_rule)
 
@@ -355,13 +427,13 @@ once : (kinds after : Kinds) (k : ErrorKind) → kinds ≡ k ∷ [] → or_else 
 once kinds after k e = ap (λ l. or_else l after) e
 
 help_told : (value : Option Text) (word : Text) (given : Given) (held : Held_part) (rows : List Row) (waiting : Waiting)
-    → Rows given rows → Fits_all given → Named (request fault.Help value) (Some help_at) value word given held rows waiting
+    → Rows given rows → Fits_all given → Named (alone (asks fault.Help) value) (Some help_at) value word given held rows waiting
 help_told None word given held rows waiting h all =
     request_told (closed given held) fault.Help kind.DisplayHelp _ _ _ _ (closed_told given held rows h all) refl (λ k e. once _ _ k e)
 help_told (Some v) word given held rows waiting h all = (kind.TooManyValues, refl, refl)
 
 version_told : (value : Option Text) (word : Text) (given : Given) (held : Held_part) (rows : List Row) (waiting : Waiting)
-    → Rows given rows → Fits_all given → Named (request fault.Version value) (Some version_at) value word given held rows waiting
+    → Rows given rows → Fits_all given → Named (alone (asks fault.Version) value) (Some version_at) value word given held rows waiting
 version_told None word given held rows waiting h all =
     request_told (closed given held) fault.Version kind.DisplayVersion _ _ _ _ (closed_told given held rows h all) refl (λ k e. once _ _ k e)
 version_told (Some v) word given held rows waiting h all = (kind.TooManyValues, refl, refl)
@@ -370,21 +442,22 @@ named_told : (name : Text) (value : Option Text) (word : Text) (given : Given) (
     → Rows given rows → Fits_all given → Named (long_word name value) (arg_by_long rules name) value word given held rows waiting
 named_told name value word given held rows waiting h all =
     pick (bytes_eq (codes "workers") name) (bytes_eq (codes "block") name) (bytes_eq (codes "window") name) (bytes_eq (codes "turns") name)
-    (bytes_eq (codes "help") name) (bytes_eq (codes "version") name)
+    (bytes_eq (codes "count") name) (bytes_eq (codes "help") name) (bytes_eq (codes "version") name)
   where
-    pick : (a b c d e f : Bool) → Named
+    pick : (a b c d e f g : Bool) → Named
         (cond a (gives workers value) (cond b (gives block value) (cond c (gives window value) (cond d (gives turns value)
-        (cond e (request fault.Help value) (cond f (request fault.Version value) (errs fault.NoSuchOption)))))))
+        (cond e (alone counts value) (cond f (alone (asks fault.Help) value) (cond g (alone (asks fault.Version) value) (errs fault.NoSuchOption))))))))
         (cond (a || false) (Some (rule_at workers)) (cond (b || false) (Some (rule_at block)) (cond (c || false) (Some (rule_at window)) (cond (d || false) (Some (rule_at turns))
-        (cond (e || false) (Some help_at) (cond (f || false) (Some version_at) None))))))
+        (cond (e || false) (Some count_at) (cond (f || false) (Some help_at) (cond (g || false) (Some version_at) None)))))))
         value word given held rows waiting
-    pick true b c d e f = part_told workers value word given held rows waiting h all
-    pick false true c d e f = part_told block value word given held rows waiting h all
-    pick false false true d e f = part_told window value word given held rows waiting h all
-    pick false false false true e f = part_told turns value word given held rows waiting h all
-    pick false false false false true f = help_told value word given held rows waiting h all
-    pick false false false false false true = version_told value word given held rows waiting h all
-    pick false false false false false false = (kind.UnknownArgument, refl, refl)
+    pick true b c d e f g = part_told workers value word given held rows waiting h all
+    pick false true c d e f g = part_told block value word given held rows waiting h all
+    pick false false true d e f g = part_told window value word given held rows waiting h all
+    pick false false false true e f g = part_told turns value word given held rows waiting h all
+    pick false false false false true f g = count_told value word given held rows waiting h all
+    pick false false false false false true g = help_told value word given held rows waiting h all
+    pick false false false false false false true = version_told value word given held rows waiting h all
+    pick false false false false false false false = (kind.UnknownArgument, refl, refl)
 
 -- ---- a file, or a value
 
@@ -553,37 +626,90 @@ read_told (word ∷ words) line w s =
 
 -- ---- what clap looks at behind the words
 
-kept_rows : (rs : List Rule) (rows : List Row) → list_all (λ a. is_empty a.defaults) rs ≡ true → fold with_default rows rs ≡ rows
-kept_rows [] rows e = refl
-kept_rows (a ∷ rs) rows e = go (is_empty a.defaults) refl e (λ t. kept_rows rs rows t)
+abbrev has_no_default : Rule → Bool
+has_no_default a = is_empty a.defaults
+
+kept : (a : Rule) (rows : List Row) → has_no_default a ≡ true → with_default rows a ≡ rows
+kept a rows e = go a.defaults e (has_row a.id rows)
   where
-    row : (xs : List Text) → is_empty xs ≡ true → (b : Bool) → cond b rows (default_rows a.id (reading_by a) xs rows) ≡ rows
-    row [] n true = refl
-    row [] n false = refl
-    row (x ∷ xs) n b =
+    go : (xs : List Text) → is_empty xs ≡ true → (b : Bool) → cond b rows (default_rows a.id (reading_by a) xs rows) ≡ rows
+    go [] n true = refl
+    go [] n false = refl
+    go (x ∷ xs) n b =
         let bad : suc (length xs) ≡ 0 = (Decides-eqb (suc (length xs)) 0).0 n in
         absurd (omega arith)
 
-    go : (b : Bool) → is_empty a.defaults ≡ b → (b && list_all (λ r. is_empty r.defaults) rs) ≡ true
-        → (list_all (λ r. is_empty r.defaults) rs ≡ true → fold with_default rows rs ≡ rows) → fold with_default (with_default rows a) rs ≡ rows
-    go true n t ih = ap (λ l. fold with_default l rs) (row a.defaults n (has_row a.id rows)) ∙ ih t
-    go false n t ih = absurd (true≢false (sym t))
-
-no_defaults : (rs : List Rule) (rows : List Row) → list_all (λ a. is_empty a.defaults) rs ≡ true → defaults_fault rows rs ≡ []
-unfolding defaults_fault
-no_defaults [] rows e = refl
-no_defaults (a ∷ rs) rows e = go (is_empty a.defaults) refl e (λ t. no_defaults rs (with_default rows a) t)
+kept_rows : (rs : List Rule) (rows : List Row) → list_all has_no_default rs ≡ true → fold with_default rows rs ≡ rows
+kept_rows [] rows e = refl
+kept_rows (a ∷ rs) rows e = go (has_no_default a) refl e (λ t. kept_rows rs rows t)
   where
-    given : Bool → Kinds
-    given b = cond b [] (given_default_fault a a.defaults)
-
-    go : (b : Bool) → is_empty a.defaults ≡ b → (b && list_all (λ r. is_empty r.defaults) rs) ≡ true
-        → (list_all (λ r. is_empty r.defaults) rs ≡ true → defaults_fault (with_default rows a) rs ≡ [])
-        → or_else (given (has_row a.id rows || is_empty a.defaults)) (defaults_fault (with_default rows a) rs) ≡ []
-    go true n t ih =
-        ap (λ b. or_else (given (has_row a.id rows || b)) (defaults_fault (with_default rows a) rs)) n
-        ∙ ap (λ b. or_else (given b) (defaults_fault (with_default rows a) rs)) (or-true (has_row a.id rows)) ∙ ih t
+    go : (b : Bool) → has_no_default a ≡ b → (b && list_all has_no_default rs) ≡ true
+        → (list_all has_no_default rs ≡ true → fold with_default rows rs ≡ rows) → fold with_default (with_default rows a) rs ≡ rows
+    go true n t ih = ap (λ l. fold with_default l rs) (kept a rows n) ∙ ih t
     go false n t ih = absurd (true≢false (sym t))
+
+-- one argument alone has a default
+kept_but_one : (before after : List Rule) (one : Rule) (rows : List Row) → list_all has_no_default before ≡ true → list_all has_no_default after ≡ true
+    → fold with_default rows (before ++ one ∷ after) ≡ with_default rows one
+kept_but_one [] after one rows e none = kept_rows after (with_default rows one) none
+kept_but_one (a ∷ rs) after one rows e none = go (has_no_default a) refl e (λ t. kept_but_one rs after one rows t none)
+  where
+    go : (b : Bool) → has_no_default a ≡ b → (b && list_all has_no_default rs) ≡ true
+        → (list_all has_no_default rs ≡ true → fold with_default rows (rs ++ one ∷ after) ≡ with_default rows one)
+        → fold with_default (with_default rows a) (rs ++ one ∷ after) ≡ with_default rows one
+    go true n t ih = ap (λ l. fold with_default l (rs ++ one ∷ after)) (kept a rows n) ∙ ih t
+    go false n t ih = absurd (true≢false (sym t))
+
+-- the default is right, where there is one
+abbrev is_right : Rule → Bool
+is_right a = is_empty a.defaults || is_empty (given_default_fault a a.defaults)
+
+right_default : (a : Rule) (rows : List Row) → is_right a ≡ true → default_fault rows a ≡ []
+right_default a rows e = go (has_row a.id rows) (is_empty a.defaults) (given_default_fault a a.defaults) e
+  where
+    go : (b none : Bool) (kinds : Kinds) → (none || is_empty kinds) ≡ true → cond (b || none) [] kinds ≡ []
+    go b true kinds t = ap (λ c. cond c [] kinds) (or-true b)
+    go true false kinds t = refl
+    go false false [] t = refl
+    go false false (k ∷ ks) t =
+        let bad : suc (length ks) ≡ 0 = (Decides-eqb (suc (length ks)) 0).0 t in
+        absurd (omega arith)
+
+right_defaults : (rs : List Rule) (rows : List Row) → list_all is_right rs ≡ true → defaults_fault rows rs ≡ []
+unfolding defaults_fault
+right_defaults [] rows e = refl
+right_defaults (a ∷ rs) rows e = go (is_right a) refl e (λ t. right_defaults rs (with_default rows a) t)
+  where
+    go : (b : Bool) → is_right a ≡ b → (b && list_all is_right rs) ≡ true
+        → (list_all is_right rs ≡ true → defaults_fault (with_default rows a) rs ≡ [])
+        → or_else (default_fault rows a) (defaults_fault (with_default rows a) rs) ≡ []
+    go true n t ih = ap (λ k. or_else k (defaults_fault (with_default rows a) rs)) (right_default a rows n) ∙ ih t
+    go false n t ih = absurd (true≢false (sym t))
+
+-- what is given, by clap's kinds and by its rows behind the defaults
+abbrev pub Leaves : Result Given OptionsFault → Kinds → List Row → Type 0
+Leaves (Ok given) kinds rows = (kinds ≡ []) × AreGiven given rows
+Leaves (Err f) kinds rows = (k : ErrorKind) × (kinds ≡ k ∷ []) × (fault_for k ≡ f)
+
+flag_default : (given : Given) (rows : List Row) → Rows given rows → Fits_all given → AreGiven given (with_default rows count_at)
+flag_default given rows h all = go given.count refl
+  where
+    defaulted : Bool → List Row
+    defaulted b = cond b rows (put_row DefaultValue (codes "count") (codes "false") rows)
+
+    go : (b : Bool) → given.count ≡ b → AreGiven given (defaulted (has_row (codes "count") rows))
+    go true is =
+        subst (λ b. AreGiven given (defaulted b)) (sym (has_flag given rows true h is)) (h.0, h.1 ∙ ap flag_so_far is ∙ sym (ap as_flag is), all)
+    go false is =
+        subst (λ b. AreGiven given (defaulted b)) (sym (has_flag given rows false h is)) (
+          texts_beside_flag DefaultValue (codes "false") given rows h.0,
+          flag_seen DefaultValue (codes "false") rows (h.1 ∙ ap flag_so_far is) ∙ sym (ap as_flag is),
+          all,
+        )
+
+left_told : (r : Result Given OptionsFault) (kinds : Kinds) (rows : List Row) → Comes r kinds rows → Leaves r kinds (with_default rows count_at)
+left_told (Ok given) kinds rows c = (c.0, flag_default given rows c.1 c.2)
+left_told (Err f) kinds rows c = c
 
 no_level : (stop : Option (Text × List Text)) → entered_fault (built f77run) stop ≡ []
 no_level None = refl
@@ -598,11 +724,19 @@ four a b c d e is_b is_d is_e =
     ap (λ l. or_else a (or_else l (or_else c (or_else d e)))) is_b ∙ ap (λ l. or_else a (or_else c (or_else l e))) is_d
     ∙ ap (λ l. or_else a (or_else c l)) is_e ∙ ap (or_else a) (nil_behind c)
 
-pub told : (words : List Text) → Comes (read (drop 1 words) nothing_read) (fault_of f77run words) (matches_of f77run words)
+abbrev before_count : List Rule
+before_count = rule_at workers ∷ rule_at block ∷ rule_at window ∷ rule_at turns ∷ []
+
+abbrev after_count : List Rule
+after_count = rule_at file ∷ help_at ∷ version_at ∷ []
+
+pub told : (words : List Text) → Leaves (read (drop 1 words) nothing_read) (fault_of f77run words) (matches_of f77run words)
 told words =
-    subst (λ k. Comes (read (drop 1 words) nothing_read) k (matches_of f77run words)) (sym kinds)
-    (subst (Comes (read (drop 1 words) nothing_read) (or_else (walk_fault top [] start (drop 1 words)) (settle_fault rules false end.held))) (sym (kept_rows rules (settled rules end.held).rows refl))
-    (read_told (drop 1 words) nothing_read start ([], idle, refl, (λ part. refl), refl, inl refl)))
+    subst (λ k. Leaves (read (drop 1 words) nothing_read) k (matches_of f77run words)) (sym kinds)
+    (subst (Leaves (read (drop 1 words) nothing_read) (or_else (walk_fault top [] start (drop 1 words)) (settle_fault rules false end.held)))
+    (sym (kept_but_one before_count after_count count_at (settled rules end.held).rows refl refl))
+    (left_told (read (drop 1 words) nothing_read) (or_else (walk_fault top [] start (drop 1 words)) (settle_fault rules false end.held)) (settled rules end.held).rows
+    (read_told (drop 1 words) nothing_read start ([], idle, refl, ((λ part. refl), refl), refl, inl refl))))
   where
     start : Walk
     start = standing None false [] idle
@@ -612,7 +746,7 @@ told words =
 
     kinds : fault_of f77run words ≡ or_else (walk_fault top [] start (drop 1 words)) (settle_fault rules false end.held)
     kinds =
-        four _ _ _ _ _ (no_level end.stopped) (no_defaults rules (settled rules end.held).rows refl)
+        four _ _ _ _ _ (no_level end.stopped) (right_defaults rules (settled rules end.held).rows refl)
         (ap (check_fault top (finished rules end.held)) (none_entered end.stopped))
 
 -- ---- for the callers
@@ -626,7 +760,7 @@ refused words e (inr among) = go (read (drop 1 words) nothing_read) refl (told w
     only : (k : ErrorKind) → fault_of f77run words ≡ k ∷ [] → kind_of e ≡ k
     only k one = elim (subst (IsAmong (kind_of e)) one among) [ inl is ↦ is | inr never ↦ absurd never ]
 
-    go : (r : Result Given OptionsFault) → read (drop 1 words) nothing_read ≡ r → Comes r (fault_of f77run words) (matches_of f77run words)
+    go : (r : Result Given OptionsFault) → read (drop 1 words) nothing_read ≡ r → Leaves r (fault_of f77run words) (matches_of f77run words)
         → (fault_for (kind_of e) ≡ fault.Memory) ⊎ (asked_for words ≡ Err (fault_for (kind_of e)))
     go (Ok given) is c = absurd (subst (IsAmong (kind_of e)) c.0 among)
     go (Err f) is c = inr (ap (λ r. behind r asked_by) is ∙ ap Err (sym (ap fault_for (only c.0 c.1) ∙ c.2)))
@@ -636,9 +770,9 @@ pub taken : (words : List Text) (m : ArgMatches) → fault_of f77run words ≡ [
     → (given : Given) × IsGiven given m × (asked_for words ≡ asked_by given)
 taken words m none same = go (read (drop 1 words) nothing_read) refl (told words)
   where
-    go : (r : Result Given OptionsFault) → read (drop 1 words) nothing_read ≡ r → Comes r (fault_of f77run words) (matches_of f77run words)
+    go : (r : Result Given OptionsFault) → read (drop 1 words) nothing_read ≡ r → Leaves r (fault_of f77run words) (matches_of f77run words)
         → (given : Given) × IsGiven given m × (asked_for words ≡ asked_by given)
-    go (Ok given) is c = (given, (subst (Rows given) (sym same) c.1, c.2), ap (λ r. behind r asked_by) is)
+    go (Ok given) is c = (given, subst (AreGiven given) (sym same) c.1, ap (λ r. behind r asked_by) is)
     go (Err f) is c = absurd (true≢false (sym (ap (λ (kinds : Kinds). is_empty kinds) (sym c.1 ∙ none))))
 
 first_text : (vs : List Text) → option_and_then (λ (s : List Text × Reading). option_map (read_as s.1) (slice_get s.0 0)) (as_seen vs) ≡ slice_get vs 0
@@ -649,14 +783,31 @@ first_text (v ∷ vs) = refl
 pub one_given : (given : Given) (m : ArgMatches) (part : Part) → IsGiven given m → one_text (found_of m) (name_of part) ≡ first part given
 one_given given m part h =
     one_text-rows (found_of m) (name_of part) ∙ one_of-seen (name_of part) (rows_of (found_of m))
-    ∙ ap (option_and_then (λ (s : List Text × Reading). option_map (read_as s.1) (slice_get s.0 0))) (h.0 part) ∙ first_text (values part given)
+    ∙ ap (option_and_then (λ (s : List Text × Reading). option_map (read_as s.1) (slice_get s.0 0))) (h.0 part) ∙ first_text (values part given.texts)
+
+-- and so the flag
+pub flag_is : (given : Given) (m : ArgMatches) (result : Bool) → IsGiven given m
+    → (one_text (found_of m) (codes "count") ≡ Some (codes "true") → result ≡ true)
+    → (one_text (found_of m) (codes "count") ≡ Some (codes "false") → result ≡ false) → result ≡ given.count
+flag_is given m result h on off = go given.count refl
+  where
+    text : Option (List Text × Reading) → Option Text
+    text = option_and_then (λ (s : List Text × Reading). option_map (read_as s.1) (slice_get s.0 0))
+
+    read_text : (b : Bool) → given.count ≡ b → one_text (found_of m) (codes "count") ≡ text (as_flag b)
+    read_text b is =
+        one_text-rows (found_of m) (codes "count") ∙ one_of-seen (codes "count") (rows_of (found_of m)) ∙ ap text (h.1 ∙ ap as_flag is)
+
+    go : (b : Bool) → given.count ≡ b → result ≡ given.count
+    go true is = on (read_text true is) ∙ sym is
+    go false is = off (read_text false is) ∙ sym is
 
 abbrev pub texts_of : List Text → Option (List Text)
 texts_of vs = option_map (λ (s : List Text × Reading). s.0) (as_seen vs)
 
 -- and so the files
 pub files_given : (given : Given) (m : ArgMatches) → IsGiven given m
-    → option_map raw_values (matched_of (found_of m) (codes "FILE")) ≡ texts_of (values file given)
+    → option_map raw_values (matched_of (found_of m) (codes "FILE")) ≡ texts_of (values file given.texts)
 files_given given m h =
     raw_values-rows (found_of m) (codes "FILE") ∙ all_of-seen (codes "FILE") (rows_of (found_of m)) ∙ ap (option_map (λ (s : List Text × Reading). s.0)) (h.0 file)
 
@@ -701,7 +852,7 @@ same_greatest turns turns e = refl
 same_greatest file file e = refl
 same_greatest a b e = absurd (true≢false (sym e))
 
-first_fits : (part : Part) (given : Given) (v : Text) (most : ℕ) → greatest part ≡ Some most → Fits_all given → first part given ≡ Some v → is_in most v ≡ true
+first_fits : (part : Part) (given : Texts) (v : Text) (most : ℕ) → greatest part ≡ Some most → list_all fits given ≡ true → slice_get (values part given) 0 ≡ Some v → is_in most v ≡ true
 first_fits part [] v most known h is = absurd (true≢false (sym (ap is_some is)))
 first_fits part (g ∷ gs) v most known h is =
     go (bytes_eq (name_of g.0) (name_of part)) refl (fits g) refl h is (λ t i. first_fits part gs v most known t i)
@@ -741,7 +892,7 @@ number_is G given m part name default result r only h known none some is = go (f
 
     most : (o : Option ℕ) → greatest part ≡ o → is_some o ≡ true → (v : Text) → first part given ≡ Some v → r ≡ Some (number_of v)
     most None e s v f = absurd (true≢false (sym s))
-    most (Some n) e s v f = reads_u64 G v r (some v (text ∙ f)) only n (small_enough part n e) (first_fits part given v n e h.1 f)
+    most (Some n) e s v f = reads_u64 G v r (some v (text ∙ f)) only n (small_enough part n e) (first_fits part given.texts v n e h.2 f)
 
     go : (o : Option Text) → first part given ≡ o → result ≡ option_map_or number_of o (default_of part)
     go None f = is ∙ ap (λ x. unwrap_or x default) (none (text ∙ f)) ∙ known.1

@@ -2,7 +2,7 @@
 use Rattle.std.specs.Prelude.{ℕ, Some, codes, true}
 use Rattle.clap.specs.Walk.{Rule, Text}
 use Rattle.clap.specs.Simple.{App, new_app, new_rule, with_rule}
-use Rattle.clap.specs.declared.builder.action.ArgAction.TheVariants.{Set, Append}
+use Rattle.clap.specs.declared.builder.action.ArgAction.TheVariants.{Set, SetTrue, Append}
 use Rattle.clap.specs.declared.builder.value_parser.ValueParser.TheVariants as vp
 use Rattle.clap.specs.declared.error.kind.ErrorKind.{ErrorKind}
 use Rattle.clap.specs.declared.error.kind.ErrorKind.TheVariants as kind
@@ -17,6 +17,13 @@ number_rule name most = record (new_rule name) {
   parser = Some (vp.Unsigned 1 most);
 }
 
+-- the flag, which clap gives the value `true`, and `false` where it doesn't stand among the words
+abbrev pub count_rule : Rule
+count_rule = record (new_rule (codes "count")) {
+  long = Some (codes "count");
+  action = Some SetTrue;
+}
+
 abbrev pub file_rule : Rule
 file_rule = record (new_rule (codes "FILE")) { action = Some Append }
 
@@ -27,8 +34,8 @@ abbrev pub versioned : App
 versioned = record bare_app { top = record bare_app.top { has_version = true } }
 
 abbrev pub f77run : App
-f77run = with_rule (with_rule (with_rule (with_rule (with_rule versioned (number_rule (codes "workers") 64)) (number_rule (codes "block") 1000000))
-    (number_rule (codes "window") 256)) (number_rule (codes "turns") 1000000000000)) file_rule
+f77run = with_rule (with_rule (with_rule (with_rule (with_rule (with_rule versioned (number_rule (codes "workers") 64)) (number_rule (codes "block") 1000000))
+    (number_rule (codes "window") 256)) (number_rule (codes "turns") 1000000000000)) count_rule) file_rule
 
 abbrev pub fault_for : ErrorKind → OptionsFault
 fault_for kind.DisplayHelp = fault.Help

@@ -55,6 +55,8 @@ pub data Word : Type 0 where
   ends : Word
   -- `--name` or `--name=value` of an option
   gives : Part → Option Text → Word
+  -- the flag, `--count`
+  counts : Word
   -- `--help`, `-h`, `--version`, `-V`
   asks : OptionsFault → Word
   -- any other word that begins with a minus sign, but for the sign alone
@@ -62,10 +64,10 @@ pub data Word : Type 0 where
   -- a number or a file
   loose : Word
 
--- a request takes no value
-abbrev pub request : OptionsFault → Option Text → Word
-request wanted None = asks wanted
-request wanted (Some value) = errs fault.NeedlessValue
+-- the flag takes no value, and a request takes none
+abbrev pub alone : Word → Option Text → Word
+alone word None = word
+alone word (Some value) = errs fault.NeedlessValue
 
 abbrev pub long_word : Text → Option Text → Word
 long_word name value =
@@ -73,9 +75,10 @@ long_word name value =
     else (if bytes_eq (codes "block") name then gives block value
     else (if bytes_eq (codes "window") name then gives window value
     else (if bytes_eq (codes "turns") name then gives turns value
-    else (if bytes_eq (codes "help") name then request fault.Help value
-    else (if bytes_eq (codes "version") name then request fault.Version value
-    else errs fault.NoSuchOption)))))
+    else (if bytes_eq (codes "count") name then alone counts value
+    else (if bytes_eq (codes "help") name then alone (asks fault.Help) value
+    else (if bytes_eq (codes "version") name then alone (asks fault.Version) value
+    else errs fault.NoSuchOption))))))
 
 -- by the character behind the minus sign: h (104) or V (86)
 abbrev pub letter_word : Option ℕ → Word
@@ -96,8 +99,14 @@ word_of word = if bytes_eq word (45 ∷ 45 ∷ []) then ends else long_or_short 
 
 -- ---- the words one after another
 
-abbrev pub Given : Type 0
-Given = List (Part × Text)
+-- the texts of options and files, in their order
+abbrev pub Texts : Type 0
+Texts = List (Part × Text)
+
+-- these, and whether the flag is given
+pub record Given : Type 0 where
+  pub texts : Texts
+  pub count : Bool
 
 -- what was given so far, the option or file named last, which is still held, and whether all that follows are files
 pub record Line : Type 0 where
@@ -105,12 +114,12 @@ pub record Line : Type 0 where
   pub held : Option (Part × Option Text)
   pub only_files : Bool
 
-abbrev pub values : Part → Given → List Text
+abbrev pub values : Part → Texts → List Text
 values part [] = []
 values part (g ∷ gs) = if bytes_eq (name_of g.0) (name_of part) then g.1 ∷ values part gs else values part gs
 
 abbrev pub first : Part → Given → Option Text
-first part given = slice_get (values part given) 0
+first part given = slice_get (values part given.texts) 0
 
 -- digits, behind a plus sign or not
 abbrev pub is_number : Text → Bool
@@ -128,18 +137,25 @@ abbrev pub behind : {X Y : Type 0} → Result X OptionsFault → (X → Result Y
 behind (Ok x) next = next x
 behind (Err f) next = Err f
 
+abbrev pub with_text : Part → Text → Given → Given
+with_text part value given = record given { texts = given.texts ++ (part, value) ∷ [] }
+
 abbrev pub put_if : Bool → Bool → Part → Text → Given → Result Given OptionsFault
 put_if true fits part value given = Err fault.GivenTwice
-put_if false true part value given = Ok (given ++ (part, value) ∷ [])
+put_if false true part value given = Ok (with_text part value given)
 put_if false false part value given = Err fault.BadNumber
 
 -- an option is given once, with a number in its range; files are any texts
 abbrev pub put_under : Option ℕ → Part → Text → Given → Result Given OptionsFault
 put_under (Some most) part value given = put_if (is_some (first part given)) (is_in most value) part value given
-put_under None part value given = Ok (given ++ (part, value) ∷ [])
+put_under None part value given = Ok (with_text part value given)
 
 abbrev pub put : Part → Text → Given → Result Given OptionsFault
 put part value given = put_under (greatest part) part value given
+
+-- the flag is given once
+abbrev pub put_count : Given → Result Given OptionsFault
+put_count given = if given.count then Err fault.GivenTwice else Ok (record given { count = true })
 
 -- what is held comes to an end
 abbrev pub closed : Given → Option (Part × Option Text) → Result Given OptionsFault
@@ -153,10 +169,14 @@ closed_line line = closed line.given line.held
 abbrev pub holding : Line → Option (Part × Option Text) → Result Line OptionsFault
 holding line next = behind (closed_line line) (λ given. Ok (record line { given = given; held = next }))
 
+-- the word is complete by itself, and nothing is held behind it
+abbrev pub putting : Line → (Given → Result Given OptionsFault) → Result Line OptionsFault
+putting line next =
+    behind (closed_line line) (λ given. behind (next given) (λ more. Ok (record line { given = more; held = None })))
+
 abbrev pub give : Part → Option Text → Line → Result Line OptionsFault
 give part None line = holding line (Some (part, None))
-give part (Some value) line =
-    behind (closed_line line) (λ given. behind (put part value given) (λ more. Ok (record line { given = more; held = None })))
+give part (Some value) line = putting line (put part value)
 
 -- the value of an option that has none yet, or a file
 abbrev pub take : Text → Option (Part × Option Text) → Line → Result Line OptionsFault
@@ -166,6 +186,7 @@ take word other line = holding line (Some (file, Some word))
 abbrev pub meet : Word → Text → Line → Result Line OptionsFault
 meet ends word line = Ok (record line { only_files = true })
 meet (gives part value) word line = give part value line
+meet counts word line = putting line put_count
 meet (asks wanted) word line = behind (closed_line line) (λ given. Err wanted)
 meet (errs wrong) word line = Err wrong
 meet loose word line = take word line.held line
@@ -182,19 +203,26 @@ read (word ∷ words) line = behind (moved word line) (read words)
 abbrev pub number_in : Part → Given → ℕ
 number_in part given = option_map_or number_of (first part given) (default_of part)
 
-abbrev pub with_file : Option Text → Option PlanNumbers → Result (PlanNumbers × Option Text) OptionsFault
-with_file named (Some plan) = Ok (plan, named)
-with_file named None = Err fault.BadNumber
+-- the plan, the file, and whether the flag is given
+abbrev pub Asked : Type 0
+Asked = PlanNumbers × Option Text × Bool
 
-abbrev pub asked_by : Given → Result (PlanNumbers × Option Text) OptionsFault
+abbrev pub with_plan : Given → Option PlanNumbers → Result Asked OptionsFault
+with_plan given (Some plan) = Ok (plan, first file given, given.count)
+with_plan given None = Err fault.BadNumber
+
+abbrev pub asked_by : Given → Result Asked OptionsFault
 asked_by given =
-    if nat_lt 1 (length (values file given)) then Err fault.TooManyFiles
-    else with_file (first file given)
+    if nat_lt 1 (length (values file given.texts)) then Err fault.TooManyFiles
+    else with_plan given
     (plan_of (number_in workers given) (number_in block given) (number_in window given) (number_in turns given))
 
-abbrev pub nothing_read : Line
-nothing_read = record { given = []; held = None; only_files = false }
+abbrev pub nothing_given : Given
+nothing_given = record { texts = []; count = false }
 
--- the plan and the file of a command line, the first word of which is the program's name
-abbrev pub asked_for : List Text → Result (PlanNumbers × Option Text) OptionsFault
+abbrev pub nothing_read : Line
+nothing_read = record { given = nothing_given; held = None; only_files = false }
+
+-- what a command line asks for, the first word of which is the program's name
+abbrev pub asked_for : List Text → Result Asked OptionsFault
 asked_for words = behind (read (drop 1 words) nothing_read) asked_by

@@ -1,5 +1,5 @@
 -- How the matches of clap hold what the words give.
-use Rattle.std.specs.Prelude.{◌≡◌, ℕ, Bool, true, false, nat_lt, length, is_some, List, [], ◌∷◌, Option, Some, None, if◌then◌else◌}
+use Rattle.std.specs.Prelude.{◌≡◌, ℕ, Bool, true, false, nat_lt, length, is_some, List, [], ◌∷◌, Option, Some, None, if◌then◌else◌, codes}
 use Rattle.std.specs.List.{list_all}
 use Rattle.std.specs.Str.{bytes_eq}
 use Rattle.clap.specs.Walk.{Row, rows_of}
@@ -7,10 +7,9 @@ use Rattle.clap.specs.Matches.{found_of}
 use Rattle.clap.specs.declared.builder.value_parser.Reading.{Reading}
 use Rattle.clap.specs.declared.builder.value_parser.Reading.TheVariants.{AsWritten}
 use Rattle.clap.specs.declared.parser.matches.ArgMatches.{ArgMatches}
-use Rattle.command_line.specs.CommandLine.{Given, Part, Text, default_of, file, first, greatest, is_in, name_of, values}
+use Rattle.command_line.specs.CommandLine.{Asked, Given, Part, Text, default_of, file, first, greatest, is_in, name_of, values}
 use Rattle.command_line.specs.declared.asked.OptionsFault.{OptionsFault}
 use Rattle.command_line.specs.declared.asked.Options.{Options}
-use Rattle.meaning.specs.Plans.{PlanNumbers}
 use Rattle.std.specs.Borrow.{Bor}
 use Rattle.std.specs.Prelude.{Result, Ok, Err, MatchResult, map, option_map}
 use Rattle.command_line.specs.declared.asked.OptionsFault.TheVariants as fault
@@ -24,9 +23,17 @@ abbrev pub as_seen : List Text → Option (List Text × Reading)
 as_seen [] = None
 as_seen (v ∷ vs) = Some (v ∷ vs, AsWritten)
 
--- the rows hold what was given
-abbrev pub Rows : Given → List Row → Type 0
-Rows given rows = (part : Part) → seen (name_of part) rows ≡ as_seen (values part given)
+-- the rows hold the texts that were given
+abbrev pub HoldTexts : Given → List Row → Type 0
+HoldTexts given rows = (part : Part) → seen (name_of part) rows ≡ as_seen (values part given.texts)
+
+-- a flag that isn't given has the value `false`
+abbrev pub as_flag : Bool → Option (List Text × Reading)
+as_flag true = Some (codes "true" ∷ [], AsWritten)
+as_flag false = Some (codes "false" ∷ [], AsWritten)
+
+abbrev pub HoldFlag : Given → List Row → Type 0
+HoldFlag given rows = seen (codes "count") rows ≡ as_flag given.count
 
 -- the numbers that were given are in their ranges
 abbrev pub fits_under : Option ℕ → Text → Bool
@@ -37,27 +44,30 @@ abbrev pub fits : Part × Text → Bool
 fits g = fits_under (greatest g.0) g.1
 
 abbrev pub Fits_all : Given → Type 0
-Fits_all given = list_all fits given ≡ true
+Fits_all given = list_all fits given.texts ≡ true
+
+abbrev pub AreGiven : Given → List Row → Type 0
+AreGiven given rows = HoldTexts given rows × HoldFlag given rows × Fits_all given
 
 abbrev pub IsGiven : Given → ArgMatches → Type 0
-IsGiven given matches = Rows given (rows_of (found_of matches)) × Fits_all given
+IsGiven given matches = AreGiven given (rows_of (found_of matches))
 
 -- the name of an option that takes a number, and its default
 abbrev pub IsNumber : Part → Text → ℕ → Type 0
 IsNumber part name default = (name ≡ name_of part) × (default ≡ default_of part) × (is_some (greatest part) ≡ true)
 
 abbrev pub IsOneFile : Given → Option Text → Type 0
-IsOneFile given named = (nat_lt 1 (length (values file given)) ≡ false) × (named ≡ first file given)
+IsOneFile given named = (nat_lt 1 (length (values file given.texts)) ≡ false) × (named ≡ first file given)
 
 abbrev pub AreTooMany : Given → OptionsFault → Type 0
-AreTooMany given e = (nat_lt 1 (length (values file given)) ≡ true) × (e ≡ fault.TooManyFiles)
+AreTooMany given e = (nat_lt 1 (length (values file given.texts)) ≡ true) × (e ≡ fault.TooManyFiles)
 
 abbrev pub texts_in : List (Bor Text) → List Text
 texts_in = map (λ word. word.now)
 
--- the numbers of the plan, and the file
-abbrev pub shown : Options → PlanNumbers × Option Text
-shown o = (o.plan, option_map (λ name. name.now) o.file)
+-- the numbers of the plan, the file and the flag
+abbrev pub shown : Options → Asked
+shown o = (o.plan, option_map (λ name. name.now) o.file, o.count)
 
-abbrev pub AsksFor : Result (PlanNumbers × Option Text) OptionsFault → Result Options OptionsFault → Type 0
+abbrev pub AsksFor : Result Asked OptionsFault → Result Options OptionsFault → Type 0
 AsksFor asked result = MatchResult result (λ o. asked ≡ Ok (shown o)) (λ e. asked ≡ Err e)

@@ -18,10 +18,10 @@ pub enum OptionsFault {
     /// An option that takes a number has none behind it.
     #[error("an option stands without its number; f77run --help lists the options")]
     NoNumber,
-    /// `--help=value` or `--version=value`.
-    #[error("--help and --version take no value")]
+    /// `--count=value`, `--help=value` or `--version=value`.
+    #[error("--count, --help and --version take no value")]
     NeedlessValue,
-    /// An option that takes a number is given a second time.
+    /// `--count` or an option that takes a number is given a second time.
     #[error("an option is given twice")]
     GivenTwice,
     /// What is given for a number isn't one, or lies outside the option's range.
@@ -45,4 +45,6 @@ pub struct Options<'a> {
     pub plan: Plan,
     /// The file with the source; standard input where none is named.
     pub file: Option<&'a str>,
+    /// Whether `--count` stands among the words.
+    pub count: bool,
 }

@@ -17,6 +17,7 @@ Options, with their ranges and what stands for those that are not given:
   --block N      1 to 1000000, 64: the trips of a loop in a worker's block
   --window N     1 to 256, 8: the blocks that are tried at a time
   --turns N      1 to 1000000000000, 1000000000: the turns that the program has
+  --count        tells behind the ending how many turns the program used
   -h, --help     shows this text
   -V, --version  shows the version
 With two workers or more, DO loops without output are tried in parallel, DO WHILE apart;
@@ -52,7 +53,7 @@ Rules, which a source is refused for breaking:
   K4   a name that is given too much or used against what it is; IMPLICIT NONE beside IMPLICIT
   K5   an operand, argument, condition, subscript, bound, limit or value of the wrong type
   K6   an integer constant above 2147483647, or a bound or PARAMETER value that is no constant expression or that faults
-  K7   more than seven dimensions, a lower bound above the upper one, or more than 1048576 elements of arrays
+  K7   more than seven dimensions, a lower bound above the upper one, or more than 16777216 elements of arrays
   K8   a wrong number of subscripts or arguments, or an array's name alone
   K9   a DO variable that is no INTEGER variable, or that is set within its range
   K10  a DATA statement that doesn't give each of its variables and elements one value of its type

@@ -3,7 +3,7 @@
 ghost use Rattle.std.specs.Prelude.{◌≡◌, ◌⊎◌, IfErr, IfOk, MatchResult, Ok, Err, option_map, false};
 ghost use Rattle.clap.specs.Words.{app_of, rule_of};
 ghost use Rattle.command_line.specs.declared.asked.OptionsFault.TheVariants.{Memory};
-ghost use Rattle.command_line.specs.Command.{f77run, fault_for, file_rule, number_rule};
+ghost use Rattle.command_line.specs.Command.{count_rule, f77run, fault_for, file_rule, number_rule};
 ghost use Rattle.command_line.specs.CommandLine.{Given, Part, asked_by, asked_for, number_in};
 ghost use Rattle.command_line.specs.Matches.{AreTooMany, AsksFor, IsGiven, IsNumber, IsOneFile};
 ghost use Rattle.command_line.specs.Matches.{shown, texts_in};
@@ -18,7 +18,8 @@ use std::alloc::{AllocError, Global};
 /// Reads a command line, the first word of which is the program's name: options and a file in any order, each option once at
 /// most. `--workers` (1 to 64; 4 where it isn't given), `--block` (1 to 1,000,000; 64), `--window` (1 to 256; 8) and
 /// `--turns` (1 to 1,000,000,000,000; 1,000,000,000) take a number as `--turns 5` or `--turns=5`, in digits with a plus
-/// sign in front or not. Behind `--` each word is a file, and a minus sign alone is one too.
+/// sign in front or not. `--count` takes none, and is false where it isn't given. Behind `--` each word is a file, and a
+/// minus sign alone is one too.
 ///
 /// # Errors
 ///
@@ -45,6 +46,7 @@ fn command<'a>(alloc: Global) -> Result<Command<'a>, AllocError>
         .arg(number(alloc, "block", 1_000_000))?
         .arg(number(alloc, "window", 256))?
         .arg(number(alloc, "turns", 1_000_000_000_000))?
+        .arg(count(alloc))?
         .arg(files(alloc))
 }
 
@@ -57,6 +59,16 @@ fn number<'a>(alloc: Global, name: &'a str, most: u64) -> Arg<'a>
         .long(name)
         .action(ArgAction::Set)
         .value_parser(ValueParser::unsigned(1, most))
+}
+
+// The flag. It has no number.
+fn count<'a>(alloc: Global) -> Arg<'a>
+    ensures rule { rule_of result ≡ count_rule }
+    ensures local { result.global ≡ false }
+{
+    Arg::new(alloc, "count")
+        .long("count")
+        .action(ArgAction::SetTrue)
 }
 
 // The files. Any number of them is read, so that a second one is a fault of its own.
@@ -88,6 +100,7 @@ fn asked<'a>(matches: &ArgMatches<'a>) -> Result<Options<'a>, OptionsFault>
     ensures { (given : Given) → IsGiven given matches.now → AsksFor (asked_by given) result }
 {
     let file = file_given(matches)?;
+    let count = count_given(matches);
     let plan = Plan::new(
         number_given(matches, "workers", 4),
         number_given(matches, "block", 64),
@@ -95,7 +108,7 @@ fn asked<'a>(matches: &ArgMatches<'a>) -> Result<Options<'a>, OptionsFault>
         number_given(matches, "turns", 1_000_000_000),
     );
     match plan {
-        Some(plan) => Ok(Options { plan, file }),
+        Some(plan) => Ok(Options { plan, file, count }),
         None => Err(OptionsFault::BadNumber),
     }
 }
@@ -106,6 +119,13 @@ fn number_given(matches: &ArgMatches<'_>, name: &str, default: u64) -> u64
         → IsNumber part name.now default → result ≡ number_in part given }
 {
     matches.get_one::<u64>(name).unwrap_or(default)
+}
+
+// Whether the flag is given.
+fn count_given(matches: &ArgMatches<'_>) -> bool
+    ensures { (given : Given) → IsGiven given matches.now → result ≡ given.count }
+{
+    matches.get_flag("count")
 }
 
 // The file, where one is named.

@@ -14,7 +14,7 @@ use Rattle.meaning.proofs.Least.{least-append, merge-merge}
 use Rattle.data_rules.specs.declared.filling.Filling.{Filling}
 use Rattle.data_rules.specs.declared.starting.Passed.{Passed}
 use Rattle.data_rules.specs.DataPassed.{IsFilledOr, IsPassed, comes_first}
-use Rattle.data_rules.specs.DataSets.{IsFilledBy, fill_sets, stage_by}
+use Rattle.data_rules.specs.DataSets.{IsFilledBy, fill_sets, nothing, stage_by}
 use Rattle.data_rules.proofs.DataPairing.{stage}
 use Rattle.data_rules.proofs.DataStarting.{bad_data, filled_none, good_data}
 use Rattle.rule_passes.proofs.Passes.{told-push, told_none}
@@ -82,7 +82,7 @@ merge_none None = refl
 merge_none (Some b) = refl
 
 -- in front of all statements
-pub none_passed : (r : Roles) (o : Option Broken) (f : Filling) → stage_by f ≡ stage (λ n i. false) [] [] → IsPassed r o [] (record { broken = o; filling = Some f })
+pub none_passed : (r : Roles) (o : Option Broken) (f : Filling) → stage_by f ≡ stage nothing [] → IsPassed r o [] (record { broken = o; filling = Some f })
 none_passed r o f is = record {
   broken = merge_none o ∙ ap (λ bs. merge o (least bs)) (sym (told_none (has_bad_data r) K10));
   filling = subst (IsFilledBy r []) (sym is) (filled_none r);

@@ -1,21 +1,12 @@
--- The places of elements and the values that they are given.
-use Rattle.std.proofs.Common.{◌≡◌, ℕ, suc, ◌+◌, ◌-◌, ◌*◌, ◌<◌, ℤ, List, ◌∷◌, Option, Some, None, refl, sym, ap, ◌∙◌, arith}
+-- The places of elements.
+use Rattle.std.proofs.Common.{◌≡◌, ℕ, ◌+◌, ◌*◌, ℤ, List, ◌∷◌, Option, Some, None, refl, sym, ap, ◌∙◌}
 use Rattle.std.specs.Prelude.{if◌then◌else◌, is_some}
-use Rattle.std.specs.List.{range_with_len}
 use Rattle.meaning.specs.Arrays.{Dimension, above, combined, extent, place}
 use Rattle.meaning.specs.Syntax.{ExprTree, ExprsTree, exprs}
 use Rattle.meaning.specs.Types.{Types}
 use Rattle.meaning.specs.Values.{Known}
 use Rattle.meaning.specs.Initial.{and_also, known_subscripts, known_value, subscript_in}
 use Rattle.data_rules.specs.DataPlaces.{place_known}
-use Rattle.data_rules.specs.DataStages.{Stage, give, give_places}
-
--- ---- one place after another
-
-pub give_step : (types : Types) (n : List ℕ) (i m : ℕ) (s : Stage) → i < m → give_places types n (range_with_len i (m - i)) s ≡ and_also (give types n i s) (give_places types n (range_with_len (i + 1) (m - (i + 1))))
-give_step types n i m s lt =
-    let more : m - i ≡ suc (m - (i + 1)) = omega (arith, lt) in
-    ap (λ k. give_places types n (range_with_len i k) s) more
 
 -- ---- the place that subscripts lead to
 

@@ -1,14 +1,15 @@
 -- DATA statements break their rule exactly where the sets aren't filled.
-use Rattle.std.proofs.Common.{◌≡◌, Bool, true, false, ◌&&◌, ◌||◌, List, [], ◌∷◌, ◌++◌, map, append_assoc, Option, Some, None, refl, sym, ap, ap₂, subst, ◌∙◌}
-use Rattle.std.specs.Prelude.{◌==◌, if◌then◌else◌, is_none, unwrap_or}
+use Rattle.std.proofs.Common.{◌≡◌, Bool, true, false, ◌&&◌, ◌||◌, List, [], ◌∷◌, ◌++◌, append_assoc, Option, Some, None, refl, sym, ap, ap₂, subst, ◌∙◌}
+use Rattle.std.specs.Prelude.{◌==◌, if◌then◌else◌, is_none, is_some, unwrap_or}
 use Rattle.std.specs.List.{list_any}
 use Rattle.std.specs.Cmp.Lexicographic.{pointwise}
 use Rattle.std.specs.Ordering.{int_eq}
 use Rattle.std.specs.Str.{bytes_eq}
 use Rattle.std.proofs.lemmas.Bool.Decides.{Decides-eqb, Decides-int_eq}
-use Rattle.std.proofs.lemmas.List.{append-nil, map-append}
+use Rattle.std.proofs.lemmas.List.{append-nil}
 use Rattle.std.proofs.lemmas.List.Folds.{list_any-append}
 use Rattle.std.proofs.lemmas.Slice.Eq.{bytes_eq-Decides, slice_eq-Decides}
+use Rattle.meaning.specs.declared.ending.Value.{Value}
 use Rattle.meaning.specs.Arrays.{AreOneToOne, place}
 use Rattle.meaning.specs.Syntax.{ItemTree}
 use Rattle.meaning.specs.Typing.{Names}
@@ -17,8 +18,8 @@ use Rattle.meaning.specs.Values.{dimensions_in}
 use Rattle.meaning.specs.NumberRules.{known_behind_all}
 use Rattle.meaning.specs.Initial.{Start, and_also, given_twice, has_bad_data, same_target, sets_of, starts_at, starts_from, starts_or_none}
 use Rattle.meaning.proofs.Elements.{one_to_one}
-use Rattle.data_rules.specs.DataSets.{Agrees, HasPlace, IsFilledBy, fill_sets, given_by, place_at}
-use Rattle.data_rules.specs.DataStages.{Given, Marks, Stage, with_mark}
+use Rattle.data_rules.specs.DataSets.{Agrees, HasPlace, IsFilledBy, fill_sets, given_behind, given_by, nothing, place_at, place_of}
+use Rattle.data_rules.specs.DataStages.{Found, Stage, with_found}
 use Rattle.data_rules.proofs.DataPairing.{Each, IfEach, accept, sets_filled, sets_placed, stage}
 use Rattle.rule_passes.proofs.Membership.{or_false, or_swap}
 
@@ -37,65 +38,73 @@ same_test true b f g = sym (f refl)
 same_test false true f g = g refl
 same_test false false f g = refl
 
+is_given : (b : Bool) (v : Value) (o : Option Value) → is_some (if b then Some v else o) ≡ (b || is_some o)
+is_given true v o = refl
+is_given false v o = refl
+
 module _ (ns : Names) where
   -- a place of a name is that of one target
-  same_place : (s t : Start) → HasPlace ns s.target → HasPlace ns t.target → (bytes_eq t.target.name s.target.name && ((given_by ns s).place == (given_by ns t).place)) ≡ same_target s.target t.target
+  pub same_place : (s t : Start) → HasPlace ns s.target → HasPlace ns t.target → (bytes_eq t.target.name s.target.name && (place_of ns s == place_of ns t)) ≡ same_target s.target t.target
   same_place s t at_s at_t =
-      same_test (bytes_eq t.target.name s.target.name && ((given_by ns s).place == (given_by ns t).place)) (same_target s.target t.target) forth back
+      same_test (bytes_eq t.target.name s.target.name && (place_of ns s == place_of ns t)) (same_target s.target t.target) forth back
     where
-      known : (u : Start) → HasPlace ns u.target → place_at ns u.target ≡ Some (given_by ns u).place
+      known : (u : Start) → HasPlace ns u.target → place_at ns u.target ≡ Some (place_of ns u)
       known u at = at.1 ∙ ap Some (sym (ap (λ o. unwrap_or o 0) at.1))
 
-      forth : (bytes_eq t.target.name s.target.name && ((given_by ns s).place == (given_by ns t).place)) ≡ true → same_target s.target t.target ≡ true
+      forth : (bytes_eq t.target.name s.target.name && (place_of ns s == place_of ns t)) ≡ true → same_target s.target t.target ≡ true
       forth h =
-          let both = and_parts (bytes_eq t.target.name s.target.name) ((given_by ns s).place == (given_by ns t).place) h in
+          let both = and_parts (bytes_eq t.target.name s.target.name) (place_of ns s == place_of ns t) h in
           let names : s.target.name ≡ t.target.name = sym ((bytes_eq-Decides t.target.name s.target.name).0 both.0) in
-          let places = (Decides-eqb (given_by ns s).place (given_by ns t).place).0 both.1 in
+          let places = (Decides-eqb (place_of ns s) (place_of ns t)).0 both.1 in
           let law : AreOneToOne (dimensions_in (ns.arrays s.target.name)) = one_to_one (dimensions_in (ns.arrays s.target.name)) in
-          let subscripts = law.own s.target.subscripts t.target.subscripts (given_by ns s).place (known s at_s) (ap (λ n. place (dimensions_in (ns.arrays n)) t.target.subscripts) names ∙ known t at_t ∙ ap Some (sym places)) in
+          let subscripts = law.own s.target.subscripts t.target.subscripts (place_of ns s) (known s at_s) (ap (λ n. place (dimensions_in (ns.arrays n)) t.target.subscripts) names ∙ known t at_t ∙ ap Some (sym places)) in
           both_true (bytes_eq s.target.name t.target.name) (pointwise int_eq s.target.subscripts t.target.subscripts) ((bytes_eq-Decides s.target.name t.target.name).1 names) ((slice_eq-Decides {E = int_eq} Decides-int_eq s.target.subscripts t.target.subscripts (pointwise int_eq s.target.subscripts t.target.subscripts) refl).1 subscripts)
 
-      back : same_target s.target t.target ≡ true → (bytes_eq t.target.name s.target.name && ((given_by ns s).place == (given_by ns t).place)) ≡ true
+      back : same_target s.target t.target ≡ true → (bytes_eq t.target.name s.target.name && (place_of ns s == place_of ns t)) ≡ true
       back h =
           let both = and_parts (bytes_eq s.target.name t.target.name) (pointwise int_eq s.target.subscripts t.target.subscripts) h in
           let names = (bytes_eq-Decides s.target.name t.target.name).0 both.0 in
           let subscripts = (slice_eq-Decides {E = int_eq} Decides-int_eq s.target.subscripts t.target.subscripts (pointwise int_eq s.target.subscripts t.target.subscripts) refl).0 both.1 in
-          both_true (bytes_eq t.target.name s.target.name) ((given_by ns s).place == (given_by ns t).place) ((bytes_eq-Decides t.target.name s.target.name).1 (sym names)) ((Decides-eqb (given_by ns s).place (given_by ns t).place).1 (ap₂ (λ n ss. unwrap_or (place (dimensions_in (ns.arrays n)) ss) 0) names subscripts))
+          both_true (bytes_eq t.target.name s.target.name) (place_of ns s == place_of ns t) ((bytes_eq-Decides t.target.name s.target.name).1 (sym names)) ((Decides-eqb (place_of ns s) (place_of ns t)).1 (ap₂ (λ n ss. unwrap_or (place (dimensions_in (ns.arrays n)) ss) 0) names subscripts))
 
-  abbrev marked_more : Marks → Start → Marks
-  marked_more m s = with_mark s.target.name (given_by ns s).place m
+  abbrev found_more : Found → Start → Found
+  found_more g s = with_found s.target.name (place_of ns s) s.value g
 
-  agrees_first : (m : Marks) (earlier : List Start) (s : Start) → Agrees ns m earlier → HasPlace ns s.target → Agrees ns (marked_more m s) (s ∷ earlier)
-  agrees_first m earlier s h at = λ t there.
-      ap₂ ◌||◌ (h t there) (same_place s t at there) ∙ or_swap (list_any (λ e. same_target e.target t.target) earlier) (same_target s.target t.target)
+  one_more : (g : Found) (s t : Start) → is_some (found_more g s t.target.name (place_of ns t)) ≡ ((bytes_eq t.target.name s.target.name && (place_of ns s == place_of ns t)) || is_some (g t.target.name (place_of ns t)))
+  one_more g s t =
+      is_given (bytes_eq t.target.name s.target.name && (place_of ns s == place_of ns t)) s.value (g t.target.name (place_of ns t))
 
-  agrees_last : (m : Marks) (earlier : List Start) (s : Start) → Agrees ns m earlier → HasPlace ns s.target → Agrees ns (marked_more m s) (earlier ++ s ∷ [])
-  agrees_last m earlier s h at = λ t there.
+  agrees_first : (g : Found) (earlier : List Start) (s : Start) → Agrees ns g earlier → HasPlace ns s.target → Agrees ns (found_more g s) (s ∷ earlier)
+  agrees_first g earlier s h at = λ t there. one_more g s t ∙ ap₂ ◌||◌ (same_place s t at there) (h t there)
+
+  agrees_last : (g : Found) (earlier : List Start) (s : Start) → Agrees ns g earlier → HasPlace ns s.target → Agrees ns (found_more g s) (earlier ++ s ∷ [])
+  agrees_last g earlier s h at = λ t there.
       let test : Start → Bool = λ e. same_target e.target t.target in
-      ap₂ ◌||◌ (h t there) (same_place s t at there ∙ sym (or_false (same_target s.target t.target)))
+      one_more g s t
+      ∙ ap₂ ◌||◌ (same_place s t at there ∙ sym (or_false (same_target s.target t.target))) (h t there)
+      ∙ or_swap (same_target s.target t.target || false) (list_any test earlier)
       ∙ sym (list_any-append test earlier (s ∷ []))
 
-  abbrev pub marks_behind : List Start → Marks → Marks
-  marks_behind [] m = m
-  marks_behind (s ∷ ss) m = marks_behind ss (with_mark s.target.name (given_by ns s).place m)
+  pub agrees_behind : (ss earlier : List Start) (g : Found) → Agrees ns g earlier → Each (λ s. HasPlace ns s.target) ss → Agrees ns (given_behind ns ss g) (earlier ++ ss)
+  agrees_behind [] earlier g h placed = subst (Agrees ns g) (sym (append-nil earlier)) h
+  agrees_behind (s ∷ ss) earlier g h placed =
+      subst (Agrees ns (given_behind ns ss (found_more g s))) (append_assoc earlier (s ∷ []) ss)
+      (agrees_behind ss (earlier ++ s ∷ []) (found_more g s) (agrees_last g earlier s h placed.0) placed.1)
 
-  pub agrees_behind : (ss earlier : List Start) (m : Marks) → Agrees ns m earlier → Each (λ s. HasPlace ns s.target) ss → Agrees ns (marks_behind ss m) (earlier ++ ss)
-  agrees_behind [] earlier m h placed = subst (Agrees ns m) (sym (append-nil earlier)) h
-  agrees_behind (s ∷ ss) earlier m h placed =
-      subst (Agrees ns (marks_behind ss (marked_more m s))) (append_assoc earlier (s ∷ []) ss)
-      (agrees_behind ss (earlier ++ s ∷ []) (marked_more m s) (agrees_last m earlier s h placed.0) placed.1)
+  given_append : (ss ts : List Start) (g : Found) → given_behind ns (ss ++ ts) g ≡ given_behind ns ts (given_behind ns ss g)
+  given_append [] ts g = refl
+  given_append (s ∷ ss) ts g = given_append ss ts (found_more g s)
 
-  abbrev pub stage_behind : List Start → Marks → List Given → Stage
-  stage_behind ss m g = stage (marks_behind ss m) (g ++ map (given_by ns) ss) []
+  abbrev pub stage_behind : List Start → Found → Stage
+  stage_behind ss g = stage (given_behind ns ss g) []
 
-  accepted : (ss earlier : List Start) (m : Marks) (g : List Given) → Agrees ns m earlier → Each (λ s. HasPlace ns s.target) ss → accept ns ss m g ≡ (if given_twice earlier ss then None else Some (stage_behind ss m g))
-  accepted [] earlier m g h placed = ap (λ xs. Some (stage m xs [])) (sym (append-nil g))
-  accepted (s ∷ ss) earlier m g h placed =
-      let rest = accepted ss (s ∷ earlier) (marked_more m s) (g ++ given_by ns s ∷ []) (agrees_first m earlier s h placed.0) placed.1 in
-      ap (λ b. if b then None else accept ns ss (marked_more m s) (g ++ given_by ns s ∷ [])) (h s placed.0)
+  accepted : (ss earlier : List Start) (g : Found) → Agrees ns g earlier → Each (λ s. HasPlace ns s.target) ss → accept ns ss g ≡ (if given_twice earlier ss then None else Some (stage_behind ss g))
+  accepted [] earlier g h placed = refl
+  accepted (s ∷ ss) earlier g h placed =
+      let rest = accepted ss (s ∷ earlier) (found_more g s) (agrees_first g earlier s h placed.0) placed.1 in
+      ap (λ b. if b then None else accept ns ss (found_more g s)) (h s placed.0)
       ∙ ap (λ o. if list_any (λ e. same_target e.target s.target) earlier then None else o) rest
-      ∙ by_test (list_any (λ e. same_target e.target s.target) earlier) (given_twice (s ∷ earlier) ss) (Some (stage_behind ss (marked_more m s) (g ++ given_by ns s ∷ [])))
-      ∙ ap (λ xs. if given_twice earlier (s ∷ ss) then None else Some (stage (marks_behind (s ∷ ss) m) xs [])) (append_assoc g (given_by ns s ∷ []) (map (given_by ns) ss))
+      ∙ by_test (list_any (λ e. same_target e.target s.target) earlier) (given_twice (s ∷ earlier) ss) (Some (stage_behind ss (found_more g s)))
     where
       by_test : (a b : Bool) (o : Option Stage) → (if a then None else (if b then None else o)) ≡ (if a || b then None else o)
       by_test true b o = refl
@@ -120,10 +129,10 @@ module _ (r : Roles) where
   starts_push : (before : List ItemTree) (x : ItemTree) → starts_from r [] (before ++ x ∷ []) ≡ starts_from r [] before ++ starts_or_none (starts_at r before x)
   starts_push before x = starts_append [] before x
 
-  pub filled_none : IsFilledBy r [] (stage (λ n i. false) [] [])
+  pub filled_none : IsFilledBy r [] (stage nothing [])
   filled_none = record {
     marked = λ t at. sym (ap (list_any (λ e. same_target e.target t.target)) (starts_none []));
-    given = sym (ap (map (given_by r.names)) (starts_none []));
+    given = sym (ap (given_by r.names) (starts_none []));
     values = refl;
   }
 
@@ -132,17 +141,17 @@ module _ (r : Roles) where
     here = starts_or_none (starts_at r before x)
 
     abbrev behind : Stage
-    behind = stage_behind r.names here s.marked s.given
+    behind = stage_behind r.names here s.given
 
     statement_filled : IsFilledBy r before s → fill_sets r (known_behind_all r before) (sets_of x.shape) s ≡ (if has_bad_data r before x then None else Some behind)
     statement_filled h =
-        ap (λ os. fill_sets r (known_behind_all r before) (sets_of x.shape) (stage s.marked s.given os)) h.values
-        ∙ sets_filled r (known_behind_all r before) (sets_of x.shape) s.marked s.given
+        ap (λ os. fill_sets r (known_behind_all r before) (sets_of x.shape) (stage s.given os)) h.values
+        ∙ sets_filled r (known_behind_all r before) (sets_of x.shape) s.given
         ∙ by_starts (starts_at r before x) (sets_placed r (known_behind_all r before) (sets_of x.shape))
       where
-        by_starts : (o : Option (List Start)) → IfEach (λ u. HasPlace r.names u.target) o → and_also o (λ ss. accept r.names ss s.marked s.given) ≡ (if is_none o || given_twice (starts_from r [] before) (starts_or_none o) then None else Some (stage_behind r.names (starts_or_none o) s.marked s.given))
+        by_starts : (o : Option (List Start)) → IfEach (λ u. HasPlace r.names u.target) o → and_also o (λ ss. accept r.names ss s.given) ≡ (if is_none o || given_twice (starts_from r [] before) (starts_or_none o) then None else Some (stage_behind r.names (starts_or_none o) s.given))
         by_starts None placed = refl
-        by_starts (Some ss) placed = accepted r.names ss (starts_from r [] before) s.marked s.given h.marked placed
+        by_starts (Some ss) placed = accepted r.names ss (starts_from r [] before) s.given h.marked placed
 
     starts_placed : (o : Option (List Start)) → IfEach (λ u. HasPlace r.names u.target) o → Each (λ u. HasPlace r.names u.target) (starts_or_none o)
     starts_placed None placed = tt
@@ -151,12 +160,12 @@ module _ (r : Roles) where
     behind_filled : IsFilledBy r before s → IsFilledBy r (before ++ x ∷ []) behind
     behind_filled h = record {
       marked =
-          subst (Agrees r.names behind.marked) (sym (starts_push before x))
-          (agrees_behind r.names here (starts_from r [] before) s.marked h.marked
+          subst (Agrees r.names behind.given) (sym (starts_push before x))
+          (agrees_behind r.names here (starts_from r [] before) s.given h.marked
           (starts_placed (starts_at r before x) (sets_placed r (known_behind_all r before) (sets_of x.shape))));
       given =
-          ap (λ gs. gs ++ map (given_by r.names) here) h.given ∙ sym (map-append (given_by r.names) (starts_from r [] before) here)
-          ∙ ap (map (given_by r.names)) (sym (starts_push before x));
+          ap (given_behind r.names here) h.given ∙ sym (given_append r.names (starts_from r [] before) here nothing)
+          ∙ ap (given_by r.names) (sym (starts_push before x));
       values = refl;
     }
 

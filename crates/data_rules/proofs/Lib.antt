@@ -1,5 +1,5 @@
 pub mod DataRunning
-pub mod Marking
+pub mod Slotting
 pub mod DataPlacing
 pub mod DataFilling
 pub mod TripsBetween

@@ -1,5 +1,5 @@
 -- The sets of DATA statements, filled one after another (ANSI X3.9-1978, 9.1).
-use Rattle.std.specs.Prelude.{◌≡◌, ℕ, List, [], ◌∷◌, map, option_map, unwrap_or, if◌then◌else◌, Option, Some, None}
+use Rattle.std.specs.Prelude.{◌≡◌, ℕ, List, [], ◌∷◌, map, option_map, unwrap_or, is_some, if◌then◌else◌, Option, Some, None}
 use Rattle.std.specs.List.{list_any}
 use Rattle.std.specs.Borrow.{Bor}
 use Rattle.meaning.specs.declared.ending.Value.{Value}
@@ -15,8 +15,8 @@ use Rattle.declarations.specs.declared.known.Table.{Table}
 use Rattle.declarations.specs.Tables.{known_at}
 use Rattle.data_rules.specs.declared.filling.Filling.{Filling}
 use Rattle.data_rules.specs.DataRuns.{values_of}
-use Rattle.data_rules.specs.DataStages.{Given, Marks, Stage, filled, is_empty_list}
-use Rattle.data_rules.specs.Marked.{given_at, marked_in}
+use Rattle.data_rules.specs.DataStages.{Found, Stage, filled, is_empty_list, with_found}
+use Rattle.data_rules.specs.Slots.{given_in}
 
 -- where a variable or an element stands among the elements of its name
 abbrev pub place_at : Names → Target → Option ℕ
@@ -25,13 +25,23 @@ place_at ns t = place (dimensions_in (ns.arrays t.name)) t.subscripts
 abbrev pub HasPlace : Names → Target → Type 0
 HasPlace ns t = (i : ℕ) × (place_at ns t ≡ Some i)
 
--- a start by its name and its place
-abbrev pub given_by : Names → Start → Given
-given_by ns s = record { name = s.target.name; place = unwrap_or (place_at ns s.target) 0; value = s.value }
+abbrev pub place_of : Names → Start → ℕ
+place_of ns s = unwrap_or (place_at ns s.target) 0
+
+-- what starts give, one behind another
+abbrev pub given_behind : Names → List Start → Found → Found
+given_behind ns [] found = found
+given_behind ns (s ∷ ss) found = given_behind ns ss (with_found s.target.name (place_of ns s) s.value found)
+
+abbrev pub nothing : Found
+nothing = λ n i. None
+
+abbrev pub given_by : Names → List Start → Found
+given_by ns ss = given_behind ns ss nothing
 
 -- a stage with these values in place of those that are left
 abbrev pub with_values : List (Option Value) → Stage → Stage
-with_values os s = record { marked = s.marked; given = s.given; values = os }
+with_values os s = record { given = s.given; values = os }
 
 abbrev pub if_used_up : Stage → Option Stage
 if_used_up s = if is_empty_list s.values then Some (with_values [] s) else None
@@ -49,7 +59,7 @@ fill_sets r known (x ∷ xs) s = and_also (fill_set r known x s) (fill_sets r kn
 
 -- what was given between two sets
 abbrev pub stage_by : Filling → Stage
-stage_by f = record { marked = marked_in f.marks; given = map given_at f.starts.items; values = [] }
+stage_by f = record { given = given_in f.given; values = [] }
 
 -- a set is filled, or several are
 abbrev pub FillsSet : Table → Bor DataSet → Filling → Option Filling → Type 0
@@ -60,13 +70,13 @@ abbrev pub FillsSets : Table → Bor (List DataSet) → Filling → Option Filli
 FillsSets t xs old new =
     option_map stage_by new ≡ fill_sets (roles_at t.roles.now) (known_at t) (map data_set_tree xs.now) (stage_by old)
 
--- marks tell which of those that have a place were given a value
-abbrev pub Agrees : Names → Marks → List Start → Type 0
-Agrees ns m earlier =
-    (t : Start) → HasPlace ns t.target → m t.target.name (given_by ns t).place ≡ list_any (λ e. same_target e.target t.target) earlier
+-- those that have a place and were given a value are the earlier ones
+abbrev pub Agrees : Names → Found → List Start → Type 0
+Agrees ns found earlier =
+    (t : Start) → HasPlace ns t.target → is_some (found t.target.name (place_of ns t)) ≡ list_any (λ e. same_target e.target t.target) earlier
 
 -- what the DATA statements among these gave
 pub record IsFilledBy (r : Roles) (before : List ItemTree) (s : Stage) : Type 0 where
-  pub marked : Agrees r.names s.marked (starts_from r [] before)
-  pub given : s.given ≡ map (given_by r.names) (starts_from r [] before)
+  pub marked : Agrees r.names s.given (starts_from r [] before)
+  pub given : s.given ≡ given_by r.names (starts_from r [] before)
   pub values : s.values ≡ []

@@ -1,5 +1,5 @@
 -- What DATA statements give, one variable or element after another (ANSI X3.9-1978, 9.1).
-use Rattle.std.specs.Prelude.{ℕ, Bool, true, false, ◌&&◌, ◌||◌, ◌==◌, List, [], ◌∷◌, ◌++◌, if◌then◌else◌, Option, Some, None}
+use Rattle.std.specs.Prelude.{ℕ, Bool, true, false, ◌&&◌, ◌||◌, ◌==◌, List, [], ◌∷◌, is_some, if◌then◌else◌, Option, Some, None}
 use Rattle.std.specs.Str.{bytes_eq}
 use Rattle.meaning.specs.declared.ending.Value.{Value}
 use Rattle.meaning.specs.Arrays.{place}
@@ -8,23 +8,16 @@ use Rattle.meaning.specs.Typing.{Names, clash}
 use Rattle.meaning.specs.Values.{dimensions_in}
 use Rattle.meaning.specs.Initial.{Target, and_also, value_type}
 
--- a name, a place among its elements, 0 for a variable, and the value that it is given
-pub record Given : Type 0 where
-  pub name : List ℕ
-  pub place : ℕ
-  pub value : Value
+-- what the places of names were given, by their elements' order; a variable has the place 0 alone
+abbrev pub Found : Type 0
+Found = List ℕ → ℕ → Option Value
 
--- the places of names that were given values
-abbrev pub Marks : Type 0
-Marks = List ℕ → ℕ → Bool
-
-abbrev pub with_mark : List ℕ → ℕ → Marks → Marks
-with_mark name i marked = λ n k. marked n k || (bytes_eq n name && (i == k))
+abbrev pub with_found : List ℕ → ℕ → Value → Found → Found
+with_found name i v found = λ n k. if bytes_eq n name && (i == k) then Some v else found n k
 
 -- what was given so far, and the values that are left, one of which may be none
 pub record Stage : Type 0 where
-  pub marked : Marks
-  pub given : List Given
+  pub given : Found
   pub values : List (Option Value)
 
 abbrev pub first_of : List (Option Value) → Option Value
@@ -41,12 +34,12 @@ is_empty_list (o ∷ os) = false
 
 -- the next value for a place
 abbrev pub with_given : List ℕ → ℕ → Value → Stage → Stage
-with_given n i v s =
-    record { marked = with_mark n i s.marked; given = s.given ++ record { name = n; place = i; value = v } ∷ []; values = behind_first s.values }
+with_given n i v s = record { given = with_found n i v s.given; values = behind_first s.values }
 
 abbrev pub give_value : Types → List ℕ → ℕ → Stage → Option Value → Option Stage
 give_value types n i s None = None
-give_value types n i s (Some v) = if clash (types n) (value_type v) || s.marked n i then None else Some (with_given n i v s)
+give_value types n i s (Some v) =
+    if clash (types n) (value_type v) || is_some (s.given n i) then None else Some (with_given n i v s)
 
 abbrev pub give : Types → List ℕ → ℕ → Stage → Option Stage
 give types n i s = give_value types n i s (first_of s.values)

@@ -1,7 +1,8 @@
 pub mod DataStages
-pub mod Marked
+pub mod Slots
 pub mod DataRuns
 pub mod Filled
+pub mod DataSlots
 pub mod DataPlaces
 pub mod DataTrips
 pub mod DataGiving

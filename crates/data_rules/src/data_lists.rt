@@ -31,8 +31,8 @@ pub fn is_counter(roles: &Roles, name: &[u8]) -> bool
 
 /// Gives values to the items of an implied DO, trip after trip; false where one doesn't get its value.
 #[cycle(data_lists)]
-fn give_trips<'a: 'b, 'b>(
-    giving: &mut Giving<'a, 'b>,
+fn give_trips<'a>(
+    giving: &mut Giving<'a>,
     alloc: Global,
     arrays: &IndexMap<Vec<u8>, Vec<Dimension>>,
     items: &'a ListItems,
@@ -59,8 +59,8 @@ fn give_trips<'a: 'b, 'b>(
 
 /// Gives values to what an item stands for; false where it stands for nothing, or doesn't get its values.
 #[cycle(data_lists)]
-fn give_item<'a: 'b, 'b>(
-    giving: &mut Giving<'a, 'b>,
+fn give_item<'a>(
+    giving: &mut Giving<'a>,
     alloc: Global,
     arrays: &IndexMap<Vec<u8>, Vec<Dimension>>,
     item: &'a ListItem,
@@ -89,8 +89,8 @@ fn give_item<'a: 'b, 'b>(
 
 /// Gives values to what items stand for; false where one stands for nothing, or doesn't get its values.
 #[cycle(data_lists)]
-pub fn give_items<'a: 'b, 'b>(
-    giving: &mut Giving<'a, 'b>,
+pub fn give_items<'a>(
+    giving: &mut Giving<'a>,
     alloc: Global,
     arrays: &IndexMap<Vec<u8>, Vec<Dimension>>,
     items: &'a ListItems,

@@ -1,11 +1,11 @@
 //! What DATA statements give, one variable or element after another (ANSI X3.9-1978, 9.1).
 
-ghost use Rattle.std.specs.Prelude.{◌≡◌, IfOk, OnOk};
+ghost use Rattle.std.specs.Prelude.{◌≡◌, is_some, IfOk, OnOk};
 ghost use Rattle.meaning.specs.Initial.{value_type};
 ghost use Rattle.meaning.specs.Typing.{clash};
-ghost use Rattle.data_rules.specs.DataStages.{with_mark};
-ghost use Rattle.data_rules.specs.Filled.{GivesPlace, GivesPlaces, stage_at};
-ghost use Rattle.data_rules.specs.Marked.{marked_in};
+ghost use Rattle.data_rules.specs.DataSlots.{GivesSlot, GivesSlots, slots_at, with_slot};
+ghost use Rattle.data_rules.specs.Filled.{GivesPlaces, stage_at};
+ghost use Rattle.data_rules.specs.Slots.{slot_at};
 
 use crate::data_values::{Values, next_value};
 use indexmap::IndexMap;
@@ -13,60 +13,37 @@ use meaning::ending::Value;
 use meaning::syntax::DataType;
 use roles::{Roles, type_of_name};
 use std::alloc::{AllocError, Global};
-use std::collections::BTreeSet;
 
-/// A variable or an array element, by its name and its place among the elements, 0 for a variable, and the value that it starts
-/// with.
-#[derive(Clone, Copy)]
-pub struct Start<'a> {
-    /// The name of the variable or the array.
-    pub name: &'a [u8],
-    /// The place in column-major order, from 0.
-    pub place: u64,
-    /// The value.
-    pub value: Value,
+/// What DATA statements have given so far.
+#[derive(Drop)]
+pub struct Filling {
+    /// By the names of variables and arrays the values of their places in column-major order, from 0, which is the only one of a
+    /// variable. A place that was given none has none, and so have those behind the last one that is kept.
+    pub given: IndexMap<Vec<u8>, Vec<Option<Value>>>,
 }
 
-/// Whether a place of a name was given a value.
-pub fn is_marked(marks: &IndexMap<Vec<u8>, BTreeSet<u64>>, name: &[u8], place: u64) -> bool
-    ensures { result ≡ marked_in marks.now name.now place }
+/// Whether a place was given a value.
+fn is_given(slots: &[Option<Value>], place: u64) -> bool
+    ensures { result ≡ is_some (slot_at slots.now place) }
 {
-    match marks.get(name) {
-        Some(places) => places.contains(&place),
+    match slots.get(place as usize) {
+        Some(slot) => slot.is_some(),
         None => false,
     }
 }
 
-/// Marks a place of a name.
-pub fn mark(
-    marks: &mut IndexMap<Vec<u8>, BTreeSet<u64>>,
-    alloc: Global,
-    name: &[u8],
-    place: u64,
-) -> Result<(), AllocError>
-    ensures { OnOk result (marked_in marks.new ≡ with_mark name.now place (marked_in marks.old)) }
+/// Gives a place a value.
+fn put(slots: &mut Vec<Option<Value>>, place: u64, value: Value) -> Result<(), AllocError>
+    ensures { OnOk result (slot_at slots.new.items ≡ with_slot place value (slot_at slots.old.items)) }
 {
-    match marks.get_mut(name) {
-        Some(places) => {
-            places.insert(place)?;
-        }
-        None => {
-            let mut places = BTreeSet::new(alloc);
-            places.insert(place)?;
-            let own = Vec::from_slice(alloc, name)?;
-            marks.insert(own, places)?;
-        }
+    let place = place as usize;
+    if place < slots.len() {
+        slots[place] = Some(value);
+        return Ok(());
     }
+    slots.resize(place, None)?;
+    slots.push(Some(value))?;
     Ok(())
-}
-
-/// What DATA statements have given so far.
-#[derive(Drop)]
-pub struct Filling<'a> {
-    /// The places that were given values, by their names.
-    pub marks: IndexMap<Vec<u8>, BTreeSet<u64>>,
-    /// What they were given, in the order of the statements.
-    pub starts: Vec<Start<'a>>,
 }
 
 /// Whether a value is of another type, where the type is known.
@@ -86,47 +63,78 @@ fn differs(data_type: Option<DataType>, value: Value) -> bool
     }
 }
 
-/// Gives the next value to a place of a name; false where there is none, it is of another type, or the place has one.
-pub fn give<'a>(
-    filling: &mut Filling<'a>,
+/// Gives the next value to a place of a name of this type; false where there is none, it is of another type, or the place has one.
+fn give(
+    slots: &mut Vec<Option<Value>>,
     values: &mut Values,
-    alloc: Global,
-    roles: &Roles,
-    name: &'a [u8],
+    data_type: Option<DataType>,
     place: u64,
 ) -> Result<bool, AllocError>
-    ensures { IfOk result (GivesPlace roles.now name.entry.now place
-        (stage_at filling.old values.old) (stage_at filling.new values.new)) }
+    ensures { IfOk result (GivesSlot data_type place
+        (slots_at slots.old values.old) (slots_at slots.new values.new)) }
 {
     match next_value(values)? {
         Some(value) => {
-            if differs(type_of_name(roles, name), value) || is_marked(&filling.marks, name, place) {
+            if differs(data_type, value) || is_given(slots, place) {
                 return Ok(false);
             }
-            mark(&mut filling.marks, alloc, name, place)?;
-            filling.starts.push(Start { name, place, value })?;
+            put(slots, place, value)?;
             Ok(true)
         }
         None => Ok(false),
     }
 }
 
-/// Gives the next values to the first so many places of a name.
-pub fn give_elements<'a>(
-    filling: &mut Filling<'a>,
+/// Gives the next values to so many places of a name of this type, from this one on; false where one of them doesn't get its value.
+/// The `AllocError` comes also where a place is 2^64 or more.
+fn give_each(
+    slots: &mut Vec<Option<Value>>,
     values: &mut Values,
-    alloc: Global,
-    roles: &Roles,
-    name: &'a [u8],
-    size: u64,
+    data_type: Option<DataType>,
+    first: u64,
+    count: u64,
 ) -> Result<bool, AllocError>
-    ensures { IfOk result (GivesPlaces roles.now name.entry.now size
-        (stage_at filling.old values.old) (stage_at filling.new values.new)) }
+    ensures { IfOk result (GivesSlots data_type first count
+        (slots_at slots.old values.old) (slots_at slots.new values.new)) }
 {
-    for place in 0..size {
-        if !give(filling, values, alloc, roles, name, place)? {
-            return Ok(false);
+    for behind in 0..count {
+        match first.checked_add(behind) {
+            Some(place) => {
+                if !give(slots, values, data_type, place)? {
+                    return Ok(false);
+                }
+            }
+            None => return Err(AllocError),
         }
     }
     Ok(true)
+}
+
+/// Gives the next values to so many places of a name, from this one on; false where one of them doesn't get its value. The
+/// `AllocError` comes also where a place is 2^64 or more.
+pub fn give_places(
+    filling: &mut Filling,
+    values: &mut Values,
+    alloc: Global,
+    roles: &Roles,
+    name: &[u8],
+    first: u64,
+    count: u64,
+) -> Result<bool, AllocError>
+    ensures { IfOk result (GivesPlaces roles.now name.now first count
+        (stage_at filling.old values.old) (stage_at filling.new values.new)) }
+{
+    let data_type = type_of_name(roles, name);
+    match filling.given.get_mut(name) {
+        Some(slots) => give_each(slots, values, data_type, first, count),
+        None => {
+            let mut slots = Vec::new(alloc);
+            if !give_each(&mut slots, values, data_type, first, count)? {
+                return Ok(false);
+            }
+            let own = Vec::from_slice(alloc, name)?;
+            filling.given.insert(own, slots)?;
+            Ok(true)
+        }
+    }
 }

@@ -9,7 +9,7 @@ ghost use Rattle.data_rules.specs.DataTargets.{FillsElement, FillsName, FillsVal
 
 use crate::data_values::Values;
 use crate::elements::place_in;
-use crate::filling::{Filling, give, give_elements};
+use crate::filling::{Filling, give_places};
 use declarations::Scope;
 use expressions::Dimension;
 use indexmap::IndexMap;
@@ -19,10 +19,10 @@ use std::alloc::{AllocError, Global};
 
 /// What DATA statements have given so far, the values of a set that are left, and the names that are known in its list.
 #[derive(Drop)]
-pub struct Giving<'a, 'b> {
-    pub filling: Filling<'a>,
-    pub values: Values<'b>,
-    pub scope: Scope<'b>,
+pub struct Giving<'a> {
+    pub filling: Filling,
+    pub values: Values<'a>,
+    pub scope: Scope<'a>,
 }
 
 /// How many elements an array of these dimensions has. The `AllocError` comes where there are 2^64 or more.
@@ -42,11 +42,11 @@ fn size_of(dimensions: &[Dimension]) -> Result<u64, AllocError>
 }
 
 /// Gives values to a variable or a whole array; false where the name is neither, or a value is missing or doesn't fit.
-fn give_name<'a: 'b, 'b>(
-    giving: &mut Giving<'a, 'b>,
+fn give_name(
+    giving: &mut Giving,
     alloc: Global,
     arrays: &IndexMap<Vec<u8>, Vec<Dimension>>,
-    name: &'a [u8],
+    name: &[u8],
 ) -> Result<bool, AllocError>
     requires { AreArrays (roles_in giving.old) arrays.now }
     ensures filled { IfOk result (FillsName name.entry giving.old giving.new) }
@@ -56,24 +56,26 @@ fn give_name<'a: 'b, 'b>(
     match arrays.get(name) {
         Some(dimensions) => {
             let size = size_of(dimensions)?;
-            give_elements(
+            give_places(
                 &mut giving.filling,
                 &mut giving.values,
                 alloc,
                 roles,
                 name,
+                0,
                 size,
             )
         }
         None => {
             if is_other_name(roles, name) {
-                give(
+                give_places(
                     &mut giving.filling,
                     &mut giving.values,
                     alloc,
                     roles,
                     name,
                     0,
+                    1,
                 )
             } else {
                 Ok(false)
@@ -83,11 +85,11 @@ fn give_name<'a: 'b, 'b>(
 }
 
 /// Gives a value to an array element; false where there is none, or the value is missing or doesn't fit.
-fn give_element<'a: 'b, 'b>(
-    giving: &mut Giving<'a, 'b>,
+fn give_element(
+    giving: &mut Giving,
     alloc: Global,
     arrays: &IndexMap<Vec<u8>, Vec<Dimension>>,
-    name: &'a [u8],
+    name: &[u8],
     subscripts: &Exprs,
 ) -> Result<bool, AllocError>
     requires { AreArrays (roles_in giving.old) arrays.now }
@@ -98,13 +100,14 @@ fn give_element<'a: 'b, 'b>(
         Some(dimensions) => match place_in(&giving.scope, dimensions, subscripts)? {
             Some(place) => {
                 let roles = giving.scope.table.roles;
-                give(
+                give_places(
                     &mut giving.filling,
                     &mut giving.values,
                     alloc,
                     roles,
                     name,
                     place,
+                    1,
                 )
             }
             None => Ok(false),
@@ -115,11 +118,11 @@ fn give_element<'a: 'b, 'b>(
 
 /// Gives values to what an item of a list that is no implied DO stands for; false where it stands for nothing, or a value is
 /// missing or doesn't fit.
-pub fn give_value<'a: 'b, 'b>(
-    giving: &mut Giving<'a, 'b>,
+pub fn give_value(
+    giving: &mut Giving,
     alloc: Global,
     arrays: &IndexMap<Vec<u8>, Vec<Dimension>>,
-    expression: &'a Expr,
+    expression: &Expr,
 ) -> Result<bool, AllocError>
     requires { AreArrays (roles_in giving.old) arrays.now }
     ensures filled { IfOk result (FillsValue expression.entry giving.old giving.new) }

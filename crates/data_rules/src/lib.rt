@@ -9,5 +9,5 @@ mod giving;
 mod starting;
 mod trips;
 
-pub use filling::{Filling, Start};
+pub use filling::Filling;
 pub use starting::{Passed, given_by_data};

@@ -25,8 +25,8 @@ use roles::Roles;
 use std::alloc::{AllocError, Global};
 
 /// Gives a list the values of its set; false where an item doesn't get its value, or a value is left over.
-fn give_list<'a: 'b, 'b>(
-    giving: &mut Giving<'a, 'b>,
+fn give_list<'a>(
+    giving: &mut Giving<'a>,
     alloc: Global,
     arrays: &IndexMap<Vec<u8>, Vec<Dimension>>,
     list: &'a ListItems,
@@ -42,15 +42,15 @@ fn give_list<'a: 'b, 'b>(
 }
 
 /// Fills a set, unless what its list stands for and its values don't fit.
-fn give_set<'a: 'b, 'b>(
-    filling: Filling<'a>,
+fn give_set<'a>(
+    filling: Filling,
     alloc: Global,
-    table: &'b Table<'b>,
+    table: &'a Table<'a>,
     arrays: &IndexMap<Vec<u8>, Vec<Dimension>>,
     set: &'a DataSet,
-) -> Result<Option<Filling<'a>>, AllocError>
+) -> Result<Option<Filling>, AllocError>
     requires { AreArrays (roles_at table.now.roles.now) arrays.now }
-    ensures { IfOk result (FillsSet table.now set.entry filling.entry) }
+    ensures { IfOk result (FillsSet table.now set.entry filling) }
 {
     let mut giving = Giving {
         filling,
@@ -80,15 +80,15 @@ fn give_set<'a: 'b, 'b>(
 }
 
 /// Fills sets, unless one of them doesn't fit.
-fn give_sets<'a: 'b, 'b>(
-    filling: Filling<'a>,
+fn give_sets<'a>(
+    filling: Filling,
     alloc: Global,
-    table: &'b Table<'b>,
+    table: &'a Table<'a>,
     arrays: &IndexMap<Vec<u8>, Vec<Dimension>>,
     sets: &'a [DataSet],
-) -> Result<Option<Filling<'a>>, AllocError>
+) -> Result<Option<Filling>, AllocError>
     requires { AreArrays (roles_at table.now.roles.now) arrays.now }
-    ensures { IfOk result (FillsSets table.now sets.entry filling.entry) }
+    ensures { IfOk result (FillsSets table.now sets.entry filling) }
 {
     let mut so_far = filling;
     for set in sets {
@@ -125,24 +125,24 @@ fn is_first(line: u32, others: Option<Broken>) -> bool
 /// What the statements that were passed come to: the least broken pair, and what DATA statements have given; nothing where one
 /// doesn't fit, or stands behind that pair.
 #[derive(Drop)]
-pub struct Passed<'a> {
+pub struct Passed {
     /// The least broken pair.
     pub broken: Option<Broken>,
     /// What was given.
-    pub filling: Option<Filling<'a>>,
+    pub filling: Option<Filling>,
 }
 
 /// Passes a statement. The `AllocError` comes where it stands in front of one that was passed behind the least pair, too; the
 /// statements of a source stand in the order of their lines.
-fn pass_data<'a: 'b, 'b>(
-    passed: Passed<'a>,
+fn pass_data<'a>(
+    passed: Passed,
     alloc: Global,
-    table: &'b Table<'b>,
+    table: &'a Table<'a>,
     arrays: &IndexMap<Vec<u8>, Vec<Dimension>>,
     item: &'a Item,
-) -> Result<Passed<'a>, AllocError>
+) -> Result<Passed, AllocError>
     requires { AreArrays (roles_at table.now.roles.now) arrays.now }
-    ensures { IfOk result (λ p. GoesOn table.now (item_tree item.entry.now) passed.entry p) }
+    ensures { IfOk result (λ p. GoesOn table.now (item_tree item.entry.now) passed p) }
 {
     let Passed { broken, filling } = passed;
     if !is_first(item.line, broken) {
@@ -174,22 +174,21 @@ fn pass_data<'a: 'b, 'b>(
 }
 
 /// K10: the least pair of the others and of the DATA statements, and what they give where there is none.
-pub fn given_by_data<'a>(
+pub fn given_by_data(
     alloc: Global,
     roles: &Roles,
     arrays: &IndexMap<Vec<u8>, Vec<Dimension>>,
-    items: &[&'a Item],
+    items: &[&Item],
     others: Option<Broken>,
-) -> Result<Passed<'a>, AllocError>
+) -> Result<Passed, AllocError>
     requires { AreArrays (roles_at roles.now) arrays.now }
     ensures { IfOk result (λ p. IsPassed (roles_at roles.now) others (map tree_at items.now) p) }
 {
     let mut table = table_of(alloc, roles);
-    let marks = IndexMap::new(alloc);
-    let starts = Vec::new(alloc);
+    let given = IndexMap::new(alloc);
     let mut passed = Passed {
         broken: others,
-        filling: Some(Filling { marks, starts }),
+        filling: Some(Filling { given }),
     };
     for &item in items {
         passed = pass_data(passed, alloc, &table, arrays, item)?;

@@ -10,7 +10,7 @@ use command_line::help::{HELP, VERSION};
 use command_line::options::options;
 use executor::run::run;
 use executor::{Open, Out};
-use meaning::ending::Ending;
+use meaning::ending::{Ending, Report};
 use meaning::plan::Plan;
 use std::alloc::{AllocError, AllocFailed, Global};
 use std::env::Env;
@@ -28,6 +28,8 @@ const BYTES_READ: u64 = 1_048_577;
 struct Job {
     /// How the program is run.
     plan: Plan,
+    /// Whether the turns that it used are told.
+    count: bool,
     /// The bytes of its source.
     source: Vec<u8>,
 }
@@ -89,8 +91,8 @@ pub fn engine<
     E: Write,
 >(rt: &R, words: &V, input: &mut I, out: O, err: &mut E) -> u8 {
     match job_asked(rt, words, input) {
-        Ok(job) => report(run_whole(rt, &job, out), err),
-        Err(no_run) => report_no_run(no_run, out, err),
+        Ok(job) => tell(run_whole(rt, &job, out), job.count, err),
+        Err(no_run) => tell_no_run(no_run, out, err),
     }
 }
 
@@ -128,6 +130,7 @@ fn job_of<'a, R: Files + AllocGlobal, I: Read>(
         Ok(asked) => match source_of(rt, asked.file, input) {
             Ok(source) => Ok(Job {
                 plan: asked.plan,
+                count: asked.count,
                 source,
             }),
             Err(error) => Err(unread(&error)),
@@ -197,18 +200,36 @@ fn run_whole<R: AllocGlobal + Threads + Wait + Sync, O: Write + Drop>(
     rt: &R,
     job: &Job,
     out: O,
-) -> Ending {
+) -> Report {
     let mut sink = Out::new(out);
-    let ending = run(rt, rt.alloc(), &job.source, &job.plan, &mut sink, &Open);
+    let report = run(rt, rt.alloc(), &job.source, &job.plan, &mut sink, &Open);
     match sink.into_inner().flush() {
-        Ok(()) => ending,
-        Err(_) => Ending::WriteRefused,
+        Ok(()) => report,
+        Err(_) => Report {
+            ending: Ending::WriteRefused,
+            turns: None,
+        },
     }
+}
+
+// Writes what is told of a run, its turns where they are asked for and there are any, and answers the exit status. A line that
+// can't be written changes nothing.
+fn tell<E: Write>(report: Report, count: bool, err: &mut E) -> u8
+    ensures { result ≡ status_of report.ending }
+{
+    let Report { ending, turns } = report;
+    let status = tell_ending(ending, err);
+    if count {
+        if let Some(turns) = turns {
+            let _ = writeln!(err, "TURNS {turns}");
+        }
+    }
+    status
 }
 
 // Writes the line of an ending, if it has one, and answers the exit status. A line that can't be written changes
 // nothing.
-fn report<E: Write>(ending: Ending, err: &mut E) -> u8
+fn tell_ending<E: Write>(ending: Ending, err: &mut E) -> u8
     ensures { result ≡ status_of ending }
 {
     match ending {
@@ -247,17 +268,17 @@ fn write_stop<E: Write>(message: &[u8], err: &mut E) -> io::Result<()> {
 }
 
 // Writes why no source is run, or the text that is asked for, and answers the exit status.
-fn report_no_run<O: Write + Drop, E: Write>(no_run: NoRun, out: O, err: &mut E) -> u8
+fn tell_no_run<O: Write + Drop, E: Write>(no_run: NoRun, out: O, err: &mut E) -> u8
     ensures { IsStatusOf no_run result }
 {
     match no_run {
-        NoRun::Help => report(show(HELP, out), err),
-        NoRun::Version => report(show(VERSION, out), err),
+        NoRun::Help => tell_ending(show(HELP, out), err),
+        NoRun::Version => tell_ending(show(VERSION, out), err),
         NoRun::Faulty(fault) => {
             let _ = writeln!(err, "{fault}");
             3
         }
-        NoRun::Memory => report(Ending::Memory, err),
+        NoRun::Memory => tell_ending(Ending::Memory, err),
         NoRun::FileRefused => {
             let _ = writeln!(err, "FILE REFUSED");
             5

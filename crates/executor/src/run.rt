@@ -8,7 +8,7 @@ ghost use Rattle.executor.specs.Calls.{IsAsked, IsGiven};
 use crate::staged::Staged;
 use array_store::Whole;
 pub use in_order::{run_by, run_in_order};
-use meaning::ending::{Ending, Outcome};
+use meaning::ending::{Ending, Outcome, Report};
 use meaning::plan::Plan;
 use meaning::syntax::Loop;
 use programs::Program;
@@ -28,11 +28,11 @@ pub fn run<R: Threads + Wait + Sync, S: Sink, G: Gate + Sync>(
     plan: &Plan,
     sink: &mut S,
     gate: &G,
-) -> Ending
+) -> Report
     requires { (S.told sink.old).refused ≡ false }
     ensures promise { Keeps (answer source.now plan.now.turns)
         (S.told sink.old) (S.told sink.new) result }
-    ensures refused { (result ≡ Ending.WriteRefused) ↔ ((S.told sink.new).refused ≡ true) }
+    ensures refused { (result.ending ≡ Ending.WriteRefused) ↔ ((S.told sink.new).refused ≡ true) }
 {
     if plan.workers() < 2 {
         return run_in_order(alloc, source, plan, sink);

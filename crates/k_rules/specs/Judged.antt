@@ -27,9 +27,9 @@ use Rattle.rule_passes.specs.Listed.{tree_at}
 use Rattle.k_rules.specs.declared.verdict.Facts.{Facts}
 use Rattle.declarations.specs.ArraysKept.{arrays_kept}
 use Rattle.data_rules.specs.DataSets.{given_by}
-use Rattle.data_rules.specs.DataStages.{Given}
+use Rattle.data_rules.specs.DataStages.{Found}
 use Rattle.declarations.specs.KnownNames.{known_in}
-use Rattle.data_rules.specs.Marked.{given_at}
+use Rattle.data_rules.specs.Slots.{given_in}
 
 abbrev pub constant_in : Facts → List ℕ → Option Value
 constant_in f = known_in f.constants
@@ -37,8 +37,8 @@ constant_in f = known_in f.constants
 abbrev pub arrays_in : Facts → List ℕ → Option (List Dimension)
 arrays_in f n = arrays_kept f.arrays n
 
-abbrev pub starts_in : Facts → List Given
-starts_in f = map given_at f.starts.items
+abbrev pub starts_in : Facts → Found
+starts_in f = given_in f.starts
 
 -- the rules in front of that on DATA statements, and those behind it
 abbrev pub rules_first : Roles → List ItemTree → List Broken
@@ -75,4 +75,4 @@ abbrev pub HasArrays : List ItemTree → Facts → Type 0
 HasArrays all f = (n : List ℕ) → arrays_in f n ≡ arrays_of all n
 
 abbrev pub HasStarts : List ItemTree → Facts → Type 0
-HasStarts all f = starts_in f ≡ map (given_by (roles_of all).names) (starts_from (roles_of all) [] all)
+HasStarts all f = starts_in f ≡ given_by (roles_of all).names (starts_from (roles_of all) [] all)

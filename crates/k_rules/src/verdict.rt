@@ -7,7 +7,7 @@ ghost use Rattle.meaning.specs.Trees.{flatten, nested};
 ghost use Rattle.rule_passes.specs.Listed.{tree_at};
 ghost use Rattle.k_rules.specs.Judged.{AreFirstLeast, AreLastLeast, AreNamesLeast, HasArrays, HasConstants, HasStarts, IsDecided, with_data};
 
-use data_rules::{Filling, Passed, Start, given_by_data};
+use data_rules::{Filling, Passed, given_by_data};
 use declarations::{Declared, declared_in};
 use expressions::Dimension;
 use function_rules::{misdefined_function, misused_name, unknown_function};
@@ -23,16 +23,17 @@ use std::alloc::{AllocError, Global};
 use type_rules::{real_name, wrong_type};
 
 /// What is known of a program unit that breaks no rule.
-pub struct Facts<'a> {
+pub struct Facts {
     /// The constants by their names, with their values.
     pub constants: IndexMap<Vec<u8>, Option<Value>>,
     /// The arrays by their names, with their dimensions.
     pub arrays: IndexMap<Vec<u8>, Vec<Dimension>>,
-    /// What DATA statements give.
-    pub starts: Vec<Start<'a>>,
+    /// What DATA statements give: by the names of variables and arrays the values of their places in column-major order, from 0,
+    /// which is the only one of a variable. A place that was given none has none, and so have those behind the last one that is kept.
+    pub starts: IndexMap<Vec<u8>, Vec<Option<Value>>>,
 }
 
-impl Drop for Facts<'_> {
+impl Drop for Facts {
     fn drop(self) {
         let Facts {
             constants,
@@ -91,12 +92,12 @@ fn broken_last(
 }
 
 /// What is known of statements, or the least of these pairs and of those of the rule on DATA statements.
-fn facts_of<'a>(
+fn facts_of(
     alloc: Global,
     roles: &Roles,
-    items: &[&'a Item],
+    items: &[&Item],
     others: Option<Broken>,
-) -> Result<Facts<'a>, Refusal>
+) -> Result<Facts, Refusal>
     requires { map tree_at roles.now.items.now ≡ map tree_at items.now }
     ensures exact { IsDecided (with_data (map tree_at items.now) others) result }
     ensures constants { IfOk result (HasConstants (map tree_at items.now)) }
@@ -118,13 +119,12 @@ fn facts_of<'a>(
                 }
                 None => match filling {
                     Some(filling) => {
-                        let Filling { marks, starts } = filling;
-                        drop(marks);
+                        let Filling { given } = filling;
                         let Declared { table, arrays } = declared;
                         Ok(Facts {
                             constants: table.values,
                             arrays,
-                            starts,
+                            starts: given,
                         })
                     }
                     None => {
@@ -142,7 +142,7 @@ fn facts_of<'a>(
 }
 
 /// What is known of a program unit whose statements are these, or the least pair of the rules that it breaks.
-fn judge_items<'a>(alloc: Global, tree: &Tree, items: &[&'a Item]) -> Result<Facts<'a>, Refusal>
+fn judge_items(alloc: Global, tree: &Tree, items: &[&Item]) -> Result<Facts, Refusal>
     requires { map tree_at items.now ≡ flatten (nested tree.now) }
     ensures exact { Gives (λ _. nested tree.now) result (checked (nested tree.now)) }
     ensures constants { IfOk result (HasConstants (flatten (nested tree.now))) }
@@ -157,7 +157,7 @@ fn judge_items<'a>(alloc: Global, tree: &Tree, items: &[&'a Item]) -> Result<Fac
 }
 
 /// What is known of a program unit, or the least pair of the rules that it breaks.
-pub fn judge(alloc: Global, tree: &Tree) -> Result<Facts<'_>, Refusal>
+pub fn judge(alloc: Global, tree: &Tree) -> Result<Facts, Refusal>
     ensures exact { Gives (λ _. nested tree.now) result (checked (nested tree.now)) }
     ensures constants { IfOk result (HasConstants (flatten (nested tree.now))) }
     ensures arrays { IfOk result (HasArrays (flatten (nested tree.now))) }

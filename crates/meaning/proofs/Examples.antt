@@ -6,6 +6,7 @@ use Rattle.meaning.specs.declared.syntax.Sign.TheVariants as signs
 use Rattle.meaning.specs.declared.syntax.Operator.TheVariants as operators
 use Rattle.meaning.specs.declared.syntax.Kind.TheVariants as kinds
 use Rattle.meaning.specs.declared.refusal.Rule.TheVariants.{C3, C4, C5, C6, G1, G2}
+use Rattle.meaning.specs.declared.ending.Ending.{Ending}
 use Rattle.meaning.specs.declared.ending.Ending.TheVariants as endings
 use Rattle.meaning.specs.Syntax.{number, name, signed, binary, paren, no_exprs, assignment, doing}
 use Rattle.meaning.specs.Answers.{answer, program_of, members_of, run_of, message_at}
@@ -33,6 +34,14 @@ use Rattle.meaning.specs.Arrays.{Dimension, elements, place, cell_of}
 use Rattle.meaning.specs.Values.{value, values_of, integer}
 use Rattle.meaning.specs.Maps.{put, start, map_by}
 use Rattle.meaning.specs.Records.{edited, outcome_of, written, text_of, laid, course}
+
+-- what an answer shows beside its turns
+pub record Shown : Type 0 where
+  pub pieces : List (List ℕ)
+  pub ending : Ending
+
+abbrev pub shown : List ℕ → ℕ → Shown
+shown source limit = record { pieces = (answer source limit).pieces; ending = (answer source limit).ending.ending }
 
 -- every definition that stays folded elsewhere
 unfoldable pub all_definitions : Unit {0}
@@ -122,10 +131,10 @@ cell_behind_an_array : cell_of (record { name = codes "A"; dimensions = two_by_t
 cell_behind_an_array = refl
 
 -- the first program that anybody runs
-abbrev first_program : List ℕ
+abbrev pub first_program : List ℕ
 first_program = codes "      WRITE (6,10) 42\n   10 FORMAT (1X,I5)\n      END\n"
 
-first_answer : answer first_program 1000000000 ≡ record { pieces = codes "    42\n" ∷ []; ending = endings.Ended }
+first_answer : shown first_program 1000000000 ≡ record { pieces = codes "    42\n" ∷ []; ending = endings.Ended }
 unfolding all_definitions
 first_answer = refl
 
@@ -134,7 +143,7 @@ abbrev cut_program : List ℕ
 cut_program =
     codes "      WRI\nC\n     1TE (6,1\n     20) 42\n   10 FORMAT (1X,I5)\n      END\n"
 
-cut_answer : answer cut_program 1000000000 ≡ answer first_program 1000000000
+cut_answer : shown cut_program 1000000000 ≡ shown first_program 1000000000
 unfolding all_definitions
 cut_answer = refl
 
@@ -161,11 +170,11 @@ abbrev shared_terminal : List ℕ
 shared_terminal =
     codes "      DO 10 I=1,2\n      DO 10 J=1,3\n   10 K=K+I*J\n      WRITE (6,20) I,J,K\n   20 FORMAT (3I4)\n      END\n"
 
-shared_answer : answer shared_terminal 1000 ≡ record { pieces = codes "   3   4  18\n" ∷ []; ending = endings.Ended }
+shared_answer : shown shared_terminal 1000 ≡ record { pieces = codes "   3   4  18\n" ∷ []; ending = endings.Ended }
 unfolding all_definitions
 shared_answer = refl
 
 -- a format in a character constant, and a quotient towards zero
-printed : answer (codes "      PRINT '(I3)',-7/2\n      END\n") 9 ≡ record { pieces = codes " -3\n" ∷ []; ending = endings.Ended }
+printed : shown (codes "      PRINT '(I3)',-7/2\n      END\n") 9 ≡ record { pieces = codes " -3\n" ∷ []; ending = endings.Ended }
 unfolding all_definitions
 printed = refl

@@ -20,6 +20,7 @@ mod ControlExamples
 mod NameExamples
 mod DataExamples
 mod LoopExamples
+mod TurnExamples
 pub mod Doubled
 pub mod Repeats
 pub mod FirstBroken

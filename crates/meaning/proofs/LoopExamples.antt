@@ -9,19 +9,19 @@ use Rattle.meaning.specs.declared.refusal.Rule.TheVariants.{G1, N1, N4, K2, K3, 
 use Rattle.meaning.specs.Syntax.{number, name, exprs, no_exprs, assignment, doing, doing_while, end_do}
 use Rattle.meaning.specs.Reading.{shape_of, read_shape}
 use Rattle.meaning.specs.Characters.{is_name}
-use Rattle.meaning.specs.Answers.{Answer, answer}
-use Rattle.meaning.proofs.Examples.{all_definitions}
+use Rattle.meaning.specs.Answers.{answer, report}
+use Rattle.meaning.proofs.Examples.{Shown, shown, all_definitions}
 
-abbrev ends : Answer
+abbrev ends : Shown
 ends = record { pieces = []; ending = endings.Ended }
 
-abbrev writes : List ℕ → Answer
+abbrev writes : List ℕ → Shown
 writes bytes = record { pieces = bytes ∷ []; ending = endings.Ended }
 
-abbrev faults : FaultKind → ℕ → Answer
+abbrev faults : FaultKind → ℕ → Shown
 faults kind line = record { pieces = []; ending = endings.Fault (record { kind = kind; line = line }) }
 
-abbrev refused : Rule → ℕ → Answer
+abbrev refused : Rule → ℕ → Shown
 refused rule line = record { pieces = []; ending = endings.Refused rule line }
 
 -- ---- texts
@@ -84,87 +84,100 @@ abbrev both_loops : List ℕ
 both_loops =
     codes "      IMPLICIT NONE\n      INTEGER I,J,TOTALOFROWS\n      DO I=1,4\n      TOTALOFROWS=TOTALOFROWS+I\n      END DO\n      DO WHILE (J*J.LT.TOTALOFROWS)\n      J=J+1\n      END DO\n      WRITE (6,10) I,J,TOTALOFROWS\n   10 FORMAT (3I4)\n      END\n"
 
-both_in_23_turns : answer both_loops 23 ≡ writes (codes "   5   4  10\n")
+both_in_23_turns : shown both_loops 23 ≡ writes (codes "   5   4  10\n")
 unfolding all_definitions
 both_in_23_turns = refl
 
-both_in_22_turns : answer both_loops 22 ≡ faults F4 9
+both_in_22_turns : shown both_loops 22 ≡ faults F4 9
 unfolding all_definitions
 both_in_22_turns = refl
 
-both_in_21_turns : answer both_loops 21 ≡ faults F4 6
+both_in_21_turns : shown both_loops 21 ≡ faults F4 6
 unfolding all_definitions
 both_in_21_turns = refl
 
+-- the turns that are told, also of a fault, and none of a refusal
+both_tell_23 : (answer both_loops 99).ending ≡ report endings.Ended (Some 23)
+unfolding all_definitions
+both_tell_23 = refl
+
+fault_tells_turns : (answer both_loops 21).ending ≡ report (endings.Fault (record { kind = F4; line = 6 })) (Some 21)
+unfolding all_definitions
+fault_tells_turns = refl
+
+refusal_tells_none : (answer (codes "      END DO\n      END\n") 9).ending ≡ report (endings.Refused N4 1) None
+unfolding all_definitions
+refusal_tells_none = refl
+
 -- a condition that is false at once takes one turn; what it faults with has the line of the DO WHILE statement
-false_at_once : answer (codes "      DO WHILE (.FALSE.)\n      K=1/0\n      END DO\n      END\n") 1 ≡ ends
+false_at_once : shown (codes "      DO WHILE (.FALSE.)\n      K=1/0\n      END DO\n      END\n") 1 ≡ ends
 unfolding all_definitions
 false_at_once = refl
 
-faulting_again : answer (codes "      I=2\n      DO 10 WHILE (6/I.GT.0)\n   10 I=I-1\n      END\n") 99 ≡ faults F1 2
+faulting_again : shown (codes "      I=2\n      DO 10 WHILE (6/I.GT.0)\n   10 I=I-1\n      END\n") 99 ≡ faults F1 2
 unfolding all_definitions
 faulting_again = refl
 
 -- transfers: to END DO, which ends the pass; out of the range; back to the DO WHILE statement
-to_end_do : answer (codes "      DO 10 WHILE (I.LT.3)\n      I=I+1\n      IF (I.EQ.2) GO TO 10\n      K=K+1\n   10 END DO\n      PRINT '(2I2)',I,K\n      END\n") 99 ≡ writes (codes " 3 2\n")
+to_end_do : shown (codes "      DO 10 WHILE (I.LT.3)\n      I=I+1\n      IF (I.EQ.2) GO TO 10\n      K=K+1\n   10 END DO\n      PRINT '(2I2)',I,K\n      END\n") 99 ≡ writes (codes " 3 2\n")
 unfolding all_definitions
 to_end_do = refl
 
-out_of_while : answer (codes "      DO WHILE (.TRUE.)\n      I=I+1\n      IF (I.EQ.3) GO TO 20\n      END DO\n   20 PRINT '(I2)',I\n      END\n") 99 ≡ writes (codes " 3\n")
+out_of_while : shown (codes "      DO WHILE (.TRUE.)\n      I=I+1\n      IF (I.EQ.3) GO TO 20\n      END DO\n   20 PRINT '(I2)',I\n      END\n") 99 ≡ writes (codes " 3\n")
 unfolding all_definitions
 out_of_while = refl
 
-back_to_while : answer (codes "   10 DO WHILE (I.LT.3)\n      I=I+1\n      IF (I.EQ.2) GO TO 10\n      K=K+1\n      END DO\n      PRINT '(2I2)',I,K\n      END\n") 99 ≡ writes (codes " 3 2\n")
+back_to_while : shown (codes "   10 DO WHILE (I.LT.3)\n      I=I+1\n      IF (I.EQ.2) GO TO 10\n      K=K+1\n      END DO\n      PRINT '(2I2)',I,K\n      END\n") 99 ≡ writes (codes " 3 2\n")
 unfolding all_definitions
 back_to_while = refl
 
 -- a terminal statement shared with a DO WHILE
-shared_with_while : answer (codes "      DO 10 I=1,2\n      J=0\n      DO 10 WHILE (J.LT.I)\n   10 J=J+1\n      PRINT '(2I2)',I,J\n      END\n") 99 ≡ writes (codes " 3 2\n")
+shared_with_while : shown (codes "      DO 10 I=1,2\n      J=0\n      DO 10 WHILE (J.LT.I)\n   10 J=J+1\n      PRINT '(2I2)',I,J\n      END\n") 99 ≡ writes (codes " 3 2\n")
 unfolding all_definitions
 shared_with_while = refl
 
 -- ---- refusals
 
-two_labels : answer (codes "      DO 10 I=1,2\n      DO J=1,2\n   10 END DO\n      END\n") 9 ≡ refused N4 3
+two_labels : shown (codes "      DO 10 I=1,2\n      DO J=1,2\n   10 END DO\n      END\n") 9 ≡ refused N4 3
 unfolding all_definitions
 two_labels = refl
 
-not_its_own : answer (codes "      DO 10 I=1,2\n      END DO\n   10 CONTINUE\n      END\n") 9 ≡ refused N4 2
+not_its_own : shown (codes "      DO 10 I=1,2\n      END DO\n   10 CONTINUE\n      END\n") 9 ≡ refused N4 2
 unfolding all_definitions
 not_its_own = refl
 
-not_shared : answer (codes "      DO 10 I=1,2\n      DO 10 J=1,2\n   10 END DO\n      END\n") 9 ≡ refused N4 3
+not_shared : shown (codes "      DO 10 I=1,2\n      DO 10 J=1,2\n   10 END DO\n      END\n") 9 ≡ refused N4 3
 unfolding all_definitions
 not_shared = refl
 
-stands_between : answer (codes "      DO 10 I=1,2\n      DO J=1,2\n   10 CONTINUE\n      END\n") 9 ≡ refused N4 3
+stands_between : shown (codes "      DO 10 I=1,2\n      DO J=1,2\n   10 CONTINUE\n      END\n") 9 ≡ refused N4 3
 unfolding all_definitions
 stands_between = refl
 
-nothing_open : answer (codes "      END DO\n      END\n") 9 ≡ refused N4 1
+nothing_open : shown (codes "      END DO\n      END\n") 9 ≡ refused N4 1
 unfolding all_definitions
 nothing_open = refl
 
-nothing_implied : answer (codes "      IMPLICIT NONE\n      I=1\n      END\n") 9 ≡ refused K3 2
+nothing_implied : shown (codes "      IMPLICIT NONE\n      I=1\n      END\n") 9 ≡ refused K3 2
 unfolding all_definitions
 nothing_implied = refl
 
-two_implicit : answer (codes "      IMPLICIT NONE\n      IMPLICIT INTEGER (A)\n      END\n") 9 ≡ refused K4 2
+two_implicit : shown (codes "      IMPLICIT NONE\n      IMPLICIT INTEGER (A)\n      END\n") 9 ≡ refused K4 2
 unfolding all_definitions
 two_implicit = refl
 
-late_implicit : answer (codes "      INTEGER I\n      IMPLICIT NONE\n      END\n") 9 ≡ refused N1 2
+late_implicit : shown (codes "      INTEGER I\n      IMPLICIT NONE\n      END\n") 9 ≡ refused N1 2
 unfolding all_definitions
 late_implicit = refl
 
-no_condition : answer (codes "      DO WHILE (I)\n      END DO\n      END\n") 9 ≡ refused K5 1
+no_condition : shown (codes "      DO WHILE (I)\n      END DO\n      END\n") 9 ≡ refused K5 1
 unfolding all_definitions
 no_condition = refl
 
-into_while : answer (codes "      GO TO 10\n      DO WHILE (.TRUE.)\n   10 END DO\n      END\n") 9 ≡ refused K2 1
+into_while : shown (codes "      GO TO 10\n      DO WHILE (.TRUE.)\n   10 END DO\n      END\n") 9 ≡ refused K2 1
 unfolding all_definitions
 into_while = refl
 
-untyped_counter : answer (codes "      IMPLICIT NONE\n      INTEGER A(2)\n      DATA (A(I),I=1,2)/2*0/\n      END\n") 9 ≡ refused K10 3
+untyped_counter : shown (codes "      IMPLICIT NONE\n      INTEGER A(2)\n      DATA (A(I),I=1,2)/2*0/\n      END\n") 9 ≡ refused K10 3
 unfolding all_definitions
 untyped_counter = refl

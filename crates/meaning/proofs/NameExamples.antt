@@ -260,8 +260,8 @@ reversed_bounds : judged (codes "      INTEGER A(2:1)\n      END\n") ≡ Some (b
 unfolding all_definitions
 reversed_bounds = refl
 
--- arrays that pass 1,048,576 elements together
-two_large_arrays : judged (codes "      INTEGER A(1048576)\n      LOGICAL B(1)\n      END\n") ≡ Some (broken K7 2)
+-- arrays that pass 16,777,216 elements together
+two_large_arrays : judged (codes "      INTEGER A(16777216)\n      LOGICAL B(1)\n      END\n") ≡ Some (broken K7 2)
 unfolding all_definitions
 two_large_arrays = refl
 

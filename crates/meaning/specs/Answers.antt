@@ -1,8 +1,9 @@
 -- The bytes and the ending of a source under a turn limit: what it says, rule by rule and statement by statement.
-use Rattle.std.specs.Prelude.{ℕ, ◌==◌, if◌then◌else◌, List, [], ◌∷◌, map, Result, Ok, Err}
+use Rattle.std.specs.Prelude.{ℕ, ◌==◌, if◌then◌else◌, List, [], ◌∷◌, map, Result, Ok, Err, Option, Some, None}
 use Rattle.meaning.specs.declared.refusal.Broken.{Broken}
 use Rattle.meaning.specs.declared.refusal.Rule.{Rule}
 use Rattle.meaning.specs.declared.ending.Ending.{Ending}
+use Rattle.meaning.specs.declared.ending.Report.{Report}
 use Rattle.meaning.specs.declared.ending.Ending.TheVariants as endings
 use Rattle.meaning.specs.Refusals.{◌>>=◌, all_of}
 use Rattle.meaning.specs.Syntax.{StopTree, stop_silent, stop_digits, stop_text, ShapeTree, logical_if, stopping, ItemTree}
@@ -61,14 +62,21 @@ ending_of program (jump s) = endings.Ended
 ending_of program (stopped line) = endings.Stopped (message_at program line)
 ending_of program (fault kind line) = endings.Fault (record { kind = kind; line = line })
 
--- the pieces that are written, and the ending
+-- what is told: the ending, and the turns that were used, where the program's statements ended it
+abbrev pub report : Ending → Option ℕ → Report
+report ending turns = record { ending = ending; turns = turns }
+
+-- the pieces that are written, and what is told at the end
 pub record Answer : Type 0 where
   pub pieces : List (List ℕ)
-  pub ending : Ending
+  pub ending : Report
+
+abbrev pub told_of : Nested → Ran → Answer
+told_of t r = record { pieces = r.pieces; ending = report (ending_of (flatten t) r.outcome) (Some r.used) }
 
 abbrev pub answer_of : Result Nested Broken → ℕ → Answer
-answer_of (Err b) limit = record { pieces = []; ending = endings.Refused b.rule b.line }
-answer_of (Ok t) limit = record { pieces = (run_of t limit).pieces; ending = ending_of (flatten t) (run_of t limit).outcome }
+answer_of (Err b) limit = record { pieces = []; ending = report (endings.Refused b.rule b.line) None }
+answer_of (Ok t) limit = told_of t (run_of t limit)
 
 unfoldable pub answer : List ℕ → ℕ → Answer
 answer source limit = answer_of (program_of source) limit

@@ -40,3 +40,4 @@ pub mod Promise
 pub mod Reports
 pub mod Stores
 pub mod Arrays
+pub mod Endings

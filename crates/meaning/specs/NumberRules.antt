@@ -78,7 +78,7 @@ has_bad_number r before x =
     || (is_bad_constant r.names.types (known_behind_all r before) (constants_in x.shape)
     || has_bad_bound r.names.types (known_behind_all r before) (declarators_in x.shape))
 
--- ---- K7: more than seven dimensions, a lower bound above the upper one, or more than 1,048,576 elements (own)
+-- ---- K7: more than seven dimensions, a lower bound above the upper one, or more than 16,777,216 elements (own)
 
 abbrev pub is_reversed : Dimension → Bool
 is_reversed d = int_lt d.upper d.lower
@@ -93,7 +93,7 @@ abbrev pub is_too_large : Types → Known → ℕ → DeclaratorTree → Bool
 is_too_large types known before d =
     nat_lt 7 (length d.bounds)
     || (list_any is_reversed (dimensions_by types known d)
-    || (nat_lt 0 (length d.bounds) && nat_lt 1048576 (before + elements_of types known d)))
+    || (nat_lt 0 (length d.bounds) && nat_lt 16777216 (before + elements_of types known d)))
 
 abbrev pub have_too_large : Types → Known → ℕ → List DeclaratorTree → Bool
 have_too_large types known before [] = false

@@ -2,8 +2,8 @@
 use Rattle.std.specs.Prelude.{◌≡◌, ℕ, Bool, true, List, ◌++◌, Option}
 use Rattle.std.specs.List.{concat}
 use Rattle.std.specs.Io.KnownBytes.{Appends}
-use Rattle.meaning.specs.declared.ending.Ending.{Ending}
-use Rattle.meaning.specs.declared.ending.Ending.TheVariants as endings
+use Rattle.meaning.specs.declared.ending.Report.{Report as Ending}
+use Rattle.meaning.specs.Endings as endings
 use Rattle.meaning.specs.Answers.{Answer}
 
 -- what a sink tells: its bytes, where they are known, and whether it has refused

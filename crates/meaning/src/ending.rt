@@ -142,3 +142,11 @@ pub enum Ending {
     /// The sink refused a write.
     WriteRefused,
 }
+
+/// What is told of a run: how it ended, and how many turns it used. Those are told of a run that was ended by its statements, and of
+/// no other: where the source was refused, memory or a write, there is no number.
+#[derive(Drop, Debug, PartialEq, Eq)]
+pub struct Report {
+    pub ending: Ending,
+    pub turns: Option<u64>,
+}

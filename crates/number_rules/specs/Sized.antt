@@ -19,7 +19,7 @@ capped_with t ds n = capped (n + sum_by (elements_of (types_in t) (known_at t)) 
 
 -- behind so many, there are too many, a declarator is too large, or one of several is
 abbrev pub has_too_many_at : Table → Declarator → ℕ → Bool
-has_too_many_at t d n = nat_lt 1048576 (n + elements_at t d)
+has_too_many_at t d n = nat_lt 16777216 (n + elements_at t d)
 
 abbrev pub is_too_large_at : Table → Declarator → ℕ → Bool
 is_too_large_at t d n = is_too_large (types_in t) (known_at t) n (declarator_tree d)

@@ -18,7 +18,7 @@ use rule_passes::{Behind, least_told};
 use std::alloc::{AllocError, Global};
 
 /// The most elements that the arrays of a program may have.
-const MOST: u64 = 1_048_576;
+const MOST: u64 = 16_777_216;
 
 /// How many elements an array of these bounds has, or 2^64-1 where there are more.
 fn size_of(table: &Table, bounds: &[Bounds]) -> u64

@@ -344,6 +344,9 @@ module _ (scope : Scope) (rec : Meaning) (arms : List Arm) (whole : Ways → Ran
   arm_steps x n left o old new y =
       steps_behind whole (λ go. arms_left scope rec arms first i m t go) given t n left o old new s (steps_behind (λ go. arms_left scope rec arms first i m t go) (λ go. leads_on (rec (members_tree a.body.items) (members_tree a.body.items) m u) u go) t u n left o old new (after_test scope rec arms whole given first i t m s a u lt is true x) (steps_on (rec (members_tree a.body.items) (members_tree a.body.items) m u) u n left o old new y))
 
-pub ends_as : (r : Ran) (given : ℕ) (m : Map) (left : ℕ) (o : Result Outcome Halt) (old new : Told) → Runs r given m left o old new → Ends r o old new
-ends_as r given m left (Ok o) old new x = record { outcome = x.outcome; bytes = x.bytes }
-ends_as r given m left (Err h) old new x = x
+pub ends_as : (r : Ran) (given : ℕ) (m : Map) (left : ℕ) (o : Outcome) (used : ℕ) (old new : Told) → used ≡ given - left → Runs r given m left (Ok o) old new → Ends r (Ok (record { outcome = o; turns_used = used })) old new
+ends_as r given m left o used old new same x =
+    record { outcome = x.outcome; turns = what_was_used r.used left given x.turns ∙ sym same; bytes = x.bytes }
+  where
+    what_was_used : (a b c : ℕ) → a + b ≡ c → a ≡ c - b
+    what_was_used a b c e = omega arith

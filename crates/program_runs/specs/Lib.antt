@@ -4,3 +4,4 @@ pub mod Located
 pub mod Quiet
 pub mod Recorded
 pub mod Walk
+pub mod Reported

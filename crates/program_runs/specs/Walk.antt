@@ -3,6 +3,7 @@ use Rattle.std.specs.Prelude.{◌≡◌, ◌+◌, ℕ, ℤ, List, Result, Ok, Er
 use Rattle.std.specs.List.{concat}
 use Rattle.meaning.specs.declared.ending.Outcome.{Outcome}
 use Rattle.meaning.specs.declared.ending.Outcome.TheVariants as outcomes
+use Rattle.meaning.specs.declared.ending.Run.{Run}
 use Rattle.meaning.specs.declared.syntax.Tree.{Tree}
 use Rattle.meaning.specs.Maps.{Map}
 use Rattle.meaning.specs.Syntax.{FormatTree, ItemTree, ListItemsTree}
@@ -102,11 +103,12 @@ pub record SoFar (whole rest : Ran) (given left : ℕ) (old new : Told) : Type 0
 
 -- ---- the run of a program
 
--- it was run to its end, and wrote all its pieces
-pub record HasEnded (r : Ran) (o : Outcome) (old new : Told) : Type 0 where
-  pub outcome : r.outcome ≡ outcome_of o
+-- it was run to its end, with so many turns, and wrote all its pieces
+pub record HasEnded (r : Ran) (run : Run) (old new : Told) : Type 0 where
+  pub outcome : r.outcome ≡ outcome_of run.outcome
+  pub turns : r.used ≡ run.turns_used
   pub bytes : Took old new (concat r.pieces)
 
-abbrev pub Ends : Ran → Result Outcome Halt → Told → Told → Type 0
-Ends r (Ok o) old new = HasEnded r o old new
+abbrev pub Ends : Ran → Result Run Halt → Told → Told → Type 0
+Ends r (Ok run) old new = HasEnded r run old new
 Ends r (Err h) old new = Halts r.pieces h old new

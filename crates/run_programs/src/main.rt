@@ -1,15 +1,16 @@
 //! Runs each FORTRAN program of `data`, where each module has a folder, and compares how it ends and what it writes with the
 //! file beside it: a line with the ending, and the records. The records are those that another compiler's program writes
 //! (gfortran 12.2, by `gfortran -std=legacy -w -finit-local-zero`) where it takes the program and means the same by it; which
-//! rule is told and which fault comes from docs/LANGUAGE.md. A first line `C TURNS n` gives the program n turns; any other has
+//! rule is told and which fault comes from docs/LANGUAGE.md. Where the ending's line says turns, as in `ENDED AFTER 23 TURNS`, these
+//! were counted by hand. A first line `C TURNS n` gives the program n turns; any other has
 //! 1,000,000,000. The examples, in the folder `examples` there, end without a fault; the files beside them hold their records alone.
 //! A program with a DO or DO WHILE statement is run by 40 plans; any other by two, and so is each example. By each plan it comes to
-//! the same.
+//! the same. By four plans a program that used n turns comes to the same with n, and with n - 1, where that is a limit, to F4.
 #![tactic(auto)]
 
 use executor::run::run;
 use executor::{Open, Out};
-use meaning::ending::{Ending, StopMessage};
+use meaning::ending::{Ending, Fault, FaultKind, Report, StopMessage};
 use meaning::plan::Plan;
 use std::alloc::Global;
 use std::io::Print;
@@ -72,6 +73,9 @@ const ALL: &[Numbers] = &[
     (64, 7, 1),
 ];
 
+/// The plans by which it is tried how many turns a program needs.
+const FOR_TURNS: &[Numbers] = &[(1, 1, 1), (2, 7, 8), (4, 2, 8), (3, 1, 3)];
+
 // The number behind `C TURNS` in a source's first line, if that is what stands there.
 fn turns_said(source: &[u8]) -> Option<u64> {
     let line = source.split(|&c| c == b'\n').next()?;
@@ -79,43 +83,67 @@ fn turns_said(source: &[u8]) -> Option<u64> {
     digits.parse().ok()
 }
 
-// The line of a STOP statement.
-fn stop_line(alloc: Global, message: &StopMessage) -> io::Result<String> {
-    let line = match str::from_utf8(message.text()) {
-        Ok("") => format!(in alloc; "STOP\n")?,
-        Ok(text) => format!(in alloc; "STOP {text}\n")?,
-        Err(_) => format!(in alloc; "STOP WITH OTHER BYTES\n")?,
+// What is told of a STOP statement.
+fn stop_of(alloc: Global, message: &StopMessage) -> io::Result<String> {
+    let told = match str::from_utf8(message.text()) {
+        Ok("") => format!(in alloc; "STOP")?,
+        Ok(text) => format!(in alloc; "STOP {text}")?,
+        Err(_) => format!(in alloc; "STOP WITH OTHER BYTES")?,
+    };
+    Ok(told)
+}
+
+// What is told of an ending.
+fn ending_of(alloc: Global, ending: &Ending) -> io::Result<String> {
+    let told = match ending {
+        Ending::Ended => format!(in alloc; "ENDED")?,
+        Ending::Stopped(message) => stop_of(alloc, message)?,
+        Ending::Fault(fault) => format!(in alloc; "FAULT {} LINE {}", fault.kind, fault.line)?,
+        Ending::Refused(rule, line) => format!(in alloc; "REFUSED {rule} LINE {line}")?,
+        Ending::Memory => format!(in alloc; "NO MEMORY")?,
+        Ending::WriteRefused => format!(in alloc; "WRITE REFUSED")?,
+    };
+    Ok(told)
+}
+
+// The line of an ending, with the turns where they are wanted.
+fn line_of(alloc: Global, report: &Report, with_turns: bool) -> io::Result<String> {
+    let told = ending_of(alloc, &report.ending)?;
+    let line = match report.turns {
+        Some(turns) if with_turns => format!(in alloc; "{told} AFTER {turns} TURNS\n")?,
+        _ => format!(in alloc; "{told}\n")?,
     };
     Ok(line)
 }
 
-// The line of an ending.
-fn line_of(alloc: Global, ending: Ending) -> io::Result<String> {
-    let line = match ending {
-        Ending::Ended => format!(in alloc; "ENDED\n")?,
-        Ending::Stopped(message) => stop_line(alloc, &message)?,
-        Ending::Fault(fault) => { format!(in alloc; "FAULT {} LINE {}\n", fault.kind, fault.line)? }
-        Ending::Refused(rule, line) => format!(in alloc; "REFUSED {rule} LINE {line}\n")?,
-        Ending::Memory => format!(in alloc; "NO MEMORY\n")?,
-        Ending::WriteRefused => format!(in alloc; "WRITE REFUSED\n")?,
-    };
-    Ok(line)
+/// How a source ended, with its turns, and its records.
+#[derive(Drop)]
+struct Found {
+    report: Report,
+    records: Vec<u8>,
 }
 
-// How a source ends under a plan, and its records.
-fn outcome_of<R: AllocGlobal + Threads + Wait + Sync>(
+// How a source ends by the plan with these numbers and so many turns, and its records; none where there is no such plan.
+fn found_by<R: AllocGlobal + Threads + Wait + Sync>(
     rt: &R,
     source: &[u8],
-    plan: &Plan,
-) -> io::Result<Vec<u8>> {
-    let alloc = rt.alloc();
-    let mut sink = Out::new(Vec::new(alloc));
-    let ending = run(rt, alloc, source, plan, &mut sink, &Open);
+    numbers: Numbers,
+    turns: u64,
+) -> Option<Found> {
+    let (workers, block, window) = numbers;
+    let plan = Plan::new(workers, block, window, turns)?;
+    let mut sink = Out::new(Vec::new(rt.alloc()));
+    let report = run(rt, rt.alloc(), source, &plan, &mut sink, &Open);
     let records = sink.into_inner();
-    let line = line_of(alloc, ending)?;
-    let mut found = Vec::from_slice(alloc, line.as_bytes())?;
-    found.extend_from_slice(&records)?;
-    Ok(found)
+    Some(Found { report, records })
+}
+
+// Whether the first line of what is wanted says turns.
+fn says_turns(wanted: &[u8]) -> bool {
+    match wanted.split(|&c| c == b'\n').next() {
+        Some(line) => line.strip_suffix(b" TURNS").is_some(),
+        None => false,
+    }
 }
 
 // Whether a source comes to what is wanted by the plan with these numbers.
@@ -125,13 +153,40 @@ fn comes_to<R: AllocGlobal + Threads + Wait + Sync>(
     wanted: &[u8],
     numbers: Numbers,
 ) -> io::Result<bool> {
-    let (workers, block, window) = numbers;
-    match Plan::new(workers, block, window, turns_said(source).unwrap_or(TURNS)) {
-        Some(plan) => {
-            let found = outcome_of(rt, source, &plan)?;
-            Ok(found.as_slice() == wanted)
-        }
-        None => Ok(false),
+    let Some(found) = found_by(rt, source, numbers, turns_said(source).unwrap_or(TURNS)) else {
+        return Ok(false);
+    };
+    let line = line_of(rt.alloc(), &found.report, says_turns(wanted))?;
+    Ok(wanted.strip_prefix(line.as_bytes()) == Some(found.records.as_slice()))
+}
+
+// Whether a run met the limit on turns.
+fn met_limit(report: &Report) -> bool {
+    let kind = FaultKind::F4;
+    matches!(report.ending, Ending::Fault(Fault { kind: found, .. }) if found == kind)
+}
+
+// Whether a program comes to the same with as many turns as it used, and meets the limit with one less.
+fn needs_its_turns<R: AllocGlobal + Threads + Wait + Sync>(
+    rt: &R,
+    source: &[u8],
+    numbers: Numbers,
+) -> bool {
+    let Some(whole) = found_by(rt, source, numbers, turns_said(source).unwrap_or(TURNS)) else {
+        return false;
+    };
+    let turns = match whole.report.turns {
+        Some(turns) if turns > 0 && !met_limit(&whole.report) => turns,
+        _ => return true,
+    };
+    let Some(enough) = found_by(rt, source, numbers, turns) else {
+        return false;
+    };
+    let same = enough.report == whole.report && enough.records == whole.records;
+    match found_by(rt, source, numbers, turns.saturating_sub(1)) {
+        Some(less) => same && met_limit(&less.report),
+        // No plan has 0 turns.
+        None => same && turns == 1,
     }
 }
 
@@ -144,6 +199,11 @@ fn missed_by<R: AllocGlobal + Threads + Wait + Sync>(
 ) -> io::Result<Option<Numbers>> {
     for &numbers in plans {
         if !comes_to(rt, source, wanted, numbers)? {
+            return Ok(Some(numbers));
+        }
+    }
+    for &numbers in FOR_TURNS {
+        if !needs_its_turns(rt, source, numbers) {
             return Ok(Some(numbers));
         }
     }
@@ -187,9 +247,9 @@ fn writes<R: AllocGlobal + Threads + Wait + Sync>(
         return false;
     };
     let mut sink = Out::new(Vec::new(rt.alloc()));
-    let ending = run(rt, rt.alloc(), source, &plan, &mut sink, &Open);
+    let report = run(rt, rt.alloc(), source, &plan, &mut sink, &Open);
     let records = sink.into_inner();
-    match ending {
+    match report.ending {
         Ending::Ended | Ending::Stopped(_) => records.as_slice() == wanted,
         _ => false,
     }

@@ -66,8 +66,8 @@ pub fn plan_with(rt: &impl Abort, turns: u64) -> Plan {
 pub fn outcome(rt: &impl Abort, alloc: Global, source: &[u8], turns: u64) -> (Ending, Vec<u8>) {
     let plan = plan_with(rt, turns);
     let mut sink = Out::new(Vec::new(alloc));
-    let ending = run_in_order(alloc, source, &plan, &mut sink);
-    (ending, sink.into_inner())
+    let report = run_in_order(alloc, source, &plan, &mut sink);
+    (report.ending, sink.into_inner())
 }
 
 /// Whether a source with so many turns comes to this ending and these records.
@@ -94,9 +94,9 @@ pub fn agrees_by_stages<R: Threads + Wait + Sync, G: Gate + Sync>(
     records: &[u8],
 ) -> bool {
     let mut sink = Out::new(Vec::new(alloc));
-    let ending = run(rt, alloc, source, plan, &mut sink, gate);
+    let report = run(rt, alloc, source, plan, &mut sink, gate);
     let bytes = sink.into_inner();
-    ending == *want && bytes.as_slice() == records
+    report.ending == *want && bytes.as_slice() == records
 }
 
 /// Compares the ending of a source with so many turns, and the records that it writes.

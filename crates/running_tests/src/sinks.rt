@@ -21,10 +21,10 @@ const STEPS: &[usize] = &[1, 3, usize::MAX];
 fn run_over(rt: &impl Abort, alloc: Global, source: &str, meter: Meter) -> (Ending, bool, Vec<u8>) {
     let mut sink = Out::new(meter);
     let plan = plan_with(rt, MANY);
-    let ending = run_in_order(alloc, source.as_bytes(), &plan, &mut sink);
+    let report = run_in_order(alloc, source.as_bytes(), &plan, &mut sink);
     let refused = sink.refused();
     let Meter { bytes, .. } = sink.into_inner();
-    (ending, refused, bytes)
+    (report.ending, refused, bytes)
 }
 
 /// Whether a source over a writer comes to this ending, refused or not, and these bytes are taken.

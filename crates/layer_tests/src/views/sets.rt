@@ -15,11 +15,11 @@ fn set_of(alloc: Global, numbers: &[usize]) -> Result<Marks, AllocError> {
     Ok(marks)
 }
 
-/// The last cell of 1,048,576, beside those at the borders of words of 64.
-const BORDERS: &[usize] = &[0, 63, 64, 1_048_575];
+/// The last cell of 16,777,216, beside those at the borders of words of 64.
+const BORDERS: &[usize] = &[0, 63, 64, 16_777_215];
 
 /// Cells that aren't among them.
-const BESIDE: &[usize] = &[1, 62, 65, 127, 128, 1_048_511, 1_048_574, 1_048_576];
+const BESIDE: &[usize] = &[1, 62, 65, 127, 128, 16_777_151, 16_777_214, 16_777_216];
 
 /// That a set has each of these cells, or none of them.
 fn check_has(rt: &impl Abort, marks: &Marks, numbers: &[usize], want: bool) {
@@ -46,8 +46,10 @@ const PAIRS: &[(&[usize], &[usize], bool)] = &[
     (&[0], &[0], true),
     (&[0], &[64], false),
     (&[63], &[64], false),
-    (&[0, 63, 1_048_575], &[64, 1_048_574], false),
-    (&[1_048_575, 5, 9], &[64, 1_048_575, 8], true),
+    (&[0, 63, 16_777_215], &[64, 16_777_214], false),
+    (&[16_777_215, 5, 9], &[64, 16_777_215, 8], true),
+    (&[16_777_215], &[16_777_215], true),
+    (&[16_777_215], &[16_777_214], false),
     (&[7, 7, 7], &[1, 2, 3, 7], true),
     (&[1, 3, 5, 7, 9, 11], &[0, 2, 4, 6, 8, 10, 12], false),
     (&[1, 3, 5, 7, 9, 11], &[0, 2, 4, 6, 8, 9, 12], true),

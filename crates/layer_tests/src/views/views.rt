@@ -265,7 +265,7 @@ fn views_that_meet(rt: HostRuntime) -> Result<(), Fail> {
 }
 
 /// The greatest number of cells, and those at the borders of words of 64.
-const MOST: usize = 1_048_576;
+const MOST: usize = 16_777_216;
 
 const BORDERS: Course = Course {
     steps: &[
@@ -292,7 +292,7 @@ fn check_borders(rt: &impl Abort, cells: &[i32]) {
         let want = match number {
             0 => 3,
             64 => 1,
-            1_048_575 => 2,
+            16_777_215 => 2,
             _ => 7,
         };
         assert!(rt; value == want, "{number}");

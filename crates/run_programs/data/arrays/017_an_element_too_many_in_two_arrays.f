@@ -1,3 +1,3 @@
-      INTEGER A(1048575)
+      INTEGER A(16777215)
       INTEGER B(2)
       END

@@ -1,2 +1,2 @@
-      INTEGER A(1048577)
+      INTEGER A(16777217)
       END

@@ -1,2 +1,2 @@
-      INTEGER A(1025,1024)
+      INTEGER A(4097,4096)
       END

@@ -1,2 +1,2 @@
-      INTEGER A(1048575),B(2)
+      INTEGER A(16777215),B(2)
       END

@@ -1,4 +1,4 @@
-      INTEGER A(1048575)
+      INTEGER A(16777215)
       LOGICAL L
       DIMENSION L(2)
       END

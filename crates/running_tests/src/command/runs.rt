@@ -328,7 +328,7 @@ const FAULTY: &[(&[&[u8]], &str)] = &[
     ),
     (
         &[b"f77run", b"--help=yes"],
-        "--help and --version take no value\n",
+        "--count, --help and --version take no value\n",
     ),
     (
         &[b"f77run", b"--turns", b"5", b"--turns=5"],

@@ -76,6 +76,11 @@ const TAKEN: &[(&[&str], (u64, u64, u64, u64), Option<&str>)] = &[
         Some("--turns"),
     ),
     (
+        &["f77run", "--", "--count"],
+        (4, 64, 8, 1_000_000_000),
+        Some("--count"),
+    ),
+    (
         &["f77run", "--", "--"],
         (4, 64, 8, 1_000_000_000),
         Some("--"),
@@ -89,6 +94,27 @@ const TAKEN: &[(&[&str], (u64, u64, u64, u64), Option<&str>)] = &[
         &["f77run", "a.f", "--"],
         (4, 64, 8, 1_000_000_000),
         Some("a.f"),
+    ),
+];
+
+// Words with --count among them, the turns that they ask for, and the file.
+const COUNTED: &[(&[&str], u64, Option<&str>)] = &[
+    (&["f77run", "--count"], 1_000_000_000, None),
+    (&["f77run", "--count", "a.f"], 1_000_000_000, Some("a.f")),
+    (&["f77run", "a.f", "--count"], 1_000_000_000, Some("a.f")),
+    (&["f77run", "--count", "--turns", "5"], 5, None),
+    (&["f77run", "--turns=5", "--count"], 5, None),
+    (
+        &["f77run", "--turns", "5", "--count", "a.f"],
+        5,
+        Some("a.f"),
+    ),
+    // it has no number, so that a number behind it is a file
+    (&["f77run", "--count", "5"], 1_000_000_000, Some("5")),
+    (
+        &["f77run", "--count", "--", "--count"],
+        1_000_000_000,
+        Some("--count"),
     ),
 ];
 
@@ -137,6 +163,29 @@ const REFUSED: &[(&[&str], OptionsFault)] = &[
         &["f77run", "--turns", "5", "--turns"],
         OptionsFault::NoNumber,
     ),
+    // --count
+    (&["f77run", "--count", "--count"], OptionsFault::GivenTwice),
+    (
+        &["f77run", "--count", "a.f", "--count", "--help"],
+        OptionsFault::GivenTwice,
+    ),
+    (&["f77run", "--turns", "--count"], OptionsFault::NoNumber),
+    (
+        &["f77run", "--turns", "0", "--count"],
+        OptionsFault::BadNumber,
+    ),
+    (&["f77run", "--count=yes"], OptionsFault::NeedlessValue),
+    (&["f77run", "--count="], OptionsFault::NeedlessValue),
+    (
+        &["f77run", "--turns", "0", "--count=yes"],
+        OptionsFault::NeedlessValue,
+    ),
+    (&["f77run", "--counts"], OptionsFault::NoSuchOption),
+    (&["f77run", "-c"], OptionsFault::NoSuchOption),
+    (
+        &["f77run", "--count", "a.f", "b.f"],
+        OptionsFault::TooManyFiles,
+    ),
     (&["f77run", "a.f", "b.f"], OptionsFault::TooManyFiles),
     (&["f77run", "a.f", "--", "b.f"], OptionsFault::TooManyFiles),
     (&["f77run", "-x"], OptionsFault::NoSuchOption),
@@ -174,6 +223,21 @@ fn taken(rt: HostRuntime) {
             Ok(asked) => {
                 let plan = asked.plan;
                 assert!(rt; (plan.workers(), plan.block(), plan.window(), plan.turns()) == numbers);
+                assert!(rt; asked.file == file);
+                assert!(rt; !asked.count);
+            }
+            Err(fault) => assert!(rt; false, "{fault}"),
+        }
+    }
+}
+
+#[test]
+fn counted(rt: HostRuntime) {
+    for &(words, turns, file) in COUNTED {
+        match options(rt.alloc(), words) {
+            Ok(asked) => {
+                assert!(rt; asked.count);
+                assert!(rt; asked.plan.turns() == turns);
                 assert!(rt; asked.file == file);
             }
             Err(fault) => assert!(rt; false, "{fault}"),
@@ -244,6 +308,7 @@ fn help_has_each_option_and_status(rt: HostRuntime) {
         "  --block N      1 to 1000000, 64: ",
         "  --window N     1 to 256, 8: ",
         "  --turns N      1 to 1000000000000, 1000000000: ",
+        "  --count        ",
         "  -h, --help     ",
         "  -V, --version  ",
         "the answer is that of one worker",

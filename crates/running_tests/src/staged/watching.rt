@@ -182,8 +182,8 @@ fn run<R: Abort + Threads + Wait + Sync>(
         { look_and_run(watching, program, repeated, cells, turns) },
     };
     let mut sink = Out::new(Vec::new(watching.alloc));
-    let ending = run_by(watching.alloc, &staged, source, turns, &mut sink);
-    (ending, sink.into_inner())
+    let report = run_by(watching.alloc, &staged, source, turns, &mut sink);
+    (report.ending, sink.into_inner())
 }
 
 /// The run of a source whose DO statements are looked at, each in blocks of so many trips, of which a stage has so many at most.

@@ -18,8 +18,8 @@ returns-in_ok-size-in-Some-clause-filled c =
     let ds = map dimension c.in-Some.dimensions.now.items in
     let array = sym (c.requires n) ∙ ap (option_map dimensions_of) (sym c.in-Some.ensures.value) in
     let sized = c.in_ok-size-in-Some.ensures ∙ ap (λ xs. size (map dimension xs)) c.deref.ensures.value in
-    same_given c.give_elements.result _
+    same_given c.give_places.result _
     (ap (λ a. filled r.names (whole_target a (is_other r n) n) (stage_of g)) array
     ∙ filled_whole r.names n ds (stage_of g) array
     ∙ ap (λ k. give_places r.names.types n (range_with_len 0 k) (stage_of g)) (sym sized))
-    c.give_elements.ensures
+    c.give_places.ensures

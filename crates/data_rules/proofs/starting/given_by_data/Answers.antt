@@ -1,10 +1,10 @@
-use Rattle.std.proofs.Common.{[], ◌∷◌, ◌++◌, map, take, sym, ap, ap₂, subst, ◌∙◌}
+use Rattle.std.proofs.Common.{[], ◌∷◌, ◌++◌, map, take, sym, ap, subst, ◌∙◌}
 use Rattle.std.specs.Map.{lookup}
 use Rattle.std.specs.Str.{bytes_eq}
 use Rattle.roles.specs.RolesAt.{roles_at}
 use Rattle.data_rules.specs.DataPassed.{IsPassed}
 use Rattle.rule_passes.specs.Listed.{tree_at}
-use Rattle.data_rules.specs.Marked.{given_at, has_place}
+use Rattle.data_rules.specs.Slots.{slot_if}
 use Rattle.declarations.specs.Tables.{IsBehind}
 use Rattle.data_rules.proofs.DataPairing.{stage}
 use Rattle.data_rules.proofs.DataPassing.{none_passed}
@@ -20,8 +20,8 @@ loop-item-init c = record {
   roles = c.table_of-table.ensures.roles;
   behind = c.table_of-table.ensures.behind;
   passed =
-      none_passed (roles_at c.args.roles.now) c.args.others (record { marks = c.new-marks.result; starts = c.new-starts.result })
-      (ap₂ (λ es xs. stage (λ n i. has_place (lookup (λ k. bytes_eq n k.items) es) i) (map given_at xs) []) c.new-marks.ensures.empty c.new-starts.ensures.items);
+      none_passed (roles_at c.args.roles.now) c.args.others (record { given = c.new-given.result })
+      (ap (λ es. stage (λ n i. slot_if (lookup (λ k. bytes_eq n k.items) es) i) []) c.new-given.ensures.empty);
 }
 
 pub loop-item-preserved : goal.loop-item-preserved

@@ -33,4 +33,4 @@ returns-in-Some-filling-clause-starts c =
     let r = roles_at c.args.roles.now in
     let here = map tree_at c.args.items.now in
     (has_filled r c.args.others here c.in-Ok.passed c.in-Ok.ensures c.in-Some-filling.filling c.in-Some-filling.is).given
-    ∙ ap (λ q. map (given_by q.names) (starts_from q [] here)) (ap roles_of c.requires)
+    ∙ ap (λ q. given_by q.names (starts_from q [] here)) (ap roles_of c.requires)

@@ -1,6 +1,6 @@
-      PARAMETER (N=1048576)
+      PARAMETER (N=16777216)
       INTEGER A(N)
-      DATA A/1048575*7,8/
+      DATA A/16777215*7,8/
       WRITE (6,10) A(1),A(N-1),A(N)
    10 FORMAT (3I2)
       END

@@ -1,3 +1,0 @@
-      INTEGER A(1048576)
-      DATA A/1048577*7/
-      END

@@ -1,3 +1,0 @@
-      INTEGER A(1048576)
-      DATA A/1048575*7/
-      END
