@@ -2,10 +2,10 @@
 //! and 15).
 #![tactic(auto)]
 
-mod coded;
 mod codes;
 mod functions;
 mod items;
+mod program;
 mod statement;
 
-pub use coded::check;
+pub use program::coded;

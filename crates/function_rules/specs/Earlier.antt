@@ -1,9 +1,9 @@
 -- A statement function by what is known of those before it.
-use Rattle.std.specs.Prelude.{◌≡◌, ℕ, suc, Bool, false, not, ◌&&◌, ◌||◌, nat_lt, List, [], ◌∷◌, reverse, flat_map, is_some, if◌then◌else◌, Option, Some, None, option_map}
+use Rattle.std.specs.Prelude.{◌≡◌, ℕ, suc, Bool, false, not, ◌&&◌, ◌||◌, nat_lt, List, [], ◌∷◌, reverse, is_some, if◌then◌else◌, Option, Some, None, option_map}
 use Rattle.std.specs.List.{list_any}
 use Rattle.std.specs.Str.{bytes_eq}
-use Rattle.meaning.specs.NameRules.{dummy_name, greatest, has_bad_dummies, level_by, nodes_by, nodes_in}
-use Rattle.meaning.specs.Scopes.{Definition, definitions_of}
+use Rattle.meaning.specs.NameRules.{greatest, has_bad_dummies, level_by, nodes_by, nodes_in}
+use Rattle.meaning.specs.Scopes.{Definition, definitions_of, is_dummy}
 use Rattle.meaning.specs.Syntax.{ExprTree, ItemTree}
 use Rattle.meaning.specs.Uses.{Roles, Use, is_function, is_one_of, uses_in}
 use Rattle.function_rules.specs.Measured.{capped}
@@ -15,7 +15,7 @@ stands_twice (n ∷ ns) = is_one_of ns n || stands_twice ns
 
 -- a dummy that is used as a function, and a statement function that isn't known
 abbrev pub is_dummy_use : List ExprTree → Use → Bool
-is_dummy_use dummies u = is_some u.arguments && is_one_of (flat_map dummy_name dummies) u.name
+is_dummy_use dummies u = is_some u.arguments && is_dummy dummies u.name
 
 abbrev pub is_later_use : Roles → (List ℕ → Bool) → Use → Bool
 is_later_use r known u = is_some u.arguments && (is_function r u.name && not (known u.name))

@@ -2,11 +2,10 @@
 
 ghost use Rattle.std.specs.Prelude.{◌≡◌, ◌||◌, ◌&&◌, flat_map, length, nat_lt, IfOk, OnOk};
 ghost use Rattle.std.specs.List.{list_any};
-ghost use Rattle.meaning.specs.NameRules.{breaks_function_rules, dummy_name, has_bad_dummies as has_bad_dummies_by, is_no_name, sets_no_array as sets_no_array_by};
+ghost use Rattle.meaning.specs.NameRules.{breaks_function_rules, has_bad_dummies as has_bad_dummies_by, is_no_name, sets_no_array as sets_no_array_by};
 ghost use Rattle.meaning.specs.Refusals.{least};
-ghost use Rattle.meaning.specs.Scopes.{listed};
+ghost use Rattle.meaning.specs.Scopes.{dummy_name, listed};
 ghost use Rattle.meaning.specs.Syntax.{exprs_tree, shape_tree};
-ghost use Rattle.meaning.specs.Uses.{is_one_of};
 ghost use Rattle.roles.specs.Functions.{definition_at, dummies_at};
 ghost use Rattle.roles.specs.RolesAt.{roles_at};
 ghost use Rattle.function_rules.specs.Earlier.{is_dummy_use, is_later_use, stands_twice};
@@ -18,7 +17,7 @@ use crate::measures::{Measure, keep_measure, measure_of};
 use indexmap::IndexMap;
 use meaning::refusal::{Broken, Rule};
 use meaning::syntax::{Expr, Exprs, Item, Shape};
-use name_uses::{NameUse, Sought, add_uses, has_passing, is_bare};
+use name_uses::{NameUse, Sought, add_uses, has_passing, is_bare, is_dummy};
 use roles::{Function, Roles, Stage, defined_by, is_function_name};
 use rule_passes::{Behind, least_told};
 use std::alloc::{AllocError, Global};
@@ -42,19 +41,6 @@ fn has_no_name(dummies: &Exprs) -> bool
         Exprs::More(dummy, rest) => match dummy {
             Expr::Name(_) => has_no_name(rest),
             _ => true,
-        },
-    }
-}
-
-/// Whether a name is one of the dummies.
-fn is_dummy(dummies: &Exprs, name: &[u8]) -> bool
-    ensures { result ≡ is_one_of (flat_map dummy_name (listed (exprs_tree dummies.now))) name.now }
-{
-    match dummies {
-        Exprs::Empty => false,
-        Exprs::More(dummy, rest) => match dummy {
-            Expr::Name(own) => name == own.as_slice() || is_dummy(rest, name),
-            _ => is_dummy(rest, name),
         },
     }
 }

@@ -7,7 +7,8 @@ ghost use Rattle.meaning.specs.Trees.{item_tree};
 ghost use Rattle.meaning.specs.Answers.{member_of, members_of, program_of};
 ghost use Rattle.numbering.specs.Checked.{tree_of};
 
-use coding::check;
+use checker::check;
+use coding::coded;
 use lexer::bare;
 use meaning::refusal::{Broken, Refusal, lesser};
 use meaning::statement::Statement;
@@ -74,5 +75,6 @@ pub fn program_in(alloc: Global, source: &[u8]) -> Result<Program, Refusal>
     let found = statements(alloc, source)?;
     let members = members_in(alloc, &found)?;
     let unit = tree(alloc, members)?;
-    check(alloc, unit)
+    let program = check(alloc, unit)?;
+    Ok(coded(alloc, program)?)
 }

@@ -35,6 +35,11 @@ constant_item : judged (codes "      PARAMETER (N=2)\n      DATA N/1/\n      END
 unfolding all_definitions
 constant_item = refl
 
+-- a variable with a subscript, which is no function there
+variable_with_subscript : judged (codes "      J=1\n      DATA J(1)/1/\n      END\n") ≡ Some (broken K10 2)
+unfolding all_definitions
+variable_with_subscript = refl
+
 -- an element that is given twice
 element_twice : judged (codes "      INTEGER A(2)\n      DATA A(1)/1/,A/2*2/\n      END\n") ≡ Some (broken K10 2)
 unfolding all_definitions
@@ -129,6 +134,11 @@ dummy_expression = refl
 dummy_called : judged (codes "      M(I)=I(1)\n      END\n") ≡ Some (broken K12 1)
 unfolding all_definitions
 dummy_called = refl
+
+-- which hides the program's own variable
+dummy_hides_a_variable : judged (codes "      DATA J/1/\n      I(J)=J(1)\n      END\n") ≡ Some (broken K12 2)
+unfolding all_definitions
+dummy_hides_a_variable = refl
 
 -- a later statement function
 later_function : judged (codes "      M(I)=L(I)\n      L(I)=I\n      END\n") ≡ Some (broken K12 1)

@@ -75,6 +75,16 @@ real_statement_function : judged (codes "      F(J)=J\n      END\n") ≡ Some (b
 unfolding all_definitions
 real_statement_function = refl
 
+-- a REAL constant with parentheses, where it first appears
+real_constant_with_parentheses : judged (codes "      INTEGER L(X(1))\n      PARAMETER (X=2)\n      END\n") ≡ Some (broken K3 1)
+unfolding all_definitions
+real_constant_with_parentheses = refl
+
+-- a REAL variable in a dummy that is no name
+real_in_a_dummy : judged (codes "      N(X+1)=1\n      END\n") ≡ Some (broken K3 1)
+unfolding all_definitions
+real_in_a_dummy = refl
+
 -- IMPLICIT makes them INTEGER
 implicit_letters : judged (codes "      IMPLICIT INTEGER (A-C,X)\n      A=X\n      END\n") ≡ None
 unfolding all_definitions
@@ -124,6 +134,11 @@ constant_with_parentheses = refl
 bare_function : judged (codes "      M(I)=I\n      J=M\n      END\n") ≡ Some (broken K4 2)
 unfolding all_definitions
 bare_function = refl
+
+-- the same in one of its own dummies that is no name
+function_in_its_dummy : judged (codes "      J(2.GE.(J))=1\n      END\n") ≡ Some (broken K4 1)
+unfolding all_definitions
+function_in_its_dummy = refl
 
 -- a type statement names a statement function
 typed_function : judged (codes "      LOGICAL P\n      P(I)=I.GT.0\n      J=1\n      END\n") ≡ None
@@ -184,6 +199,11 @@ integer_condition = refl
 logical_subscript : judged (codes "      INTEGER A(2)\n      A(.TRUE.)=1\n      END\n") ≡ Some (broken K5 2)
 unfolding all_definitions
 logical_subscript = refl
+
+-- a subscript in DATA of the wrong type, behind a name that is no array
+data_subscript_of_the_wrong_type : judged (codes "      DATA J(.TRUE.)/1/\n      END\n") ≡ Some (broken K5 1)
+unfolding all_definitions
+data_subscript_of_the_wrong_type = refl
 
 -- an argument of the wrong type
 logical_argument : judged (codes "      M(I)=I\n      J=M(.TRUE.)\n      END\n") ≡ Some (broken K5 2)

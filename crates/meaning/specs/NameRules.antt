@@ -11,9 +11,9 @@ use Rattle.meaning.specs.Statements.{broken_if}
 use Rattle.meaning.specs.Syntax.{LettersTree, DeclaratorTree, ExprTree, number, truth, name, signed, negated, binary, paren, element, call, ExprsTree, no_exprs, exprs, ShapeTree, assignment, definition, logical_if, implying, implicit_none, ItemTree}
 use Rattle.meaning.specs.Types.{implied_in, typed_in, is_among, is_implicit_none, has_implicit_none}
 use Rattle.meaning.specs.Intrinsics.{Intrinsic, intrinsic_named, takes}
-use Rattle.meaning.specs.Scopes.{constants_in, declarators_in, Definition, defined_by, definitions_of}
+use Rattle.meaning.specs.Scopes.{constants_in, declarators_in, Definition, defined_by, definitions_of, dummy_name}
 use Rattle.meaning.specs.Typing.{has_wrong_type, option_list}
-use Rattle.meaning.specs.Uses.{Use, Roles, is_one_of, is_constant, is_array, is_function, is_other, uses_in, Parts, parts_at, parts_from, uses_at, is_defining, is_before_executables}
+use Rattle.meaning.specs.Uses.{Use, Roles, is_one_of, is_constant, is_function, is_other, uses_in, Parts, parts_at, parts_from, uses_at, is_defining, is_before_executables}
 
 -- a rule that a statement breaks behind others, told at its line
 unfoldable pub told : (List ItemTree → ItemTree → Bool) → Rule → List ItemTree → List ItemTree → List Broken
@@ -26,11 +26,7 @@ abbrev pub is_real : Roles → List ℕ → Bool
 is_real r n = is_none (r.names.types n)
 
 abbrev pub is_real_use : Roles → Use → Bool
-is_real_use r u = is_real r u.name && (is_none u.arguments || (is_array r u.name || is_function r u.name))
-
-abbrev pub dummy_name : ExprTree → List (List ℕ)
-dummy_name (name letters) = letters ∷ []
-dummy_name e = []
+is_real_use r u = is_real r u.name && (is_none u.arguments || not (is_other r u.name))
 
 abbrev pub dummy_names : Definition → List (List ℕ)
 dummy_names d = flat_map dummy_name d.dummies

@@ -50,7 +50,7 @@ is_too_great digits = nat_lt 2147483647 (number_of digits)
 
 abbrev pub has_too_great : Roles → ShapeTree → Bool
 has_too_great r s =
-    list_any is_too_great (flat_map (λ x. numbers_in x.expr) (expected_in r.names false s) ++ data_numbers s)
+    list_any is_too_great (flat_map (λ x. numbers_in x.expr) (expected_in r.names s) ++ data_numbers s)
 
 -- an expression that isn't one of constants that are known by then, or that faults
 abbrev pub is_unknown : Known → Use → Bool

@@ -1,7 +1,7 @@
 -- What the names of a program unit stand for: its constants (ANSI X3.9-1978, 8.6), arrays (5.1), statement functions (15.4) and
 -- intrinsic functions (15.3).
-use Rattle.std.specs.Prelude.{ℕ, ℤ, pos, Bool, true, false, ◌&&◌, nat_lt, length, List, [], ◌∷◌, map, is_some, if◌then◌else◌, Option, Some, None, Ok, Err, reverse}
-use Rattle.std.specs.List.{fold}
+use Rattle.std.specs.Prelude.{ℕ, ℤ, pos, Bool, true, false, ◌&&◌, nat_lt, length, List, [], ◌∷◌, map, flat_map, is_some, if◌then◌else◌, Option, Some, None, Ok, Err, reverse}
+use Rattle.std.specs.List.{fold, list_any}
 use Rattle.std.specs.Str.{bytes_eq}
 use Rattle.meaning.specs.declared.ending.Value.{Value}
 use Rattle.meaning.specs.Syntax.{ExprTree, name, ExprsTree, no_exprs, exprs, BoundsTree, DeclaratorTree, ConstantTree, ShapeTree, typing, logical_typing, dimensioning, parameter, format, naming, implying, implicit_none, initializing, assignment, definition, ItemTree}
@@ -106,6 +106,15 @@ definition_if false n dummies e = Some (record { name = n; dummies = dummies; bo
 abbrev pub listed : ExprsTree → List ExprTree
 listed no_exprs = []
 listed (exprs e es) = e ∷ listed es
+
+-- the names among dummies; the rules leave nothing else
+abbrev pub dummy_name : ExprTree → List (List ℕ)
+dummy_name (name letters) = letters ∷ []
+dummy_name e = []
+
+-- a dummy has a scope of its own, its statement function's statement (18.2.3)
+abbrev pub is_dummy : List ExprTree → List ℕ → Bool
+is_dummy dummies n = list_any (bytes_eq n) (flat_map dummy_name dummies)
 
 -- a statement that assigns to a name with parentheses that is no array's may be a statement function's
 abbrev pub defined_by : Arrays → ShapeTree → Option Definition

@@ -1,6 +1,6 @@
 -- The types of expressions (ANSI X3.9-1978, 6.1 to 6.4), and what is of the wrong type. Nothing is converted. A part whose type
 -- isn't known, a REAL name or an unknown function, agrees with every type.
-use Rattle.std.specs.Prelude.{ℕ, Bool, true, false, ◌||◌, List, [], ◌∷◌, ◌++◌, map, flat_map, is_some, if◌then◌else◌, Option, Some, None}
+use Rattle.std.specs.Prelude.{ℕ, Bool, true, false, not, ◌&&◌, ◌||◌, List, [], ◌∷◌, ◌++◌, map, flat_map, is_some, if◌then◌else◌, Option, Some, None}
 use Rattle.std.specs.List.{list_any}
 use Rattle.meaning.specs.declared.syntax.DataType.{DataType}
 use Rattle.meaning.specs.declared.syntax.DataType.TheVariants as types
@@ -9,14 +9,26 @@ use Rattle.meaning.specs.declared.syntax.Operator.TheVariants as operators
 use Rattle.meaning.specs.Syntax.{ExprTree, number, truth, name, signed, negated, binary, paren, element, call, ExprsTree, no_exprs, exprs, BoundsTree, UnitTree, star, unit_number, LimitsTree, ListItemsTree, no_items, more_items, value_item, loop_item, ShapeTree, assignment, writing, printing, doing, parameter, initializing, definition, computed_going, arithmetic_if, logical_if, block_if, else_if, doing_while}
 use Rattle.meaning.specs.Types.{Types}
 use Rattle.meaning.specs.Values.{Arrays}
-use Rattle.meaning.specs.Intrinsics.{intrinsic_named}
-use Rattle.meaning.specs.Scopes.{listed, declarators_in}
+use Rattle.meaning.specs.Scopes.{listed, declarators_in, is_dummy}
 
--- what is said of names: their types, which are arrays, and the dummies of statement functions
+-- what is said of names: their types, which are arrays, the dummies of statement functions, and which are intrinsic functions
 pub record Names : Type 0 where
   pub types : Types
   pub arrays : Arrays
   pub functions : List ℕ → Option (List ExprTree)
+  pub intrinsics : List ℕ → Bool
+
+-- the same in the statement of a statement function: there a dummy is no array and no function
+abbrev pub unless_dummy : {A : Type 0} → List ExprTree → (List ℕ → Option A) → List ℕ → Option A
+unless_dummy dummies said n = if is_dummy dummies n then None else said n
+
+abbrev pub within : List ExprTree → Names → Names
+within dummies ns = record {
+  types = ns.types;
+  arrays = unless_dummy dummies ns.arrays;
+  functions = unless_dummy dummies ns.functions;
+  intrinsics = λ n. not (is_dummy dummies n) && ns.intrinsics n;
+}
 
 -- a type, if it is known
 abbrev pub SomeType : Type 0
@@ -54,7 +66,7 @@ result_type o = if is_arithmetic_operator o then integer_type else logical_type
 abbrev pub reference_type : Names → List ℕ → SomeType
 reference_type ns n =
     if is_some (ns.arrays n) || is_some (ns.functions n) then ns.types n
-    else (if is_some (intrinsic_named n) then integer_type else None)
+    else (if ns.intrinsics n then integer_type else None)
 
 abbrev pub type_of : Names → ExprTree → SomeType
 type_of ns (number digits) = integer_type
@@ -92,7 +104,7 @@ wanted_if None ns other = other
 abbrev pub wanted_by : Names → List ℕ → Wanted
 wanted_by ns n =
     if is_some (ns.arrays n) then all_integer
-    else wanted_if (ns.functions n) ns (if is_some (intrinsic_named n) then all_integer else any_type)
+    else wanted_if (ns.functions n) ns (if ns.intrinsics n then all_integer else any_type)
 
 abbrev pub first_or : SomeType → List SomeType → SomeType
 first_or k [] = k
@@ -149,37 +161,52 @@ in_limits l = map (expected integer_type) (l.first ∷ (l.last ∷ option_list l
 abbrev pub in_bounds : BoundsTree → List Expected
 in_bounds b = map (expected integer_type) (option_list b.lower ++ b.upper ∷ [])
 
-abbrev pub in_items : ListItemsTree → List Expected
-in_items no_items = []
-in_items (more_items (value_item e) xs) = expected None e ∷ in_items xs
-in_items (more_items (loop_item ys variable limits) xs) = in_items ys ++ (in_limits limits ++ in_items xs)
+-- an item of an output list has either type; what stands in the parentheses of an item of DATA are subscripts, whether or not its
+-- name is an array's
+abbrev pub in_item : Bool → ExprTree → List Expected
+in_item true (element letters es) = map (expected integer_type) (listed es)
+in_item of_data e = expected None e ∷ []
+
+abbrev pub in_items : Bool → ListItemsTree → List Expected
+in_items of_data no_items = []
+in_items of_data (more_items (value_item e) xs) = in_item of_data e ++ in_items of_data xs
+in_items of_data (more_items (loop_item ys variable limits) xs) =
+    in_items of_data ys ++ (in_limits limits ++ in_items of_data xs)
 
 abbrev pub in_unit : UnitTree → List Expected
 in_unit star = []
 in_unit (unit_number e) = expected None e ∷ []
 
--- the subscripts of an array that is set, or what stands there without one; dummies are no expressions
-abbrev pub in_target : Names → Bool → List ℕ → ExprsTree → List Expected
-in_target ns true n es = []
-in_target ns false n es = map (expected (if is_some (ns.arrays n) then integer_type else None)) (listed es)
+-- the subscripts of an array that is set, or what stands there without one: dummies, and what should be one
+abbrev pub in_target : Names → List ℕ → ExprsTree → List Expected
+in_target ns n es = map (expected (if is_some (ns.arrays n) then integer_type else None)) (listed es)
 
--- the expressions of a statement, which is a statement function's or not
-abbrev pub expected_in : Names → Bool → ShapeTree → List Expected
-expected_in ns defines (assignment n es e) = in_target ns defines n es ++ expected (ns.types n) e ∷ []
-expected_in ns defines (definition n e) = expected (ns.types n) e ∷ []
-expected_in ns defines (writing control list) = in_unit control.unit ++ in_items list
-expected_in ns defines (printing source list) = in_items list
-expected_in ns defines (doing label comma variable limits) = in_limits limits
-expected_in ns defines (doing_while label comma e) = expected logical_type e ∷ []
-expected_in ns defines (parameter cs) = map (λ c. expected (ns.types c.name) c.value) cs
-expected_in ns defines (initializing sets) = flat_map (λ x. in_items x.list) sets
-expected_in ns defines (computed_going labels comma e) = expected integer_type e ∷ []
-expected_in ns defines (arithmetic_if e negative zero positive) = expected integer_type e ∷ []
-expected_in ns defines (logical_if e statement) = expected logical_type e ∷ expected_in ns false statement
-expected_in ns defines (block_if e) = expected logical_type e ∷ []
-expected_in ns defines (else_if e) = expected logical_type e ∷ []
-expected_in ns defines s = flat_map (λ d. flat_map in_bounds d.bounds) (declarators_in s)
+-- the expressions of a statement
+abbrev pub expected_in : Names → ShapeTree → List Expected
+expected_in ns (assignment n es e) = in_target ns n es ++ expected (ns.types n) e ∷ []
+expected_in ns (definition n e) = expected (ns.types n) e ∷ []
+expected_in ns (writing control list) = in_unit control.unit ++ in_items false list
+expected_in ns (printing source list) = in_items false list
+expected_in ns (doing label comma variable limits) = in_limits limits
+expected_in ns (doing_while label comma e) = expected logical_type e ∷ []
+expected_in ns (parameter cs) = map (λ c. expected (ns.types c.name) c.value) cs
+expected_in ns (initializing sets) = flat_map (λ x. in_items true x.list) sets
+expected_in ns (computed_going labels comma e) = expected integer_type e ∷ []
+expected_in ns (arithmetic_if e negative zero positive) = expected integer_type e ∷ []
+expected_in ns (logical_if e statement) = expected logical_type e ∷ expected_in ns statement
+expected_in ns (block_if e) = expected logical_type e ∷ []
+expected_in ns (else_if e) = expected logical_type e ∷ []
+expected_in ns s = flat_map (λ d. flat_map in_bounds d.bounds) (declarators_in s)
+
+-- the dummies of a statement that is a statement function's
+abbrev pub dummies_in : ShapeTree → List ExprTree
+dummies_in (assignment n es e) = listed es
+dummies_in s = []
+
+abbrev pub dummies_if : Bool → ShapeTree → List ExprTree
+dummies_if true s = dummies_in s
+dummies_if false s = []
 
 -- K5
 abbrev pub has_wrong_type : Names → Bool → ShapeTree → Bool
-has_wrong_type ns defines s = list_any (is_mistyped ns) (expected_in ns defines s)
+has_wrong_type ns defines s = list_any (is_mistyped (within (dummies_if defines s) ns)) (expected_in ns s)

@@ -5,7 +5,8 @@ use Rattle.std.specs.List.{list_any, list_all, filter}
 use Rattle.std.specs.Str.{bytes_eq}
 use Rattle.meaning.specs.Syntax.{ExprTree, number, truth, name, signed, negated, binary, paren, element, call, ExprsTree, no_exprs, exprs, UnitTree, star, unit_number, LimitsTree, ListItemsTree, no_items, more_items, value_item, loop_item, DataConstantTree, data_number, data_truth, data_name, RepeatTree, repeat_number, repeat_name, DataValueTree, DataSetTree, ShapeTree, assignment, writing, printing, doing, parameter, initializing, definition, computed_going, arithmetic_if, logical_if, block_if, else_if, doing_while, ItemTree}
 use Rattle.meaning.specs.Types.{types_of}
-use Rattle.meaning.specs.Scopes.{listed, constants_in, declarators_in, arrays_of, Definition, definitions_of, defined_by, is_specification}
+use Rattle.meaning.specs.Intrinsics.{intrinsic_named}
+use Rattle.meaning.specs.Scopes.{listed, constants_in, declarators_in, arrays_of, Definition, definitions_of, defined_by, is_dummy, is_specification}
 use Rattle.meaning.specs.Typing.{Names, option_list, in_bounds}
 
 -- a use of a name: without parentheses, or with so many subscripts or arguments
@@ -57,7 +58,7 @@ pub record Roles : Type 0 where
 
 abbrev pub roles_of : List ItemTree → Roles
 roles_of all = record {
-  names = record { types = types_of all; arrays = arrays_of all; functions = dummies_named (definitions_of (arrays_of all) all) };
+  names = record { types = types_of all; arrays = arrays_of all; functions = dummies_named (definitions_of (arrays_of all) all); intrinsics = λ n. is_some (intrinsic_named n) };
   constants = defined_constants all;
 }
 
@@ -79,14 +80,9 @@ is_other r n = not (is_constant r n) && (not (is_array r n) && not (is_function 
 
 -- ---- uses in statements
 
--- a dummy is hidden in its statement function
-abbrev pub is_hidden : List ExprTree → Use → Bool
-is_hidden [] u = false
-is_hidden (name letters ∷ es) u = (is_none u.arguments && bytes_eq letters u.name) || is_hidden es u
-is_hidden (e ∷ es) u = is_hidden es u
-
+-- in its statement function a dummy hides the program's own name, also where that has parentheses
 abbrev pub shown : List ExprTree → List Use → List Use
-shown dummies us = filter (λ u. not (is_hidden dummies u)) us
+shown dummies us = filter (λ u. not (is_dummy dummies u.name)) us
 
 abbrev pub unit_uses : UnitTree → List Use
 unit_uses star = []
@@ -108,14 +104,33 @@ item_uses r (more_items (loop_item ys variable limits) xs) =
     item_uses r ys ++ (bare_use variable ∷ (limit_uses limits ++ item_uses r xs))
 
 -- in a DATA statement it has nothing to do with the program's own variables (9.3)
-abbrev pub without : List ℕ → List Use → List Use
-without n us = shown (name n ∷ []) us
+abbrev pub is_variable_of : List ℕ → Use → Bool
+is_variable_of n u = is_none u.arguments && bytes_eq n u.name
 
-abbrev pub data_item_uses : Roles → ListItemsTree → List Use
-data_item_uses r no_items = []
-data_item_uses r (more_items (value_item e) xs) = value_uses r e ++ data_item_uses r xs
-data_item_uses r (more_items (loop_item ys variable limits) xs) =
-    without variable (data_item_uses r ys) ++ (limit_uses limits ++ data_item_uses r xs)
+abbrev pub without : List ℕ → List Use → List Use
+without n us = filter (λ u. not (is_variable_of n u)) us
+
+-- the variables and elements that a DATA statement gives values; what has parentheses there is no function reference
+abbrev pub given_uses : Roles → ExprTree → List Use
+given_uses r (name letters) = value_uses r (name letters)
+given_uses r (element letters es) = use_with letters (count es) ∷ []
+given_uses r e = []
+
+abbrev pub data_item_sets : Roles → ListItemsTree → List Use
+data_item_sets r no_items = []
+data_item_sets r (more_items (value_item e) xs) = given_uses r e ++ data_item_sets r xs
+data_item_sets r (more_items (loop_item ys variable limits) xs) = data_item_sets r ys ++ data_item_sets r xs
+
+-- their subscripts, and the limits of implied DOs
+abbrev pub subscript_uses : ExprTree → List Use
+subscript_uses (element letters es) = uses_in_all es
+subscript_uses e = []
+
+abbrev pub data_item_uses : ListItemsTree → List Use
+data_item_uses no_items = []
+data_item_uses (more_items (value_item e) xs) = subscript_uses e ++ data_item_uses xs
+data_item_uses (more_items (loop_item ys variable limits) xs) =
+    without variable (data_item_uses ys) ++ (limit_uses limits ++ data_item_uses xs)
 
 abbrev pub data_constant_uses : DataConstantTree → List Use
 data_constant_uses (data_number sign digits) = []
@@ -129,8 +144,8 @@ repeat_uses (repeat_name letters) = bare_use letters ∷ []
 abbrev pub data_value_uses : DataValueTree → List Use
 data_value_uses v = flat_map repeat_uses (option_list v.repeat_count) ++ data_constant_uses v.constant
 
-abbrev pub data_set_uses : Roles → DataSetTree → List Use
-data_set_uses r s = data_item_uses r s.list ++ flat_map data_value_uses s.values
+abbrev pub data_set_uses : DataSetTree → List Use
+data_set_uses s = data_item_uses s.list ++ flat_map data_value_uses s.values
 
 -- the use that an assignment makes of its target
 abbrev pub target_use : List ℕ → ExprsTree → Use
@@ -145,14 +160,15 @@ pub record Parts : Type 0 where
 abbrev pub reading : List Use → Parts
 reading us = record { sets = []; reads = us }
 
--- a statement function's statement uses what its expression uses, its dummies aside
+-- a statement function's statement uses what its expression uses, and what stands in dummies that are no names, its dummies
+-- aside
 abbrev pub if_defines : Bool → Parts → Parts → Parts
 if_defines true p q = p
 if_defines false p q = q
 
 abbrev pub parts_of : Roles → Bool → ShapeTree → Parts
 parts_of r defines (assignment n es e) =
-    if_defines defines (reading (shown (listed es) (uses_in e))) (record { sets = target_use n es ∷ []; reads = uses_in_all es ++ uses_in e })
+    if_defines defines (reading (shown (listed es) (uses_in_all es ++ uses_in e))) (record { sets = target_use n es ∷ []; reads = uses_in_all es ++ uses_in e })
 parts_of r defines (definition n e) =
     if_defines defines (reading (uses_in e)) (record { sets = use_with n 0 ∷ []; reads = uses_in e })
 parts_of r defines (writing control list) = reading (unit_uses control.unit ++ item_uses r list)
@@ -160,7 +176,8 @@ parts_of r defines (printing source list) = reading (item_uses r list)
 parts_of r defines (doing label comma variable limits) = record { sets = bare_use variable ∷ []; reads = limit_uses limits }
 parts_of r defines (doing_while label comma e) = reading (uses_in e)
 parts_of r defines (parameter cs) = reading (flat_map (λ c. uses_in c.value) cs)
-parts_of r defines (initializing sets) = reading (flat_map (data_set_uses r) sets)
+parts_of r defines (initializing sets) =
+    record { sets = flat_map (λ x. data_item_sets r x.list) sets; reads = flat_map data_set_uses sets }
 parts_of r defines (computed_going labels comma e) = reading (uses_in e)
 parts_of r defines (arithmetic_if e negative zero positive) = reading (uses_in e)
 parts_of r defines (logical_if e statement) =

@@ -1,21 +1,24 @@
-//! Names that are hidden in a part of a statement (ANSI X3.9-1978, 9.3 and 15.4).
+//! Names that are hidden in a part of a statement (ANSI X3.9-1978, 9.3, 15.4 and 18.2.3).
 
-ghost use Rattle.std.specs.Prelude.{◌≡◌, ◌∷◌, [], is_none, not};
-ghost use Rattle.meaning.specs.Scopes.{listed};
-ghost use Rattle.meaning.specs.Syntax.{expr_tree, exprs_tree, name as named};
-ghost use Rattle.meaning.specs.Uses.{is_hidden};
+ghost use Rattle.std.specs.Prelude.{◌≡◌, is_none, not};
+ghost use Rattle.meaning.specs.Scopes.{is_dummy as is_dummy_of, listed};
+ghost use Rattle.meaning.specs.Syntax.{exprs_tree};
+ghost use Rattle.meaning.specs.Uses.{is_variable_of};
 ghost use Rattle.name_uses.specs.UsesAt.{use_at};
 
 use crate::uses::{Arguments, NameUse, Sought};
 use meaning::syntax::{Expr, Exprs};
 
-/// Whether a use is that of one of these names, without parentheses.
-fn hides(dummies: &Exprs, one: &NameUse) -> bool
-    ensures { result ≡ is_hidden (listed (exprs_tree dummies.now)) (use_at one.now) }
+/// Whether a name is one of the dummies of a statement function (ANSI X3.9-1978, 15.4.1).
+pub fn is_dummy(dummies: &Exprs, name: &[u8]) -> bool
+    ensures { result ≡ is_dummy_of (listed (exprs_tree dummies.now)) name.now }
 {
     match dummies {
         Exprs::Empty => false,
-        Exprs::More(dummy, rest) => is_bare_name(dummy, one) || hides(rest, one),
+        Exprs::More(dummy, rest) => match dummy {
+            Expr::Name(own) => name == own.as_slice() || is_dummy(rest, name),
+            _ => is_dummy(rest, name),
+        },
     }
 }
 
@@ -30,16 +33,6 @@ fn is_bare(one: &NameUse) -> bool
     }
 }
 
-/// Whether a use is that of this name, without parentheses.
-fn is_bare_name(dummy: &Expr, one: &NameUse) -> bool
-    ensures { result ≡ is_hidden (expr_tree dummy.now ∷ []) (use_at one.now) }
-{
-    match dummy {
-        Expr::Name(name) => is_bare(one) && name.as_slice() == one.name,
-        _ => false,
-    }
-}
-
 /// The uses that are not hidden by the dummies of a statement function.
 #[derive(Clone, Copy)]
 pub struct Shown<'a> {
@@ -47,10 +40,10 @@ pub struct Shown<'a> {
 }
 
 impl Sought for Shown<'_> {
-    ghost is_use = { λ s u. not (is_hidden (listed (exprs_tree s.dummies.now)) u) };
+    ghost is_use = { λ s u. not (is_dummy_of (listed (exprs_tree s.dummies.now)) u.name) };
 
     fn is(&self, one: &NameUse) -> bool {
-        !hides(self.dummies, one)
+        !is_dummy(self.dummies, one.name)
     }
 }
 
@@ -61,7 +54,7 @@ pub struct Outside<'a> {
 }
 
 impl Sought for Outside<'_> {
-    ghost is_use = { λ s u. not (is_hidden (named s.variable.now ∷ []) u) };
+    ghost is_use = { λ s u. not (is_variable_of s.variable.now u) };
 
     fn is(&self, one: &NameUse) -> bool {
         !(is_bare(one) && self.variable == one.name)

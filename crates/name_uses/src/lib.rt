@@ -8,9 +8,9 @@ mod statements;
 mod used;
 mod uses;
 
-pub use hiding::{Outside, Shown};
+pub use hiding::{Outside, Shown, is_dummy};
 pub use references::{is_bare, is_function_use};
 pub use seen::{add_names, has_seen, names_passing, repeats, set_of};
-pub use statements::{add_reads, set_by};
+pub use statements::{add_reads, add_sets};
 pub use used::{reads_of, uses_of};
 pub use uses::{Arguments, NameUse, Sought, add_uses, has_passing};

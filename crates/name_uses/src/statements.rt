@@ -1,12 +1,12 @@
 //! Uses of names in statements (ANSI X3.9-1978, chapters 5 to 15).
 
-ghost use Rattle.std.specs.Prelude.{◌≡◌, ◌++◌, flat_map, map, option_map, OnOk};
+ghost use Rattle.std.specs.Prelude.{◌≡◌, ◌++◌, List, ℕ, flat_map, map, option_map, OnOk};
 ghost use Rattle.meaning.specs.Scopes.{listed};
 ghost use Rattle.meaning.specs.Syntax.{bounds_tree, constant_tree, data_constant_tree, data_set_tree, data_value_tree, declarator_tree, expr_tree, exprs_tree, list_items_tree, repeat_tree, shape_tree, unit_tree};
 ghost use Rattle.meaning.specs.Typing.{in_bounds, option_list};
-ghost use Rattle.meaning.specs.Uses.{Roles as NameRoles, data_constant_uses, data_item_uses, data_set_uses, data_value_uses, item_uses, parts_of, repeat_uses, shown, target_use, unit_uses, uses_in, uses_in_all, value_uses};
+ghost use Rattle.meaning.specs.Uses.{data_constant_uses, data_item_sets, data_item_uses, data_set_uses, data_value_uses, given_uses, item_uses, parts_of, repeat_uses, shown, subscript_uses, target_use, unit_uses, uses_in, uses_in_all, value_uses};
 ghost use Rattle.roles.specs.RolesAt.{roles_at};
-ghost use Rattle.name_uses.specs.UsesAt.{use_at, uses_at};
+ghost use Rattle.name_uses.specs.UsesAt.{arguments_at, uses_at};
 
 use crate::hiding::{Outside, Shown};
 use crate::uses::{
@@ -78,22 +78,72 @@ fn add_item_uses<'a>(
     }
 }
 
-/// Puts the uses in the list of a DATA statement behind those that are there; the variable of an implied DO is its own (ANSI X3.9-1978, 9.3).
-#[tactic(auto, using(roles::proofs::Passes::appended, roles::proofs::Passes::nothing_more))]
-fn add_data_item_uses<'a>(
+/// Puts the variable or the element that a DATA statement gives a value behind the uses that are there; a whole array is none.
+#[tactic(auto, using(roles::proofs::Passes::nothing_more))]
+fn add_given_uses<'a>(
     uses: &mut Vec<NameUse<'a>>,
-    alloc: Global,
+    roles: &Roles,
+    value: &'a Expr,
+) -> Result<(), AllocError>
+    ensures { OnOk result (uses_at uses.new.items ≡ uses_at uses.old.items ++ given_uses (roles_at roles.now) (expr_tree value.now)) }
+{
+    match value {
+        Expr::Name(_) => add_value_uses(uses, roles, value),
+        Expr::Element(name, subscripts) => add_use(uses, name, Arguments::With(subscripts)),
+        _ => Ok(()),
+    }
+}
+
+/// Puts the variables and elements that a DATA statement gives values behind the uses that are there.
+#[tactic(auto, using(roles::proofs::Passes::appended, roles::proofs::Passes::nothing_more))]
+fn add_data_item_sets<'a>(
+    uses: &mut Vec<NameUse<'a>>,
     roles: &Roles,
     items: &'a ListItems,
 ) -> Result<(), AllocError>
-    ensures { OnOk result (uses_at uses.new.items ≡ uses_at uses.old.items ++ data_item_uses (roles_at roles.now) (list_items_tree items.now)) }
+    ensures { OnOk result (uses_at uses.new.items ≡ uses_at uses.old.items ++ data_item_sets (roles_at roles.now) (list_items_tree items.now)) }
 {
     match items {
         ListItems::Empty => Ok(()),
         ListItems::More(item, rest) => match item {
             ListItem::Value(value) => {
-                add_value_uses(uses, roles, value)?;
-                add_data_item_uses(uses, alloc, roles, rest)
+                add_given_uses(uses, roles, value)?;
+                add_data_item_sets(uses, roles, rest)
+            }
+            ListItem::Loop { items, .. } => {
+                add_data_item_sets(uses, roles, items)?;
+                add_data_item_sets(uses, roles, rest)
+            }
+        },
+    }
+}
+
+/// Puts the uses in the subscripts of an element that a DATA statement gives a value behind those that are there.
+#[tactic(auto, using(roles::proofs::Passes::nothing_more))]
+fn add_subscript_uses<'a>(uses: &mut Vec<NameUse<'a>>, value: &'a Expr) -> Result<(), AllocError>
+    ensures { OnOk result (uses_at uses.new.items ≡ uses_at uses.old.items ++ subscript_uses (expr_tree value.now)) }
+{
+    match value {
+        Expr::Element(_, subscripts) => add_all_uses(uses, subscripts),
+        _ => Ok(()),
+    }
+}
+
+/// Puts the uses in subscripts and limits of a DATA statement behind those that are there; the variable of an implied DO is its own (ANSI X3.9-1978, 9.3).
+#[tactic(auto, using(roles::proofs::Passes::appended, roles::proofs::Passes::nothing_more))]
+fn add_data_item_uses<'a>(
+    uses: &mut Vec<NameUse<'a>>,
+    alloc: Global,
+    items: &'a ListItems,
+) -> Result<(), AllocError>
+    ensures { OnOk result (uses_at uses.new.items ≡ uses_at uses.old.items ++ data_item_uses (list_items_tree items.now)) }
+{
+    match items {
+        ListItems::Empty => Ok(()),
+        ListItems::More(item, rest) => match item {
+            ListItem::Value(value) => {
+                add_subscript_uses(uses, value)?;
+                add_data_item_uses(uses, alloc, rest)
             }
             ListItem::Loop {
                 items,
@@ -101,10 +151,10 @@ fn add_data_item_uses<'a>(
                 limits,
             } => {
                 let mut inner = Vec::new(alloc);
-                add_data_item_uses(&mut inner, alloc, roles, items)?;
+                add_data_item_uses(&mut inner, alloc, items)?;
                 add_passing(uses, &inner, &Outside { variable })?;
                 add_limit_uses(uses, limits)?;
-                add_data_item_uses(uses, alloc, roles, rest)?;
+                add_data_item_uses(uses, alloc, rest)?;
                 Ok(())
             }
         },
@@ -166,31 +216,43 @@ fn add_data_values_uses<'a>(
     Ok(())
 }
 
-/// Puts the uses in a list and its constants behind those that are there.
+/// Puts the uses in a list, its items aside, and in its constants behind those that are there.
 #[tactic(auto, using(roles::proofs::Passes::appended))]
 fn add_data_set_uses<'a>(
     uses: &mut Vec<NameUse<'a>>,
     alloc: Global,
-    roles: &Roles,
     set: &'a DataSet,
 ) -> Result<(), AllocError>
-    ensures { OnOk result (uses_at uses.new.items ≡ uses_at uses.old.items ++ data_set_uses (roles_at roles.now) (data_set_tree set.now)) }
+    ensures { OnOk result (uses_at uses.new.items ≡ uses_at uses.old.items ++ data_set_uses (data_set_tree set.now)) }
 {
-    add_data_item_uses(uses, alloc, roles, &set.list)?;
+    add_data_item_uses(uses, alloc, &set.list)?;
     add_data_values_uses(uses, &set.values)
 }
 
-/// Puts the uses in a DATA statement behind those that are there.
+/// Puts what a DATA statement has values of behind the uses that are there.
 fn add_data_uses<'a>(
     uses: &mut Vec<NameUse<'a>>,
     alloc: Global,
+    sets: &'a [DataSet],
+) -> Result<(), AllocError>
+    ensures { OnOk result (uses_at uses.new.items ≡ uses_at uses.old.items ++ flat_map data_set_uses (map data_set_tree sets.now)) }
+{
+    for set in sets {
+        add_data_set_uses(uses, alloc, set)?;
+    }
+    Ok(())
+}
+
+/// Puts what a DATA statement sets behind the uses that are there.
+fn add_data_sets<'a>(
+    uses: &mut Vec<NameUse<'a>>,
     roles: &Roles,
     sets: &'a [DataSet],
 ) -> Result<(), AllocError>
-    ensures { OnOk result (uses_at uses.new.items ≡ uses_at uses.old.items ++ flat_map (data_set_uses (roles_at roles.now)) (map data_set_tree sets.now)) }
+    ensures { OnOk result (uses_at uses.new.items ≡ uses_at uses.old.items ++ flat_map (λ x. data_item_sets (roles_at roles.now) x.list) (map data_set_tree sets.now)) }
 {
     for set in sets {
-        add_data_set_uses(uses, alloc, roles, set)?;
+        add_data_item_sets(uses, roles, &set.list)?;
     }
     Ok(())
 }
@@ -246,20 +308,6 @@ fn add_declarator_uses<'a>(
     Ok(())
 }
 
-/// Puts the uses in the expression of a statement function behind those that are there, its dummies aside.
-fn add_shown_uses<'a>(
-    uses: &mut Vec<NameUse<'a>>,
-    alloc: Global,
-    dummies: &Exprs,
-    body: &'a Expr,
-) -> Result<(), AllocError>
-    ensures { OnOk result (uses_at uses.new.items ≡ uses_at uses.old.items ++ shown (listed (exprs_tree dummies.now)) (uses_in (expr_tree body.now))) }
-{
-    let mut inner = Vec::new(alloc);
-    add_uses(&mut inner, body)?;
-    add_passing(uses, &inner, &Shown { dummies })
-}
-
 /// Puts the uses that an assignment has values of behind those that are there.
 #[tactic(auto, using(roles::proofs::Passes::appended))]
 fn add_assigned_uses<'a>(
@@ -271,6 +319,20 @@ fn add_assigned_uses<'a>(
 {
     add_all_uses(uses, subscripts)?;
     add_uses(uses, value)
+}
+
+/// Puts the uses in the statement of a statement function behind those that are there, its dummies aside.
+fn add_shown_uses<'a>(
+    uses: &mut Vec<NameUse<'a>>,
+    alloc: Global,
+    dummies: &'a Exprs,
+    body: &'a Expr,
+) -> Result<(), AllocError>
+    ensures { OnOk result (uses_at uses.new.items ≡ uses_at uses.old.items ++ shown (listed (exprs_tree dummies.now)) (uses_in_all (exprs_tree dummies.now) ++ uses_in (expr_tree body.now))) }
+{
+    let mut inner = Vec::new(alloc);
+    add_assigned_uses(&mut inner, dummies, body)?;
+    add_passing(uses, &inner, &Shown { dummies })
 }
 
 /// Puts the uses in a WRITE statement behind those that are there.
@@ -316,7 +378,7 @@ pub fn add_reads<'a>(
         Shape::Do { limits, .. } => add_limit_uses(uses, limits),
         Shape::DoWhile { condition, .. } => add_uses(uses, condition),
         Shape::Parameter(constants) => add_constant_uses(uses, constants),
-        Shape::Data(sets) => add_data_uses(uses, alloc, roles, sets),
+        Shape::Data(sets) => add_data_uses(uses, alloc, sets),
         Shape::ComputedGoTo { value, .. } => add_uses(uses, value),
         Shape::ArithmeticIf { value, .. } => add_uses(uses, value),
         Shape::LogicalIf(condition, statement) => {
@@ -332,9 +394,15 @@ pub fn add_reads<'a>(
     }
 }
 
-/// The use that a statement sets, if it sets one; it defines a statement function or doesn't.
-pub fn set_by(defines: bool, shape: &Shape) -> Option<NameUse>
-    ensures { (roles : NameRoles) → option_list (option_map use_at result) ≡ (parts_of roles defines (shape_tree shape.now)).sets }
+/// Puts the uses that a statement sets behind those that are there; it defines a statement function or doesn't.
+#[tactic(auto, using(roles::proofs::Passes::nothing_more))]
+pub fn add_sets<'a>(
+    uses: &mut Vec<NameUse<'a>>,
+    roles: &Roles,
+    defines: bool,
+    shape: &'a Shape,
+) -> Result<(), AllocError>
+    ensures { OnOk result (uses_at uses.new.items ≡ uses_at uses.old.items ++ (parts_of (roles_at roles.now) defines (shape_tree shape.now)).sets) }
 {
     match shape {
         Shape::Assignment {
@@ -343,42 +411,31 @@ pub fn set_by(defines: bool, shape: &Shape) -> Option<NameUse>
             ..
         } => {
             if defines {
-                None
+                Ok(())
             } else {
-                Some(target(name, subscripts))
+                add_use(uses, name, behind(subscripts))
             }
         }
         Shape::Definition(name, _) => {
             if defines {
-                None
+                Ok(())
             } else {
-                Some(NameUse {
-                    name,
-                    arguments: Arguments::Without,
-                })
+                add_use(uses, name, Arguments::Without)
             }
         }
-        Shape::Do { variable, .. } => Some(NameUse {
-            name: variable,
-            arguments: Arguments::Bare,
-        }),
-        Shape::LogicalIf(_, statement) => set_by(false, statement),
-        _ => None,
+        Shape::Do { variable, .. } => add_use(uses, variable, Arguments::Bare),
+        Shape::LogicalIf(_, statement) => add_sets(uses, roles, false, statement),
+        Shape::Data(sets) => add_data_sets(uses, roles, sets),
+        _ => Ok(()),
     }
 }
 
-/// The use that an assignment makes of its target.
-fn target<'a>(name: &'a [u8], subscripts: &'a Exprs) -> NameUse<'a>
-    ensures { use_at result ≡ target_use name.now (exprs_tree subscripts.now) }
+/// What stands behind the name of the target of an assignment.
+fn behind(subscripts: &Exprs) -> Arguments<'_>
+    ensures { (n : List ℕ) → record { name = n; arguments = arguments_at result } ≡ target_use n (exprs_tree subscripts.now) }
 {
     match subscripts {
-        Exprs::Empty => NameUse {
-            name,
-            arguments: Arguments::Bare,
-        },
-        Exprs::More(_, _) => NameUse {
-            name,
-            arguments: Arguments::With(subscripts),
-        },
+        Exprs::Empty => Arguments::Bare,
+        Exprs::More(_, _) => Arguments::With(subscripts),
     }
 }

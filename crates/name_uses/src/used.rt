@@ -6,7 +6,7 @@ ghost use Rattle.roles.specs.RolesAt.{roles_at};
 ghost use Rattle.name_uses.specs.Held.{AreUses};
 ghost use Rattle.name_uses.specs.UsesIn.{reads_in, uses_in};
 
-use crate::statements::{add_reads, set_by};
+use crate::statements::{add_reads, add_sets};
 use crate::uses::NameUse;
 use meaning::syntax::Shape;
 use roles::Roles;
@@ -36,10 +36,7 @@ pub fn uses_of<'a>(
     ensures { IfOk result (AreUses (uses_in (roles_at roles.now) defines (shape_tree shape.now))) }
 {
     let mut uses = Vec::new(alloc);
-    match set_by(defines, shape) {
-        Some(target) => uses.push(target)?,
-        None => {}
-    }
+    add_sets(&mut uses, roles, defines, shape)?;
     add_reads(&mut uses, alloc, roles, defines, shape)?;
     Ok(uses)
 }

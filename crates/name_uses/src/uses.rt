@@ -1,11 +1,10 @@
 //! Uses of names in expressions (ANSI X3.9-1978, 5.3, 6.1 and 15.2).
 
-ghost use Rattle.std.specs.Prelude.{◌≡◌, ◌++◌, ◌∷◌, [], Bool, flat_map, is_none, not, option_map, OnOk};
+ghost use Rattle.std.specs.Prelude.{◌≡◌, ◌++◌, ◌∷◌, [], Bool, flat_map, option_map, OnOk};
 ghost use Rattle.std.specs.List.{filter, list_any};
-ghost use Rattle.meaning.specs.Syntax.{expr_tree, exprs_tree, limits_tree, name as named, unit_tree};
-ghost use Rattle.meaning.specs.Scopes.{listed};
+ghost use Rattle.meaning.specs.Syntax.{expr_tree, exprs_tree, limits_tree, unit_tree};
 ghost use Rattle.meaning.specs.Typing.{option_list};
-ghost use Rattle.meaning.specs.Uses.{Use, is_hidden, limit_uses, unit_uses, uses_in, uses_in_all};
+ghost use Rattle.meaning.specs.Uses.{Use, limit_uses, unit_uses, uses_in, uses_in_all};
 ghost use Rattle.name_uses.specs.UsesAt.{arguments_at, use_at, uses_at};
 
 use meaning::syntax::{Expr, Exprs, Limits, Unit};

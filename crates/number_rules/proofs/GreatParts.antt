@@ -13,16 +13,16 @@ use Rattle.number_rules.specs.GreatNumbers.{has_great}
 use Rattle.rule_passes.proofs.Missing.{any_both}
 
 -- an implied DO and the items behind it
-pub loop_any : (test : Expected → Bool) (items : ListItems) (item : ListItem) (p : _) (rest : ListItems) (q : _) (ys : ListItems) (variable : _) (limits : _) (a b c : Bool) → items ≡ lists.More' item p rest → item ≡ list_items.Loop' q ys variable limits → a ≡ list_any test (in_items (list_items_tree ys)) → b ≡ list_any test (in_limits (limits_tree limits)) → c ≡ list_any test (in_items (list_items_tree rest)) → (a || (b || c)) ≡ list_any test (in_items (list_items_tree items))
-loop_any test items item p rest q ys variable limits a b c more loop ea eb ec =
-    let here = in_items (list_items_tree ys) in
+pub loop_any : (of_data : Bool) (test : Expected → Bool) (items : ListItems) (item : ListItem) (p : _) (rest : ListItems) (q : _) (ys : ListItems) (variable : _) (limits : _) (a b c : Bool) → items ≡ lists.More' item p rest → item ≡ list_items.Loop' q ys variable limits → a ≡ list_any test (in_items of_data (list_items_tree ys)) → b ≡ list_any test (in_limits (limits_tree limits)) → c ≡ list_any test (in_items of_data (list_items_tree rest)) → (a || (b || c)) ≡ list_any test (in_items of_data (list_items_tree items))
+loop_any of_data test items item p rest q ys variable limits a b c more loop ea eb ec =
+    let here = in_items of_data (list_items_tree ys) in
     let bounds = in_limits (limits_tree limits) in
-    let behind = in_items (list_items_tree rest) in
+    let behind = in_items of_data (list_items_tree rest) in
     ap₂ ◌||◌ ea (ap₂ ◌||◌ eb ec)
     ∙ ap (λ x. list_any test here || x) (sym (any_both test bounds behind))
     ∙ sym (any_both test here (bounds ++ behind))
-    ∙ ap (λ x. list_any test (in_items (more_items (list_item_tree x) (list_items_tree rest)))) (sym loop)
-    ∙ ap (λ xs. list_any test (in_items (list_items_tree xs))) (sym more)
+    ∙ ap (λ x. list_any test (in_items of_data (more_items (list_item_tree x) (list_items_tree rest)))) (sym loop)
+    ∙ ap (λ xs. list_any test (in_items of_data (list_items_tree xs))) (sym more)
 
 pub any_flat_map : {X Y : Type 0} (test : Y → Bool) (f : X → List Y) (xs : List X) → list_any (λ x. list_any test (f x)) xs ≡ list_any test (flat_map f xs)
 any_flat_map test f [] = refl

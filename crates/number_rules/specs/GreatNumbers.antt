@@ -1,5 +1,5 @@
 -- Integer constants in what a statement says.
-use Rattle.std.specs.Prelude.{ℕ, Bool, false, List, map, flat_map, Option, option_map}
+use Rattle.std.specs.Prelude.{ℕ, Bool, true, List, map, flat_map, Option, option_map}
 use Rattle.std.specs.List.{list_any}
 use Rattle.meaning.specs.declared.syntax.DataSet.{DataSet}
 use Rattle.meaning.specs.declared.syntax.DataValue.{DataValue}
@@ -42,11 +42,11 @@ abbrev pub of_constants : Names → List NamedConstant → List Expected
 of_constants ns cs = map (λ c. expected (ns.types c.name) c.value) (map constant_tree cs)
 
 abbrev pub of_lists : List DataSet → List Expected
-of_lists sets = flat_map (λ x. in_items x.list) (map data_set_tree sets)
+of_lists sets = flat_map (λ x. in_items true x.list) (map data_set_tree sets)
 
--- those of a statement, none of whose assignments is a statement function's
+-- those of a statement
 abbrev pub of_shape : Names → Shape → List Expected
-of_shape ns s = expected_in ns false (shape_tree s)
+of_shape ns s = expected_in ns (shape_tree s)
 
 -- the digits in the values of DATA statements
 abbrev pub of_count : Option RepeatCount → List (List ℕ)

@@ -3,7 +3,7 @@
 ghost use Rattle.std.specs.Prelude.{◌≡◌};
 ghost use Rattle.meaning.specs.NumberRules.{data_numbers, has_too_great as has_great_number, in_data_constant, is_too_great, numbers_in, numbers_in_all};
 ghost use Rattle.meaning.specs.Syntax.{bounds_tree, data_constant_tree, expr_tree, exprs_tree, limits_tree, list_items_tree, shape_tree, unit_tree};
-ghost use Rattle.meaning.specs.Typing.{Names, SomeType, in_bounds as bounds_within, in_items as items_within, in_limits as limits_within, in_unit as unit_within};
+ghost use Rattle.meaning.specs.Typing.{Names, SomeType, in_bounds as bounds_within, in_item as item_within, in_items as items_within, in_limits as limits_within, in_unit as unit_within};
 ghost use Rattle.meaning.specs.Uses.{Roles};
 ghost use Rattle.number_rules.specs.GreatNumbers.{any_great, any_too_great, of_constants, of_count, of_declarator, of_declarators, of_lists, of_option, of_sets, of_shape, of_subscripts, of_values};
 
@@ -112,23 +112,41 @@ fn in_declarators(declarators: &[Declarator]) -> bool
     false
 }
 
-/// Whether a constant of a list is too great, in an implied DO or outside.
+/// Whether a constant of an item is too great, or of a subscript of what DATA gives a value.
+fn in_item(of_data: bool, value: &Expr) -> bool
+    ensures { result ≡ any_great (item_within of_data (expr_tree value.now)) }
+{
+    if !of_data {
+        return in_expression(value);
+    }
+    match value {
+        Expr::Element(_, subscripts) => in_subscripts(subscripts),
+        _ => in_expression(value),
+    }
+}
+
+/// Whether a constant of a list is too great, in an implied DO or outside; the list is one of DATA or of output.
 #[tactic(auto, using(rule_passes::proofs::Missing::any_both))]
-fn in_items(items: &ListItems) -> bool
-    ensures { result ≡ any_great (items_within (list_items_tree items.now)) }
+fn in_items(of_data: bool, items: &ListItems) -> bool
+    ensures { result ≡ any_great (items_within of_data (list_items_tree items.now)) }
 {
     match items {
         ListItems::Empty => false,
         ListItems::More(item, rest) => match item {
-            ListItem::Value(value) => in_expression(value) || in_items(rest),
+            ListItem::Value(value) => {
+                if in_item(of_data, value) {
+                    return true;
+                }
+                in_items(of_data, rest)
+            }
             ListItem::Loop { items, limits, .. } => {
-                if in_items(items) {
+                if in_items(of_data, items) {
                     return true;
                 }
                 if in_limits(limits) {
                     return true;
                 }
-                in_items(rest)
+                in_items(of_data, rest)
             }
         },
     }
@@ -161,7 +179,7 @@ fn in_lists(sets: &[DataSet]) -> bool
     ensures { result ≡ any_great (of_lists sets.now) }
 {
     for set in sets {
-        if in_items(&set.list) {
+        if in_items(true, &set.list) {
             return true;
         }
     }
@@ -180,8 +198,8 @@ fn in_expressions(shape: &Shape) -> bool
             value,
         } => in_subscripts(subscripts) || in_expression(value),
         Shape::Definition(_, value) => in_expression(value),
-        Shape::Write { control, list } => in_unit(&control.unit) || in_items(list),
-        Shape::Print { list, .. } => in_items(list),
+        Shape::Write { control, list } => in_unit(&control.unit) || in_items(false, list),
+        Shape::Print { list, .. } => in_items(false, list),
         Shape::Do { limits, .. } => in_limits(limits),
         Shape::DoWhile { condition, .. } => in_expression(condition),
         Shape::Parameter(constants) => in_constants(constants),

@@ -1,12 +1,10 @@
 -- Names put behind others, where they are those of variables or arrays.
-use Rattle.std.specs.Prelude.{◌≡◌, ℕ, List, ◌++◌, map, Bool}
+use Rattle.std.specs.Prelude.{◌≡◌, ℕ, List, map}
 use Rattle.std.specs.Global.{Vec}
 use Rattle.meaning.specs.declared.syntax.Declarator.{Declarator}
 use Rattle.meaning.specs.declared.syntax.Item.{Item}
-use Rattle.meaning.specs.declared.syntax.Shape.{Shape}
-use Rattle.meaning.specs.Syntax.{ItemTree, declarator_tree, shape_tree}
+use Rattle.meaning.specs.Syntax.{ItemTree, declarator_tree}
 use Rattle.meaning.specs.Trees.{item_tree}
-use Rattle.meaning.specs.Uses.{Use, parts_of}
 use Rattle.roles.specs.declared.names.Roles.{Roles}
 use Rattle.roles.specs.declared.stage.Stage.{Stage}
 use Rattle.name_uses.specs.declared.uses.NameUse.{NameUse}
@@ -26,10 +24,6 @@ named ds = map (λ d. d.name) (map declarator_tree ds)
 
 abbrev pub used : List NameUse → List (List ℕ)
 used us = map (λ u. u.name) (uses_at us)
-
--- what a statement sets and what it has values of
-abbrev pub uses_in : Roles → Bool → Shape → List Use
-uses_in r defines s = (parts_of (roles_at r) defines (shape_tree s)).sets ++ (parts_of (roles_at r) defines (shape_tree s)).reads
 
 -- the names of a statement that stands behind others
 abbrev pub PutsNames : Roles → Stage → Item → List (Vec ℕ) → List (Vec ℕ) → Type 0

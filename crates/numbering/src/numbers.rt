@@ -3,13 +3,12 @@
 ghost use Rattle.std.specs.Prelude.{◌≡◌, ◌∷◌, [], IfOk, OnOk};
 ghost use Rattle.roles.specs.NameSets.{texts};
 ghost use Rattle.roles.specs.RolesAt.{roles_at};
-ghost use Rattle.name_uses.specs.UsesAt.{uses_at};
-ghost use Rattle.numbering.specs.Appearing.{Puts, PutsNames, named, used, uses_in, variables_at};
+ghost use Rattle.numbering.specs.Appearing.{Puts, PutsNames, named, used, variables_at};
 ghost use Rattle.numbering.specs.Numbered.{is_variable as is_variable_name};
 
 use indexmap::IndexSet;
-use meaning::syntax::{Declarator, Item, Shape};
-use name_uses::{NameUse, add_reads, set_by};
+use meaning::syntax::{Declarator, Item};
+use name_uses::{NameUse, uses_of};
 use roles::{Roles, Stage, add_name, declarators_in, is_array_name, is_other_name};
 use std::alloc::{AllocError, Global};
 
@@ -65,24 +64,6 @@ fn add_used(
         add_variable(names, alloc, roles, one.name)?;
     }
     Ok(())
-}
-
-/// What a statement sets and what it has values of; it defines a statement function or doesn't.
-fn uses_of<'a>(
-    alloc: Global,
-    roles: &Roles,
-    defines: bool,
-    shape: &'a Shape,
-) -> Result<Vec<NameUse<'a>>, AllocError>
-    ensures { IfOk result (λ us. uses_at us.items ≡ uses_in roles.now defines shape.now) }
-{
-    let mut uses = Vec::new(alloc);
-    match set_by(defines, shape) {
-        Some(target) => uses.push(target)?,
-        None => {}
-    }
-    add_reads(&mut uses, alloc, roles, defines, shape)?;
-    Ok(uses)
 }
 
 /// Puts the variables and arrays of a statement behind those that are there.

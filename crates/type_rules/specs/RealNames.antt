@@ -2,8 +2,8 @@
 use Rattle.std.specs.Prelude.{ℕ, Bool, ◌||◌, List, flat_map, Some}
 use Rattle.std.specs.List.{list_any}
 use Rattle.meaning.specs.declared.syntax.Shape.{Shape}
-use Rattle.meaning.specs.NameRules.{dummy_name, function_names, is_real, is_real_use, names_defined}
-use Rattle.meaning.specs.Scopes.{listed}
+use Rattle.meaning.specs.NameRules.{function_names, is_real, is_real_use, names_defined}
+use Rattle.meaning.specs.Scopes.{dummy_name, listed}
 use Rattle.meaning.specs.Syntax.{ExprsTree, shape_tree}
 use Rattle.meaning.specs.Uses.{Roles}
 use Rattle.roles.specs.declared.functions.Function.{Function}

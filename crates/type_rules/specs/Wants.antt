@@ -1,10 +1,16 @@
--- The types that arguments should have, behind references.
+-- What names stand for in a statement, and the types that arguments should have, behind references.
 use Rattle.std.specs.Prelude.{[], map, None}
 use Rattle.meaning.specs.Syntax.{exprs_tree}
 use Rattle.meaning.specs.Scopes.{listed}
-use Rattle.meaning.specs.Typing.{Names, Wanted, type_of}
+use Rattle.meaning.specs.Typing.{Names, Wanted, type_of, within}
+use Rattle.roles.specs.Functions.{dummies_at}
+use Rattle.roles.specs.RolesAt.{roles_at}
+use Rattle.type_rules.specs.declared.typing.Naming.{Naming}
 use Rattle.type_rules.specs.declared.typing.Wanting.{Wanting}
 use Rattle.type_rules.specs.declared.typing.Wanting.TheVariants.{All, Dummies}
+
+abbrev pub names_in : Naming → Names
+names_in n = within (dummies_at n.dummies) (roles_at n.roles.now).names
 
 abbrev pub wanted_at : Names → Wanting → Wanted
 wanted_at ns (All k) = record { first = []; others = k }

@@ -13,10 +13,7 @@ ghost use Rattle.type_rules.specs.RealNames.{any_defined_real, any_real, dummies
 use meaning::refusal::{Broken, Rule};
 use meaning::syntax::{Declarator, Expr, Exprs, Item, NamedConstant, Shape};
 use name_uses::{Arguments, NameUse, Sought, has_passing, uses_of};
-use roles::{
-    Function, Roles, Stage, declarators_in, defined_by, is_array_name, is_function_name,
-    type_of_name,
-};
+use roles::{Function, Roles, Stage, declarators_in, defined_by, is_other_name, type_of_name};
 use rule_passes::{Behind, least_told};
 use std::alloc::{AllocError, Global};
 
@@ -104,7 +101,7 @@ fn defines_real(roles: &Roles, defines: bool, shape: &Shape) -> bool
     }
 }
 
-/// A use of data of type REAL, or of a function.
+/// A use of a variable, an array, a constant or a statement function of type REAL.
 #[derive(Clone, Copy)]
 struct Real<'a> {
     roles: &'a Roles<'a>,
@@ -119,12 +116,8 @@ impl Sought for Real<'_> {
         }
         match one.arguments {
             Arguments::Bare => true,
-            Arguments::Without => {
-                is_array_name(self.roles, one.name) || is_function_name(self.roles, one.name)
-            }
-            Arguments::With(_) => {
-                is_array_name(self.roles, one.name) || is_function_name(self.roles, one.name)
-            }
+            Arguments::Without => !is_other_name(self.roles, one.name),
+            Arguments::With(_) => !is_other_name(self.roles, one.name),
         }
     }
 }

@@ -492,4 +492,10 @@ fn writes_that_are_refused(rt: HostRuntime) {
     // at the flush behind a STOP statement
     let run = left_narrow(&rt, &[b"f77run"], &mut NEXT_AND_STOP.as_bytes(), 5);
     assert!(rt; run.left(5, b"WRITE REFUSED\n", b""));
+    // in a text that is asked for, and at the flush behind it
+    for &less in [1usize, 0].as_slice() {
+        let room = HELP.len().saturating_sub(less);
+        let run = left_narrow(&rt, &[b"f77run", b"--help"], &mut io::empty(), room);
+        assert!(rt; run.left(5, b"WRITE REFUSED\n", b""), "{room}");
+    }
 }

@@ -1,9 +1,6 @@
-//! From a program unit to a program that keeps the rules, with what its statements need.
+//! From a program that keeps the rules to one with what its statements need.
 
 ghost use Rattle.std.specs.Prelude.{◌≡◌, IfOk};
-ghost use Rattle.meaning.specs.Reports.{Gives};
-ghost use Rattle.meaning.specs.Rules.{checked};
-ghost use Rattle.meaning.specs.Trees.{nested};
 ghost use Rattle.roles.specs.Listed.{trees_at};
 ghost use Rattle.numbering.specs.Checked.{items_in};
 ghost use Rattle.programs.specs.Kept.{AreFunctions, AreKept};
@@ -11,13 +8,12 @@ ghost use Rattle.programs.specs.Kept.{AreFunctions, AreKept};
 use crate::functions::functions_of;
 use crate::statement::action_of;
 use compiler::NoCode;
-use meaning::refusal::Refusal;
-use meaning::syntax::{Item, Tree};
+use meaning::syntax::Item;
 use numbering::Program;
 use postfix::Code;
 use programs::Actions;
 use roles::items_of;
-use std::alloc::Global;
+use std::alloc::{AllocError, Global};
 
 // What statements need.
 fn actions_of(alloc: Global, items: &[&Item], program: &Program) -> Result<Actions, NoCode>
@@ -66,20 +62,17 @@ fn kept_of(alloc: Global, program: &Program) -> Result<Kept, NoCode>
     }
 }
 
-/// Checks a program unit by the rules of the language, as `checker::check` does, and makes what its statements need: the program, or
-/// the least broken rule of the least line. `Memory` where a growth was refused; also for trees that no source text has: where
-/// a statement function stands in a range or an arm, where lines of statements don't ascend, where an expression needs room for more
-/// than 1,024 numbers.
-pub fn check(alloc: Global, tree: Tree) -> Result<programs::Program, Refusal>
-    ensures exact { Gives (λ p. nested p) result (checked (nested tree)) }
-    ensures tree { IfOk result (λ p. p ≡ tree) }
+/// Makes what the statements of a program that keeps the rules need: the program with it. `AllocError` where a growth was refused;
+/// also for trees that no source text has: where a statement function stands in a range or an arm, where lines of statements don't
+/// ascend, where an expression needs room for more than 1,024 numbers.
+pub fn coded(alloc: Global, unit: Program) -> Result<programs::Program, AllocError>
+    ensures { IfOk result (λ p. p ≡ unit) }
 {
-    let unit = checker::check(alloc, tree)?;
     match kept_of(alloc, &unit) {
         Ok(Kept { actions, functions }) => Ok(programs::Program::new(unit, actions, functions)),
         Err(_) => {
             drop(unit);
-            Err(Refusal::Memory)
+            Err(AllocError)
         }
     }
 }

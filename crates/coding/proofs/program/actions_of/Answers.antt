@@ -2,7 +2,7 @@ use Rattle.std.proofs.Common.{subst}
 use Rattle.meaning.specs.Syntax.{shape_tree}
 use Rattle.programs.specs.Acts.{Acts}
 use Rattle.coding.proofs.Kept.{kept_more}
-use Rattle.coding.proofs.coded.actions_of.Goals as goal
+use Rattle.coding.proofs.program.actions_of.Goals as goal
 
 pub loop-item-preserved : goal.loop-item-preserved
 loop-item-preserved c =

@@ -1,0 +1,2 @@
+      DATA ABS(1,2)/1/
+      END

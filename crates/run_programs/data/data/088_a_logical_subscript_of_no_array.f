@@ -1,0 +1,2 @@
+      DATA J(.TRUE.)/1/
+      END

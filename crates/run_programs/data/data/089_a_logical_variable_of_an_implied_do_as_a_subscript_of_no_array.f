@@ -1,0 +1,3 @@
+      LOGICAL L
+      DATA (J(L),L=1,2)/2*1/
+      END

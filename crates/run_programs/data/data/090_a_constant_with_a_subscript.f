@@ -1,0 +1,3 @@
+      PARAMETER (N=2)
+      DATA N(1)/1/
+      END

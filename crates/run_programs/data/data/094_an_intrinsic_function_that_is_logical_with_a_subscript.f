@@ -1,0 +1,3 @@
+      LOGICAL ABS
+      DATA ABS(1)/.TRUE./
+      END

@@ -1,0 +1,3 @@
+      INTEGER A(3)
+      N(A+1)=1
+      END

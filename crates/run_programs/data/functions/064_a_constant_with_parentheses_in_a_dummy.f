@@ -1,0 +1,3 @@
+      PARAMETER (M=1)
+      N(M(1))=2
+      END

@@ -1,0 +1,3 @@
+      DATA J/1/
+      I(J)=J(1)
+      END

@@ -1,0 +1,3 @@
+      INTEGER J(2)
+      I(J)=J(1,2)
+      END

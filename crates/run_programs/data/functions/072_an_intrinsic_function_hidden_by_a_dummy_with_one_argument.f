@@ -1,0 +1,2 @@
+      I(MAX)=MAX(1)
+      END

@@ -1,0 +1,2 @@
+      I(MAX)=MAX(.TRUE.,.FALSE.)
+      END

@@ -1,0 +1,3 @@
+      LOGICAL ABS
+      I(ABS)=ABS(1)
+      END

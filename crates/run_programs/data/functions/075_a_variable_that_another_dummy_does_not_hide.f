@@ -1,0 +1,3 @@
+      DATA J/1/
+      I(K)=J(1)
+      END

@@ -1,0 +1,3 @@
+      LOGICAL J
+      I(J)=J(1)+1
+      END

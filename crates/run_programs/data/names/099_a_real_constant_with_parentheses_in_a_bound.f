@@ -1,0 +1,3 @@
+      INTEGER L(X(1))
+      PARAMETER (X=2)
+      END

@@ -1,0 +1,3 @@
+      INTEGER L(N(1))
+      PARAMETER (N=2)
+      END

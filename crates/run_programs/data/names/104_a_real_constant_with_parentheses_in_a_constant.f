@@ -1,0 +1,3 @@
+      PARAMETER (N=X(1))
+      PARAMETER (X=2)
+      END

@@ -1,0 +1,2 @@
+      INTEGER L(X(1))
+      END
