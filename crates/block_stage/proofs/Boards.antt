@@ -1,13 +1,16 @@
 -- What a board hands on.
-use Rattle.std.proofs.Common.{◌≡◌, ℕ, zero, suc, ◌+◌, ◌<◌, ◌≤◌, IfSome, List, [], ◌∷◌, ◌++◌, length, map, take, length-take, Option, Some, None, slice_get, refl, sym, ap, ◌∙◌, arith}
+use Rattle.std.proofs.Common.{◌≡◌, ◌↔◌, ℕ, zero, suc, ◌+◌, ◌<◌, ◌≤◌, IfSome, List, [], ◌∷◌, ◌++◌, length, map, take, length-take, Option, Some, None, slice_get, refl, sym, ap, ◌∙◌, subst, arith}
 use Rattle.std.proofs.lemmas.List.{take_more, length-map}
 use Rattle.std.proofs.lemmas.Option.{slice_get_within, get_or_from_slice_get}
 use Rattle.schedules.specs.declared.place.Place.{Place}
 use Rattle.schedules.specs.declared.place.Place.TheVariants.{Open, Posted, Lost}
-use Rattle.schedules.specs.Boards.{AreNumbered}
+use Rattle.schedules.specs.declared.event.Event.{Event}
+use Rattle.schedules.specs.Schedules.{posted, first_world, Replays}
+use Rattle.schedules.specs.Boards.{Stage, end_of, world_of, IsScheduled, AreNumbered}
 use Rattle.block_stage.specs.Jobs.{JobData}
 use Rattle.block_stage.specs.Faithful.{RunData, IsFaithful}
-use Rattle.block_stage.specs.Stages.{run_in, block_in}
+use Rattle.block_stage.specs.Cuts.{Places}
+use Rattle.block_stage.specs.Stages.{HasRun, LeadTo, run_in, block_in}
 
 map_push : {A B : Type 0} (f : A → B) (xs : List A) (x : A) → map f (xs ++ x ∷ []) ≡ map f xs ++ f x ∷ []
 map_push f [] x = refl
@@ -43,3 +46,24 @@ both (Some r) d n f h = (h r refl, f)
 pub length_runs : (places : List (Place RunData)) (i : ℕ) (runs : List (Option RunData)) → i ≤ length places → runs ≡ map run_in (take i places) → length runs ≡ i
 length_runs places i runs le is =
     ap length is ∙ length-map (take i places) run_in ∙ (let e = length-take i places in omega arith)
+
+-- there is a run of the blocks that stand as posted
+run_of_posted : (places : List (Place RunData)) (block : ℕ) → HasRun (map run_in places) block ↔ (slice_get (map end_of places) block ≡ Some posted)
+run_of_posted [] block = (λ h. absurd cc, λ h. absurd cc)
+run_of_posted (Open ∷ ps) zero = (λ h. absurd cc, λ h. absurd cc)
+run_of_posted (Posted r ∷ ps) zero = (λ h. refl, λ h. refl)
+run_of_posted (Lost ∷ ps) zero = (λ h. absurd cc, λ h. absurd cc)
+run_of_posted (p ∷ ps) (suc block) = run_of_posted ps block
+
+leads : (s : Stage RunData) → IsScheduled s → LeadTo s.events (map run_in s.places)
+leads s scheduled = record {
+  workers = length s.outs;
+  last = world_of s;
+  replayed = subst (λ n. Replays s.events (first_world n (length s.outs)) (world_of s)) (sym (length-map s.places run_in)) scheduled;
+  runs = run_of_posted s.places;
+}
+
+-- what happened on a board leads to the runs that it hands on
+pub leads_on : (s : Stage RunData) (events : List Event) (places : List (Place RunData)) (runs : Places) → IsScheduled s → events ≡ s.events → places ≡ s.places → runs ≡ map run_in places → LeadTo events runs
+leads_on s events places runs scheduled happened has are =
+    subst (λ es. LeadTo es runs) (sym happened) (subst (LeadTo s.events) (sym (are ∙ ap (map run_in) has)) (leads s scheduled))

@@ -1,16 +1,29 @@
 -- What a stage has for its blocks, while its workers are at it and when they are done (own).
-use Rattle.std.specs.Prelude.{◌≡◌, ℕ, List, length, slice_get, Option, Some, None}
+use Rattle.std.specs.Prelude.{◌≡◌, ◌↔◌, ℕ, List, length, slice_get, Option, Some, None, is_some, IsTrue}
 use Rattle.schedules.specs.declared.event.Event.{Event}
 use Rattle.schedules.specs.declared.place.Place.{Place}
 use Rattle.schedules.specs.declared.place.Place.TheVariants.{Open, Posted, Lost}
+use Rattle.schedules.specs.Schedules.{posted, World, first_world, Replays}
 use Rattle.schedules.specs.Boards.{Stage}
 use Rattle.block_stage.specs.Jobs.{JobData, JobParts, data_of, IsJob}
 use Rattle.block_stage.specs.Faithful.{RunData, IsFaithful}
-use Rattle.block_stage.specs.Cuts.{Places}
+use Rattle.block_stage.specs.Cuts.{Places, place_at}
 
 -- each run is of the block at whose place it stands, and faithful to the job
 abbrev pub AreRunsOf : JobData → Places → Type 0
 AreRunsOf d places = (i : ℕ) (r : RunData) → slice_get places i ≡ Some (Some r) → (r.block ≡ i) × IsFaithful d r
+
+-- there is a run of the block
+abbrev pub HasRun : Places → ℕ → Type 0
+HasRun places block = IsTrue (is_some (place_at places block))
+
+-- the events, from a board of which nothing was given out, are a schedule that leads to these runs: just the blocks that have one
+-- stand as posted
+pub record LeadTo (events : List Event) (places : Places) : Type 0 where
+  pub workers : ℕ
+  pub last : World
+  pub replayed : Replays events (first_world (length places) workers) last
+  pub runs : (block : ℕ) → HasRun places block ↔ (slice_get last.ends block ≡ Some posted)
 
 -- what workers posted: the job, the run of each block, none where it is missing, and what happened on the board
 pub record PostedParts : Type 0 where
@@ -22,6 +35,7 @@ pub record ArePosted (p : PostedParts) : Type 0 where
   pub job : IsJob p.job
   pub whole : length p.places ≡ p.job.blocks
   pub faithful : AreRunsOf (data_of p.job) p.places
+  pub lead : LeadTo p.events p.places
 
 -- ---- the board
 

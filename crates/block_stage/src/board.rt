@@ -6,7 +6,7 @@ ghost use Rattle.schedules.specs.Boards.{AreNumbered, Claims, first_stage, with_
 ghost use Rattle.schedules.specs.Schedules.{IsIdle, IsOut};
 ghost use Rattle.block_stage.specs.Jobs.{data_of};
 ghost use Rattle.block_stage.specs.Faithful.{IsFaithful, RunData};
-ghost use Rattle.block_stage.specs.Stages.{AreRunsOf, block_in, run_in};
+ghost use Rattle.block_stage.specs.Stages.{AreRunsOf, LeadTo, block_in, run_in};
 
 use crate::block::BlockRun;
 use crate::job::{Job, JobKey, Parts};
@@ -158,6 +158,7 @@ impl<'a, J: JobKey> Board<'a, J> {
         ensures job { result.job ≡ self.entry.job }
         ensures places { result.places ≡ map run_in self.entry.stage.places }
         ensures events { result.events ≡ self.entry.stage.events }
+        ensures lead { LeadTo result.events result.places }
     {
         let Board { job, blocks, room } = self;
         let _parts: Parts<'a> = job.parts();

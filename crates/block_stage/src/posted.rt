@@ -18,7 +18,8 @@ use std::alloc::{AllocError, Global};
 use std::marker::Model;
 
 /// The runs that the workers of a stage posted, at the places of their blocks; none where a block is missing. It keeps what happened
-/// on the board. Its type keeps that each run is of its block, and faithful to the job.
+/// on the board. Its type keeps that each run is of its block, and faithful to the job, and that what happened is a schedule by which
+/// just the blocks that have a run were posted.
 #[derive(Drop)]
 pub struct Posted<'a> {
     job: Job<'a>,

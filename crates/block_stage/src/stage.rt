@@ -3,6 +3,7 @@
 ghost use Rattle.std.specs.Prelude.{◌≡◌, ◌<◌, IfOk, IfSome};
 ghost use Rattle.schedules.specs.Schedules.{SettledOnce};
 ghost use Rattle.block_stage.specs.Jobs.{data_of};
+ghost use Rattle.block_stage.specs.Stages.{LeadTo};
 
 use crate::block::{BlockRun, run_block};
 use crate::board::Board;
@@ -61,6 +62,7 @@ fn stage_of<'a, J: JobKey + Send + Sync, R: Threads + Wait + Sync, G: Gate + Syn
     requires some { 0 < workers }
     ensures job { IfOk result (λ p. p.job ≡ job.now) }
     ensures once { IfOk result (λ p. SettledOnce job.now.blocks p.events) }
+    ensures lead { IfOk result (λ p. LeadTo p.events p.places) }
 {
     let parts: Parts<'a> = job.parts();
     let board: Board<'a, J> = Board::new(alloc, job, workers)?;
@@ -78,7 +80,7 @@ fn stage_of<'a, J: JobKey + Send + Sync, R: Threads + Wait + Sync, G: Gate + Syn
 
 /// Runs the blocks of a job by so many workers, of which the calling thread is one and each other has a thread where one can be
 /// started; `None` where memory was refused for the board. In what happened each block is claimed once, and then posted or lost
-/// once. It waits for the workers.
+/// once, and those that were posted are those that have a run. It waits for the workers.
 pub fn run_stage<'a, R: Threads + Wait + Sync, G: Gate + Sync>(
     rt: &R,
     alloc: Global,
@@ -89,6 +91,7 @@ pub fn run_stage<'a, R: Threads + Wait + Sync, G: Gate + Sync>(
     requires some { 0 < workers }
     ensures job { IfSome result (λ p. p.job ≡ job.now) }
     ensures once { IfSome result (λ p. SettledOnce job.now.blocks p.events) }
+    ensures lead { IfSome result (λ p. LeadTo p.events p.places) }
 {
     match stage_of::<Brand, R, G>(rt, alloc, job, workers, gate) {
         Ok(posted) => Some(posted),
