@@ -7,7 +7,6 @@ use meaning::ending::Outcome;
 use meaning::syntax::Loop;
 use program_runs::QuietLoops;
 use programs::Program;
-use std::alloc::AllocError;
 
 /// By calls of a closure, each of which executes a DO statement with its range.
 #[derive(Drop)]
@@ -28,7 +27,7 @@ impl<F: Fn(&Program, &Loop, &mut Whole, &mut u64) -> Outcome> QuietLoops for Sta
         repeated: &Loop,
         cells: &mut Whole,
         turns: &mut u64,
-    ) -> Result<Outcome, AllocError> {
-        Ok((self.call)(program, repeated, cells, turns))
+    ) -> Outcome {
+        (self.call)(program, repeated, cells, turns)
     }
 }

@@ -73,10 +73,6 @@ pub halts_behind : (ps qs : List (List ℕ)) (h : Halt) (old mid new : Told) →
 halts_behind ps qs halts.Memory old mid new took x = front_behind ps qs old mid new took x
 halts_behind ps qs halts.WriteRefused old mid new took x = broken_behind ps qs old mid new took x
 
--- nothing was taken yet
-pub front_none : (ps : List (List ℕ)) (a : Told) → IsFront ps a a
-front_none ps a = record { taken = []; left = ps; parts = refl; after = Took-none a }
-
 -- what is cut short before pieces that would follow
 front_before : (ps qs : List (List ℕ)) (old new : Told) → IsFront ps old new → IsFront (ps ++ qs) old new
 front_before ps qs old new x =

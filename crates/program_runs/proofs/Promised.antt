@@ -1,5 +1,5 @@
 -- The three cases of the main theorem, of a program.
-use Rattle.std.proofs.Common.{ℕ, [], Ok, Some, inl, inr, refl, sym, ap, ap₂, ◌∙◌, subst}
+use Rattle.std.proofs.Common.{ℕ, [], Ok, Some, inl, inr, refl, sym, ap₂, ◌∙◌, subst}
 use Rattle.std.proofs.lemmas.List.{append-nil}
 use Rattle.std.specs.List.{concat}
 use Rattle.meaning.specs.declared.ending.Report.{Report}

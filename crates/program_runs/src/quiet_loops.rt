@@ -1,6 +1,6 @@
 //! How DO statements without output are executed: one trip after another, or in any way that gives the same.
 
-ghost use Rattle.std.specs.Prelude.{◌≡◌, IfOk, length};
+ghost use Rattle.std.specs.Prelude.{◌≡◌, length};
 ghost use Rattle.meaning.specs.declared.syntax.Loop.{out-Loop};
 ghost use Rattle.meaning.specs.Syntax.{shape_tree};
 ghost use Rattle.meaning.specs.Trees.{flat, item_tree, members_tree};
@@ -17,7 +17,6 @@ use array_store::Whole;
 use meaning::ending::Outcome;
 use meaning::syntax::Loop;
 use programs::Program;
-use std::alloc::AllocError;
 use whole_runs::loop_whole;
 
 /// Executes DO statements without output, each of which stands in no other such one.
@@ -26,15 +25,15 @@ pub trait QuietLoops {
     ghost ready: { Self → Type 0 };
 
     /// Executes a DO statement with its range, which writes nothing, its own turn and limits included; what is no DO
-    /// statement is passed over. Answers how it ended. The `AllocError` comes where a growth was refused; nothing is
-    /// promised then of the cells but their number.
+    /// statement is passed over. Answers how it ended. It has no refusal: where a growth was refused, it does the same
+    /// without what it wanted memory for.
     fn run_loop(
         &self,
         program: &Program,
         repeated: &Loop,
         cells: &mut Whole,
         turns: &mut u64,
-    ) -> Result<Outcome, AllocError>
+    ) -> Outcome
         requires ready { ready self.now }
         requires named { AreStatements program.now
             (flat (members_tree (out-Loop repeated.now).range.items)) }
@@ -43,11 +42,11 @@ pub trait QuietLoops {
         requires leaves { LeavesItsVariable repeated.now }
         requires head { IsStatement program.now (item_tree (out-Loop repeated.now).head) }
         requires sized { length cells.old ≡ count_in program.now }
-        ensures moves { IfOk result (MovesIn program.now cells.old cells.new
+        ensures moves { MovesIn program.now cells.old cells.new
             (loop_as (items_in program.now)
             (shape_tree (out-Loop repeated.now).head.form.shape.value) repeated.now)
-            turns.old turns.new) }
-        ensures spends { IfOk result (λ o. Spends o turns.old turns.new) }
+            turns.old turns.new result }
+        ensures spends { Spends result turns.old turns.new }
         ensures len { length cells.new ≡ length cells.old };
 }
 
@@ -63,7 +62,7 @@ impl QuietLoops for InOrder {
         repeated: &Loop,
         cells: &mut Whole,
         turns: &mut u64,
-    ) -> Result<Outcome, AllocError> {
-        Ok(loop_whole(program, repeated, cells, turns))
+    ) -> Outcome {
+        loop_whole(program, repeated, cells, turns)
     }
 }

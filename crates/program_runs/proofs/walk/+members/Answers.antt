@@ -38,7 +38,7 @@ use Rattle.program_runs.specs.declared.halt.Halt.{Halt}
 use Rattle.program_runs.specs.Allowed.{IsAllowed, AreArmsAllowed}
 use Rattle.program_runs.specs.Walk.{Runs, Steps, Halts, PassesIn}
 use Rattle.program_runs.proofs.Allowing.{allowed_at, allowed_range, leaves_its_variable, quiet_unless_loud, allowed_arms, allowed_body}
-use Rattle.program_runs.proofs.Composed.{front_none, so_far_none, steps_same, steps_quietly, passes_ended, passes_same, while_walks, while_halts, member_goes, member_again, member_jumps, member_leaves, member_ends, member_halts, last_member, last_trip, range_halts, range_ends, trip_goes, sum_faults, do_runs, arm_steps}
+use Rattle.program_runs.proofs.Composed.{so_far_none, steps_same, steps_quietly, passes_ended, passes_same, while_walks, while_halts, member_goes, member_again, member_jumps, member_leaves, member_ends, member_halts, last_member, last_trip, range_halts, range_ends, trip_goes, sum_faults, do_runs, arm_steps}
 use Rattle.program_runs.proofs.Told.{told_by}
 use Rattle.program_runs.proofs.walk.+members.Goals as goal
 
@@ -607,12 +607,7 @@ walk_loop-returns-then-not-is_loud-clause-steps g t c =
     let program = items_in p in
     let told = g.S.Sink.told in
     let y = c.run_loop in
-    steps_quietly _ c.args.turns.now (map_of p y.new.cells) y.new.turns c.in_ok-outcome.outcome (told c.args.sink.now) c.in_ok-outcome.ensures.moves
-
-pub walk_loop-returns-in_err-outcome-clause-steps : goal.walk_loop-returns-in_err-outcome-clause-steps
-walk_loop-returns-in_err-outcome-clause-steps g t c =
-    let q = err_from_is_err_and c.from_residual.result c.from_residual.ensures.1 in
-    rw (q.1, q.2) (λ go. front_none _ (g.S.Sink.told c.args.sink.now))
+    steps_quietly _ c.args.turns.now (map_of p y.new.cells) y.new.turns y.result (told c.args.sink.now) y.ensures.moves
 
 pub walk_loop-walk_do-requires : goal.walk_loop-walk_do-requires
 walk_loop-walk_do-requires g t c =
