@@ -1,5 +1,5 @@
 -- Labels of a list of members.
-use Rattle.std.proofs.Common.{◌≡◌, ℕ, zero, suc, ◌+◌, ◌<◌, ◌≤◌, Bool, true, false, if◌then◌else◌, List, [], ◌∷◌, length, get_or, drop, Option, Some, None, option_map, refl, sym, ap, subst, ◌∙◌, arith}
+use Rattle.std.proofs.Common.{◌≡◌, ℕ, zero, suc, ◌+◌, ◌-◌, ◌<◌, ◌≤◌, Bool, true, false, if◌then◌else◌, List, [], ◌∷◌, length, get_or, drop, Option, Some, None, option_map, refl, sym, ap, ◌∙◌, arith}
 use Rattle.std.proofs.lemmas.Bool.{false≢true}
 use Rattle.meaning.specs.declared.syntax.Arm.{Arm}
 use Rattle.meaning.specs.declared.syntax.Member.{Member, Plain, Loop, Loop', Block}
@@ -9,9 +9,9 @@ use Rattle.meaning.proofs.Ranges.{row_arms-items}
 use Rattle.meaning.specs.Trees.{Members, item_tree, member_before, members_tree, arms_tree, row_arms}
 use Rattle.meaning.specs.LabelRules.{has_label}
 use Rattle.meaning.specs.Execution.{heads, labelled}
-use Rattle.landmarks.specs.Kept.{IsKept}
 use Rattle.landmarks.specs.Places.{own_place, place_in}
 use Rattle.evaluator.specs.Places.{at_if, entry, is_number, is_entered_at}
+use Rattle.evaluator.specs.Slices.{IsSliceFrom}
 
 -- where a jump into a list goes on, by the entry of its first member: at it, behind it, or in the rest
 abbrev entered : Members → Members → Option Members → Option ℕ → Option Members
@@ -35,7 +35,7 @@ labelled-before s (Loop' head shape range) ms = entered-one (has_label s (item_t
 labelled-before s (Block (Block' shape arms end)) ms = entered-two (heads s (row_arms arms)) (has_label s (item_tree end)) (member_before (Block (Block' shape arms end)) ms) ms (labelled s ms)
 
 -- the place of a label, by the entry of the first member
-abbrev placed : ℕ → Option ℕ → Option ℕ → Option ℕ
+abbrev pub placed : ℕ → Option ℕ → Option ℕ → Option ℕ
 placed i rest None = rest
 placed i rest (Some zero) = Some i
 placed i rest (Some (suc n)) = Some (i + 1)
@@ -49,47 +49,47 @@ placed-two true b i rest = refl
 placed-two false true i rest = refl
 placed-two false false i rest = refl
 
-placed-before : (s i : ℕ) (x : Member) (ms : Members) → own_place s i (member_before x ms) ≡ placed i (own_place s (i + 1) ms) (entry s x)
+pub placed-before : (s i : ℕ) (x : Member) (ms : Members) → own_place s i (member_before x ms) ≡ placed i (own_place s (i + 1) ms) (entry s x)
 placed-before s i (Plain x) ms = placed-one (has_label s (item_tree x)) i (own_place s (i + 1) ms)
 placed-before s i (Loop' head shape range) ms = placed-one (has_label s (item_tree head)) i (own_place s (i + 1) ms)
 placed-before s i (Block (Block' shape arms end)) ms = placed-two (heads s (row_arms arms)) (has_label s (item_tree end)) i (own_place s (i + 1) ms)
 
 -- ---- what a jump leads to is what is left at the place of the label
 
--- the members are what is left of a list from a place on
-abbrev IsLeft : List Member → ℕ → List Member → Type 0
-IsLeft whole i ms = (k : ℕ) → drop (i + k) whole ≡ drop k ms
+-- the members are what is left of a slice, whose first member has a place, from a place on
+abbrev IsLeft : ℕ → List Member → ℕ → List Member → Type 0
+IsLeft first whole i ms = (k : ℕ) → drop (i + k - first) whole ≡ drop k ms
 
-left_on : (whole : List Member) (i : ℕ) (x : Member) (ms : List Member) → IsLeft whole i (x ∷ ms) → IsLeft whole (i + 1) ms
-left_on whole i x ms left k = ap (λ n. drop n whole) (one_on i k) ∙ left (suc k)
+left_on : (first : ℕ) (whole : List Member) (i : ℕ) (x : Member) (ms : List Member) → IsLeft first whole i (x ∷ ms) → IsLeft first whole (i + 1) ms
+left_on first whole i x ms left k = ap (λ n. drop n whole) (one_on first i k) ∙ left (suc k)
   where
-    one_on : (i k : ℕ) → i + 1 + k ≡ i + suc k
-    one_on i k = omega arith
+    one_on : (f i k : ℕ) → i + 1 + k - f ≡ i + suc k - f
+    one_on f i k = omega arith
 
-module _ (s : ℕ) (whole : List Member) where
+module _ (s first : ℕ) (whole : List Member) where
   abbrev left_at : Option ℕ → Option Members
-  left_at o = option_map (λ i. members_tree (drop i whole)) o
+  left_at o = option_map (λ i. members_tree (drop (i - first) whole)) o
 
-  entered_left : (i : ℕ) (x : Member) (ms : List Member) (rest : Option Members) (o : Option ℕ) → IsLeft whole i (x ∷ ms) → rest ≡ left_at o → (e : Option ℕ) → entered (members_tree (x ∷ ms)) (members_tree ms) rest e ≡ left_at (placed i o e)
+  entered_left : (i : ℕ) (x : Member) (ms : List Member) (rest : Option Members) (o : Option ℕ) → IsLeft first whole i (x ∷ ms) → rest ≡ left_at o → (e : Option ℕ) → entered (members_tree (x ∷ ms)) (members_tree ms) rest e ≡ left_at (placed i o e)
   entered_left i x ms rest o left same None = same
   entered_left i x ms rest o left same (Some zero) =
-      ap (λ xs. Some (members_tree xs)) (sym (ap (λ n. drop n whole) (at_it i) ∙ left 0))
+      ap (λ xs. Some (members_tree xs)) (sym (ap (λ n. drop n whole) (at_it first i) ∙ left 0))
     where
-      at_it : (i : ℕ) → i ≡ i + 0
-      at_it i = omega arith
+      at_it : (f i : ℕ) → i - f ≡ i + 0 - f
+      at_it f i = omega arith
   entered_left i x ms rest o left same (Some (suc n)) = ap (λ xs. Some (members_tree xs)) (sym (left 1))
 
-  labelled_left : (ms : List Member) (i : ℕ) → IsLeft whole i ms → labelled s (members_tree ms) ≡ left_at (own_place s i (members_tree ms))
+  labelled_left : (ms : List Member) (i : ℕ) → IsLeft first whole i ms → labelled s (members_tree ms) ≡ left_at (own_place s i (members_tree ms))
   unfolding labelled
   labelled_left [] i left = refl
   labelled_left (x ∷ ms) i left =
-      labelled-before s x (members_tree ms) ∙ entered_left i x ms (labelled s (members_tree ms)) (own_place s (i + 1) (members_tree ms)) left (labelled_left ms (i + 1) (left_on whole i x ms left)) (entry s x) ∙ ap left_at (sym (placed-before s i x (members_tree ms)))
+      labelled-before s x (members_tree ms) ∙ entered_left i x ms (labelled s (members_tree ms)) (own_place s (i + 1) (members_tree ms)) left (labelled_left ms (i + 1) (left_on first whole i x ms left)) (entry s x) ∙ ap left_at (sym (placed-before s i x (members_tree ms)))
 
-none_on : (k : ℕ) → 0 + k ≡ k
-none_on k = omega arith
-
-labelled_is : (s : ℕ) (ms : List Member) → labelled s (members_tree ms) ≡ option_map (λ i. members_tree (drop i ms)) (own_place s 0 (members_tree ms))
-labelled_is s ms = labelled_left s ms ms 0 (λ k. ap (λ n. drop n ms) (none_on k))
+labelled_is : (s first : ℕ) (ms : List Member) → labelled s (members_tree ms) ≡ option_map (λ i. members_tree (drop (i - first) ms)) (own_place s first (members_tree ms))
+labelled_is s first ms = labelled_left s first ms ms first (λ k. ap (λ n. drop n ms) (further first k))
+  where
+    further : (f k : ℕ) → f + k - f ≡ k
+    further f k = omega arith
 
 -- ---- a list has a label exactly if a member begins or ends with it
 
@@ -159,41 +159,42 @@ where_entered s (x ∷ ms) i n is =
         let e : i + 1 ≡ n = cc in
         record { further = 1; is = omega arith; there = behind_it 0 refl (entry-near s x k at) }
 
-entered_at : (s : ℕ) (ms : List Member) (n : ℕ) → own_place s 0 (members_tree ms) ≡ Some n → IsEntered s ms n
-entered_at s ms n is =
-    let h = where_entered s ms 0 n is in
-    subst (IsEntered s ms) (sym (h.is ∙ none_on h.further)) h.there
+-- ---- in a slice of a program, whose labels lead to their places
 
--- ---- in a program, whose labels lead to their places
-
-module _ (t : Tree) (s : ℕ) (ms : List Member) (kept : IsKept t (members_tree ms)) where
-  pub found_at : (p i n : ℕ) → Some p ≡ place_in t s → true ≡ is_entered_at s ms i n → Some (members_tree (drop p ms)) ≡ labelled s (members_tree ms)
-  found_at p i n place is = by (own_place s 0 (members_tree ms)) refl
+module _ (t : Tree) (s first : ℕ) (ms : List Member) (slice : IsSliceFrom t first (members_tree ms)) where
+  pub found_at : (p i n : ℕ) → Some p ≡ place_in t s → true ≡ is_entered_at s ms i n → Some (members_tree (drop (p - first) ms)) ≡ labelled s (members_tree ms)
+  found_at p i n place is = by (own_place s first (members_tree ms)) refl
     where
-      by : (o : Option ℕ) → own_place s 0 (members_tree ms) ≡ o → Some (members_tree (drop p ms)) ≡ labelled s (members_tree ms)
-      by None at = absurd (entered_somewhere s ms i 0 n is at)
+      by : (o : Option ℕ) → own_place s first (members_tree ms) ≡ o → Some (members_tree (drop (p - first) ms)) ≡ labelled s (members_tree ms)
+      by None at = absurd (entered_somewhere s ms i first n is at)
       by (Some q) at =
-          let same : Some p ≡ Some q = place ∙ kept.own s q at in
-          ap (λ o. option_map (λ k. members_tree (drop k ms)) o) (same ∙ sym at) ∙ sym (labelled_is s ms)
+          let same : Some p ≡ Some q = place ∙ slice.own s q at in
+          ap (λ o. option_map (λ k. members_tree (drop (k - first) ms)) o) (same ∙ sym at) ∙ sym (labelled_is s first ms)
 
-  nowhere : ((p : ℕ) → place_in t s ≡ Some p → IsEntered s ms p → ⊥) → None ≡ labelled s (members_tree ms)
-  nowhere never = by (own_place s 0 (members_tree ms)) refl
+  nowhere : ((p further : ℕ) → place_in t s ≡ Some p → p ≡ first + further → IsEntered s ms further → ⊥) → None ≡ labelled s (members_tree ms)
+  nowhere never = by (own_place s first (members_tree ms)) refl
     where
-      by : (o : Option ℕ) → own_place s 0 (members_tree ms) ≡ o → None ≡ labelled s (members_tree ms)
-      by None at = ap (λ o. option_map (λ k. members_tree (drop k ms)) o) (sym at) ∙ sym (labelled_is s ms)
-      by (Some q) at = absurd (never q (kept.own s q at) (entered_at s ms q at))
+      by : (o : Option ℕ) → own_place s first (members_tree ms) ≡ o → None ≡ labelled s (members_tree ms)
+      by None at = ap (λ o. option_map (λ k. members_tree (drop (k - first) ms)) o) (sym at) ∙ sym (labelled_is s first ms)
+      by (Some q) at =
+          let h = where_entered s ms first q at in
+          absurd (never q h.further (slice.own s q at) h.is h.there)
 
-  -- a label that leads nowhere in the program, or to a place where no member of the list has it
+  -- a label that leads nowhere in the program, or before the slice, or to a place where no member of it has the label
   pub found_nowhere : None ≡ place_in t s → None ≡ labelled s (members_tree ms)
-  found_nowhere none = nowhere (λ p is there. absurd cc)
+  found_nowhere none = nowhere (λ p k is further there. absurd cc)
 
-  pub not_found : (p : ℕ) → Some p ≡ place_in t s → false ≡ is_entered_at s ms p 0 → ((i : ℕ) → p ≡ i + 1 → false ≡ is_entered_at s ms i 1) → None ≡ labelled s (members_tree ms)
+  pub found_before : (p : ℕ) → Some p ≡ place_in t s → p < first → None ≡ labelled s (members_tree ms)
+  found_before p place lt =
+      nowhere (λ q k is further there. let e : Some p ≡ Some q = place ∙ is in let same : p ≡ q = cc in absurd (omega arith))
+
+  pub not_found : (p : ℕ) → Some p ≡ place_in t s → false ≡ is_entered_at s ms (p - first) 0 → ((i : ℕ) → p - first ≡ i + 1 → false ≡ is_entered_at s ms i 1) → None ≡ labelled s (members_tree ms)
   not_found p place not_at not_behind =
-      nowhere (λ q is there. by q (let e : Some p ≡ Some q = place ∙ is in cc) there)
+      nowhere (λ q k is further there. let e : Some p ≡ Some q = place ∙ is in let same : p ≡ q = cc in by k (omega arith) there)
     where
-      by : (q : ℕ) → p ≡ q → IsEntered s ms q → ⊥
-      by q same (at_it is) = absurd (false≢true (not_at ∙ ap (λ k. is_entered_at s ms k 0) same ∙ is))
-      by q same (behind_it i next is) = absurd (false≢true (not_behind i (same ∙ next) ∙ is))
+      by : (k : ℕ) → p - first ≡ k → IsEntered s ms k → ⊥
+      by k same (at_it is) = absurd (false≢true (not_at ∙ ap (λ j. is_entered_at s ms j 0) same ∙ is))
+      by k same (behind_it i next is) = absurd (false≢true (not_behind i (same ∙ next) ∙ is))
 
 pub entered_within : (s : ℕ) (ms : List Member) (i n : ℕ) → true ≡ is_entered_at s ms i n → i < length ms
 entered_within s [] i n is = absurd cc

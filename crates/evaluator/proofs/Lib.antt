@@ -5,4 +5,6 @@ pub mod Turning
 pub mod Executed
 pub mod Picked
 pub mod Labelled
+pub mod Sliced
 pub mod Looped
+pub mod Parts

@@ -40,11 +40,11 @@ use Rattle.evaluator.proofs.Executed.{added_goes, added_fails, fault_at, one_les
 
 -- ---- what holds of each statement
 
-split-all : {A : Type 0} (P : A → Type 0) (xs ys : List A) → AllByRecursion P (xs ++ ys) → AllByRecursion P xs × AllByRecursion P ys
+pub split-all : {A : Type 0} (P : A → Type 0) (xs ys : List A) → AllByRecursion P (xs ++ ys) → AllByRecursion P xs × AllByRecursion P ys
 split-all P [] ys h = (tt, h)
 split-all P (x ∷ xs) ys h = let r = split-all P xs ys h.1 in ((h.0, r.0), r.1)
 
-flat-before : (x : Member) (ms : Members) → flat (member_before x ms) ≡ flat (member_before x none) ++ flat ms
+pub flat-before : (x : Member) (ms : Members) → flat (member_before x ms) ≡ flat (member_before x none) ++ flat ms
 flat-before (Plain x) ms = refl
 flat-before (Loop' head shape range) ms =
     ap (λ xs. item_tree head ∷ (xs ++ flat ms)) (sym (append-nil (flat (row_members range))))

@@ -4,6 +4,7 @@ pub mod Member
 pub mod Limited
 pub mod Quiet
 pub mod Places
+pub mod Slices
 pub mod Listing
 pub mod Over
 pub mod Passed

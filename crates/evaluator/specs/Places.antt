@@ -1,5 +1,5 @@
 -- Where in a list a transfer of control goes on (ANSI X3.9-1978, 11.1 to 11.4).
-use Rattle.std.specs.Prelude.{◌==◌, ℕ, zero, suc, Bool, true, false, List, [], ◌∷◌, Option, Some, None}
+use Rattle.std.specs.Prelude.{◌≡◌, ◌==◌, ℕ, zero, suc, Bool, true, false, List, [], ◌∷◌, Option, Some, None}
 use Rattle.meaning.specs.declared.syntax.Member.{Member, Plain, Loop', Block}
 use Rattle.meaning.specs.declared.syntax.Block.{Block'}
 use Rattle.meaning.specs.Execution.{Next, onward, at_label, heads}
@@ -25,6 +25,11 @@ abbrev pub is_entered_at : ℕ → List Member → ℕ → ℕ → Bool
 is_entered_at s [] i n = false
 is_entered_at s (x ∷ ms) zero n = is_number (entry s x) n
 is_entered_at s (x ∷ ms) (suc i) n = is_entered_at s ms i n
+
+-- the label by which a transfer leads to a member, and how far behind its beginning it goes on; none where no label does
+abbrev pub IsLedTo : Member → Option (ℕ × ℕ) → Type 0
+IsLedTo x (Some h) = entry h.0 x ≡ Some h.1
+IsLedTo x None = (s : ℕ) → entry s x ≡ None
 
 -- to a label, or onward where there is none
 abbrev pub next_of : Option ℕ → Next

@@ -8,6 +8,7 @@ mod passed;
 mod places;
 mod quiet;
 mod shapes;
+mod slices;
 
 pub use assignment::{add_to, assign, set_variable};
 pub use control::{run_item, take_turn, test_arm, test_condition};
@@ -16,3 +17,4 @@ pub use passed::{Passed, behind_range, ended};
 pub use places::place_of;
 pub use quiet::{repeat_in, run_list, run_loop, run_trips, while_in};
 pub use shapes::{do_of, logical_if_of};
+pub use slices::body_members;

@@ -6,6 +6,7 @@ ghost use Rattle.meaning.specs.LabelRules.{has_label as has};
 ghost use Rattle.meaning.specs.Trees.{arms_tree, item_tree, members_tree};
 ghost use Rattle.landmarks.specs.Kept.{IsKept};
 ghost use Rattle.evaluator.specs.Places.{entry, is_entered_at};
+ghost use Rattle.evaluator.specs.Slices.{IsSliceFrom};
 
 use meaning::syntax::{Arm, Item, Member};
 use programs::Program;
@@ -77,28 +78,49 @@ fn is_entered(members: &[Member], place: usize, label: u32, behind: usize) -> bo
     }
 }
 
-/// Where in a list of the program a transfer to the label goes on, if the list has the label: at the first member that begins
-/// with it, or behind the block IF whose END IF statement has it. The program keeps the place of each label in its list; a list
-/// has the label if the member at that place begins with it, or the block IF before that place ends with it.
-pub fn place_of(program: &Program, members: &[Member], label: u32) -> Option<usize>
-    requires kept { IsKept program.now (members_tree members.now) }
+// Where in a slice of the program, which begins at a place of its list, a transfer to the label goes on, if the slice has the
+// label: at the first member that begins with it, or behind the block IF whose END IF statement has it. The program keeps the
+// place of each label in its list; a slice has the label if the member at that place begins with it, or the block IF before that
+// place ends with it.
+pub(crate) fn place_from(
+    program: &Program,
+    members: &[Member],
+    first: usize,
+    label: u32,
+) -> Option<usize>
+    requires slice { IsSliceFrom program.now first (members_tree members.now) }
     ensures at { option_map (λ i. members_tree (drop i members.now)) result ≡
         labelled label (members_tree members.now) }
     ensures within { IfSome result (λ i. i ≤ length members.now) }
 {
     match program.place(label) {
         Some(place) => {
-            if is_entered(members, place, label, 0) {
-                return Some(place);
-            }
-            if place == 0 {
+            if place < first {
                 return None;
             }
-            if is_entered(members, place - 1, label, 1) {
-                return Some(place);
+            let here = place - first;
+            if is_entered(members, here, label, 0) {
+                return Some(here);
+            }
+            if here == 0 {
+                return None;
+            }
+            if is_entered(members, here - 1, label, 1) {
+                return Some(here);
             }
             None
         }
         None => None,
     }
+}
+
+/// Where in a list of the program a transfer to the label goes on, if the list has the label: at the first member that begins
+/// with it, or behind the block IF whose END IF statement has it.
+pub fn place_of(program: &Program, members: &[Member], label: u32) -> Option<usize>
+    requires kept { IsKept program.now (members_tree members.now) }
+    ensures at { option_map (λ i. members_tree (drop i members.now)) result ≡
+        labelled label (members_tree members.now) }
+    ensures within { IfSome result (λ i. i ≤ length members.now) }
+{
+    place_from(program, members, 0, label)
 }

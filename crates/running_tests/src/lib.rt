@@ -1,5 +1,5 @@
 //! Tests of running that no FORTRAN program of run_programs says: sources by their bytes, turns, and where records go; the codes that are
-//! kept of statements; loops by stages, step by step; and the program itself with its command line.
+//! kept of statements; consecutive members of a list; loops by stages, step by step; and the program itself with its command line.
 #![tactic(auto)]
 
 #[cfg(test)]
@@ -16,6 +16,8 @@ mod plans;
 mod sinks;
 #[cfg(test)]
 mod sizes;
+#[cfg(test)]
+mod slices;
 #[cfg(test)]
 mod sources;
 #[cfg(test)]

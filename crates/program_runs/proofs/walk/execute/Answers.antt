@@ -7,10 +7,11 @@ use Rattle.numbering.specs.Checked.{tree_of, items_in}
 use Rattle.numbering.specs.Starts.{map_of}
 use Rattle.meaning.proofs.Lasting.{leave_variables}
 use Rattle.evaluator.specs.Known.{AreStatements}
+use Rattle.evaluator.proofs.Parts.{all_statements}
 use Rattle.program_runs.specs.Allowed.{IsAllowed}
 use Rattle.program_runs.specs.Walk.{Ends, Halts}
 use Rattle.program_runs.proofs.Composed.{ends_as}
-use Rattle.program_runs.proofs.Unit.{all_statements, start_is}
+use Rattle.program_runs.proofs.Unit.{start_is}
 use Rattle.program_runs.proofs.walk.execute.Goals as goal
 
 pub walk_list-requires-clause-named : goal.walk_list-requires-clause-named
