@@ -1,20 +1,24 @@
 //! A set of cells.
 
-ghost use Rattle.std.specs.Prelude.{◌≡◌, ◌↔◌, IsTrue, OnOk, OnErr};
+ghost use Rattle.std.specs.Prelude.{◌≡◌, ◌≢◌, ◌↔◌, ◌==◌, ◌||◌, ◌<◌, ◌≤◌, ◌+◌, ◌*◌, ◌/◌, length, min, ◌^◌, ℕ, IsTrue, OnOk, OnErr, vec_len};
 ghost use Rattle.std.specs.Ordering.{nat_cmp};
 ghost use Rattle.std.specs.FinSet as set;
 ghost use Rattle.std.specs.Coded.{coded_ℕ};
+ghost use Rattle.std.specs.Int.{bit_at};
 ghost use Rattle.marks.specs.Cells.{Share};
+ghost use Rattle.marks.specs.Words.{IsSummed, MeetIn, MeetTold, SomeMeet, tells, set_of, word_at};
 
 use meaning::cell::Cell;
 use std::alloc::{AllocError, Global};
-use std::collections::BTreeSet;
 use std::marker::Model;
+use std::simd::prelude::*;
 
 /// A set of cells. Contracts see the set of their numbers, and not how it is kept.
 #[derive(Drop)]
 pub struct Marks {
-    numbers: BTreeSet<usize>,
+    words: Vec<u64>,
+    // A bit for each eight words, which is there where one of them isn't 0.
+    groups: Vec<u64>,
 }
 
 impl Model for Marks {
@@ -22,7 +26,134 @@ impl Model for Marks {
 
     ghost coded = { set.code coded_ℕ };
 
-    ghost view = { λ m. set.from_list m.numbers.keys };
+    ghost view = { λ m. set_of m.words.items };
+
+    ghost invariant = { λ m. IsSummed m.words.items m.groups.items };
+}
+
+/// Whether a mask word has a bit.
+pub fn has_bit(word: u64, bit: usize) -> bool
+    requires { bit < 64 }
+    ensures { result ≡ (bit_at word bit == 1) }
+{
+    word >> bit & 1 == 1
+}
+
+// A word with a bit.
+fn with_bit(word: u64, bit: usize) -> u64
+    requires { bit < 64 }
+    ensures has { bit_at result bit ≡ 1 }
+    ensures others { (i : ℕ) → i ≢ bit → bit_at result i ≡ bit_at word i }
+{
+    word | (1 << bit)
+}
+
+// Whether words tell a cell.
+fn is_told(words: &[u64], cell: usize) -> bool
+    ensures { result ≡ tells words.now cell }
+{
+    match words.get(cell / 64) {
+        Some(word) => has_bit(*word, cell % 64),
+        None => false,
+    }
+}
+
+// Sees that there is a word at a place.
+fn grow_to(words: &mut Vec<u64>, at: usize) -> Result<(), AllocError>
+    requires { at < 2 ^ 58 }
+    ensures same { (q : ℕ) → tells words.new.items q ≡ tells words.old.items q }
+    ensures long { OnOk result (at < vec_len words.new) }
+    ensures longer { vec_len words.old ≤ vec_len words.new }
+    ensures most { (n : ℕ) → at < n → vec_len words.old ≤ n → vec_len words.new ≤ n }
+{
+    if words.len() <= at {
+        words.resize(at + 1, 0)?;
+    }
+    Ok(())
+}
+
+// Puts a cell in.
+fn put(words: &mut Vec<u64>, cell: usize)
+    requires { cell / 64 < vec_len words.old }
+    ensures told { (q : ℕ) → tells words.new.items q ≡ (q == cell || tells words.old.items q) }
+    ensures len { vec_len words.new ≡ vec_len words.old }
+{
+    let at = cell / 64;
+    words[at] = with_bit(words[at], cell % 64);
+}
+
+// Whether eight words from a place on share a bit.
+fn meet_eight(a: &[u64], b: &[u64], at: usize) -> bool
+    requires a { at + 8 ≤ length a.now }
+    requires b { at + 8 ≤ length b.now }
+    ensures { IsTrue result ↔ MeetIn a.now b.now at (at + 8) }
+{
+    (u64x8::from_slice(&a[at..]) & u64x8::from_slice(&b[at..])).reduce_or() != 0
+}
+
+// Whether two words share a bit.
+fn meet_one(a: &[u64], b: &[u64], at: usize) -> bool
+    requires a { at < length a.now }
+    requires b { at < length b.now }
+    ensures { IsTrue result ↔ MeetIn a.now b.now at (at + 1) }
+{
+    a[at] & b[at] != 0
+}
+
+// Whether words from a place up to another share a bit.
+fn meet_some(a: &[u64], b: &[u64], from: usize, to: usize) -> bool
+    requires a { to ≤ length a.now }
+    requires b { to ≤ length b.now }
+    ensures { IsTrue result ↔ MeetIn a.now b.now from to }
+{
+    for at in from..to {
+        if meet_one(a, b, at) {
+            return true;
+        }
+    }
+    false
+}
+
+// Whether the eight words of a group share a bit; past its last word a set has none.
+fn meet_group(a: &[u64], b: &[u64], group: usize) -> bool
+    requires { group < 2 ^ 58 }
+    ensures { IsTrue result ↔ MeetIn a.now b.now (8 * group) (8 * group + 8) }
+{
+    let from = 8 * group;
+    let to = a.len().min(b.len());
+    if from + 8 <= to {
+        meet_eight(a, b, from)
+    } else {
+        meet_some(a, b, from, to)
+    }
+}
+
+// Whether one of 64 groups that a mask has, from the first one on, shares a bit.
+fn meet_groups(a: &[u64], b: &[u64], mask: u64, first: usize) -> bool
+    requires { first + 64 ≤ 2 ^ 58 }
+    ensures { IsTrue result ↔ MeetTold a.now b.now mask first 64 }
+{
+    for bit in 0..64usize {
+        if has_bit(mask, bit) && meet_group(a, b, first + bit) {
+            return true;
+        }
+    }
+    false
+}
+
+// Whether words share a bit in a group that two masks both have.
+fn meet_by(a: &[u64], b: &[u64], mine: &[u64], others: &[u64]) -> bool
+    requires { length mine.now ≤ 2 ^ 50 }
+    ensures met { IsTrue result ↔ SomeMeet a.now b.now mine.now others.now }
+    ensures words { (k : ℕ) → word_at a.now k < 2 ^ 64 }
+{
+    for at in 0..mine.len().min(others.len()) {
+        let mask = mine[at] & others[at];
+        if mask != 0 && meet_groups(a, b, mask, 64 * at) {
+            return true;
+        }
+    }
+    false
 }
 
 impl Marks {
@@ -31,7 +162,8 @@ impl Marks {
         ensures { result ≡ set.empty }
     {
         Marks {
-            numbers: BTreeSet::new(alloc),
+            words: Vec::new(alloc),
+            groups: Vec::new(alloc),
         }
     }
 
@@ -40,7 +172,10 @@ impl Marks {
         ensures ok { OnOk result (self.new ≡ set.insert self.old cell.0) }
         ensures err { OnErr result (self.new ≡ self.old) }
     {
-        self.numbers.insert(cell.0)?;
+        grow_to(&mut self.words, cell.0 / 64)?;
+        grow_to(&mut self.groups, cell.0 / 512 / 64)?;
+        put(&mut self.groups, cell.0 / 512);
+        put(&mut self.words, cell.0);
         Ok(())
     }
 
@@ -48,13 +183,21 @@ impl Marks {
     pub fn has(&self, cell: Cell) -> bool
         ensures { result ≡ set.contains self.now cell.0 }
     {
-        self.numbers.contains(&cell.0)
+        is_told(&self.words, cell.0)
     }
 
-    /// Whether a cell is in both sets.
+    /// Whether a cell is in both sets. It takes no memory.
     pub fn meets(&self, other: &Marks) -> bool
         ensures { IsTrue result ↔ Share self.now other.now }
     {
-        !self.numbers.is_disjoint(&other.numbers)
+        meet_by(&self.words, &other.words, &self.groups, &other.groups)
+    }
+
+    /// The mask words: bit b of word k tells whether cell 64*k+b is in the set; none past the last word is. It takes no memory.
+    pub fn words(&self) -> &[u64]
+        ensures told { (c : ℕ) → set.contains self.now c ≡ tells result.now c }
+        ensures few { length result.now ≤ 2 ^ 58 }
+    {
+        &self.words
     }
 }

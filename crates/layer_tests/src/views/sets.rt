@@ -77,7 +77,22 @@ fn meets(rt: HostRuntime) -> Result<(), Fail> {
     Ok(())
 }
 
-/// So many cells that a tree of them has inner nodes.
+/// Bit b of word k is cell 64*k+b; there are as many words as the greatest cell needs.
+#[test]
+fn words(rt: HostRuntime) -> Result<(), Fail> {
+    let marks = set_of(rt.alloc(), BORDERS)?;
+    let words = marks.words();
+    assert!(rt; words.len() == 262_144);
+    assert!(rt; words.first() == Some(&0x8000_0000_0000_0001));
+    assert!(rt; words.get(1) == Some(&1));
+    assert!(rt; words.get(2) == Some(&0));
+    assert!(rt; words.last() == Some(&0x8000_0000_0000_0000));
+    let empty = set_of(rt.alloc(), &[])?;
+    assert!(rt; empty.words().is_empty());
+    Ok(())
+}
+
+/// So many cells that words have to grow several times.
 const MANY: usize = 200;
 
 /// That a set has so many first cells, and none of those behind.
