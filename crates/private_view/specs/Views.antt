@@ -1,10 +1,12 @@
 -- What a view of a whole store is among stores (own).
-use Rattle.std.specs.Prelude.{◌≡◌, ℕ, ℤ, ◌<◌, ◌==◌, ◌||◌, Bool, false, List, [], ◌∷◌, length, slice_set, is_some, IsSome, refl}
+use Rattle.std.specs.Prelude.{◌≡◌, true, pos, Some, map as list_map, slice_get, slice_index_or, ◌*◌, ◌/◌, ◌%◌, ◌+◌, ◌-◌, min, ℕ, ℤ, ◌<◌, ◌==◌, ◌||◌, ◌&&◌, if◌then◌else◌, Bool, false, List, length, is_some, IsSome, refl}
 use Rattle.std.specs.List.{list_any}
 use Rattle.std.specs.Ordering.{nat_cmp}
 use Rattle.std.specs.FinSet as set
 use Rattle.std.specs.FinMap as map
 use Rattle.std.specs.Coded.{Coded, code_by, coded×, coded_list, coded_ℕ, coded_ℤ, coded_bool}
+use Rattle.std.specs.Int.{bit_at}
+use Rattle.marks.specs.Words.{tells}
 use Rattle.meaning.specs.Stores.{World, known}
 use Rattle.array_store.specs.Whole.{world_of}
 
@@ -47,19 +49,55 @@ AddsWritten s old new = (c : ℕ) → is_among c new ≡ (is_among c old || is_s
 
 -- ---- how a view is kept
 
--- what was written, as the map of a tree's entries
-abbrev pub written_by : List (ℕ × ℤ) → Written
-written_by entries = map.from_entries entries
+-- the cells of a set, each with its value
+abbrev pub written_by : set.FinSet nat_cmp → (ℕ → ℤ) → Written
+written_by marks values = map.from_entries (list_map (λ c. (c, values c)) (set.items marks))
 
--- the marks are the numbers of the values that were written, and each is a cell's
-pub record IsKept (base : List ℤ) (entries : List (ℕ × ℤ)) (marks : set.FinSet nat_cmp) : Type 0 where
-  pub same : (c : ℕ) → set.contains marks c ≡ is_some (map.get (written_by entries) c)
-  pub within : (c : ℕ) → IsSome (map.get (written_by entries) c) → c < length base
+-- the place of a page among those that were copied
+abbrev pub slot_at : List ℕ → ℕ → ℕ
+slot_at slots k = slice_index_or slots k 0
 
--- values put in, one behind another
-abbrev pub put_entries : List ℤ → List (ℕ × ℤ) → List ℤ
-put_entries values [] = values
-put_entries values (e ∷ es) = put_entries (slice_set values e.0 e.1) es
+-- the value of a cell whose page was copied
+abbrev pub value_at : List ℕ → List ℤ → ℕ → ℤ
+value_at slots values c = slice_index_or values (64 * slot_at slots (c / 64) + c % 64) (pos 0)
+
+-- a page was copied: its number stands at its place
+pub record IsCopied (slots numbers : List ℕ) (k : ℕ) : Type 0 where
+  pub within : slot_at slots k < length numbers
+  pub there : slice_index_or numbers (slot_at slots k) 0 ≡ k
+
+-- each cell that was written is in a page that was copied, whose other cells have the base's values; 64 values for each page
+pub record IsKept (base : List ℤ) (marks : set.FinSet nat_cmp) (slots numbers : List ℕ) (values : List ℤ) : Type 0 where
+  pub within : (c : ℕ) → set.contains marks c ≡ true → c < length base
+  pub copied : (c : ℕ) → set.contains marks c ≡ true → IsCopied slots numbers (c / 64)
+  pub based : (c : ℕ) → c < length base → IsCopied slots numbers (c / 64) → set.contains marks c ≡ false → Some (value_at slots values c) ≡ slice_get base c
+  pub long : length values ≡ 64 * length numbers
+
+-- a cell of a page was written
+abbrev pub WroteIn : Seen → ℕ → Type 0
+WroteIn s k = (b : ℕ) × ((b < 64) × IsSome (map.get s.written (64 * k + b)))
+
+-- the values of a page's cells, fewer in the last page
+abbrev pub ShowsPage : Seen → ℕ → List ℤ → Type 0
+ShowsPage s k p = (length p ≡ min 64 (length s.base - 64 * k)) × ((b : ℕ) → b < length p → slice_get p b ≡ Some (known (world_seen s) (64 * k + b)))
+
+-- a cell of a page is marked
+abbrev pub HasSome : List ℕ → ℕ → Type 0
+HasSome words k = (b : ℕ) × ((b < 64) × (tells words (64 * k + b) ≡ true))
+
+-- the mask word of a page has a cell
+abbrev pub is_in : ℕ → ℕ → ℕ → Bool
+is_in word page c = (c / 64 == page) && (bit_at word (c % 64) == 1)
+
+-- cells that are in it have their values there, and all others what they had
+abbrev pub TakesPage : List ℤ → List ℤ → ℕ → ℕ → (ℕ → ℤ) → Type 0
+TakesPage old new word page values =
+    (c : ℕ) → slice_get new c ≡ (if is_in word page c then Some (values c) else slice_get old c)
+
+-- those that mask words tell
+abbrev pub TakesAll : List ℤ → List ℤ → List ℕ → (ℕ → ℤ) → Type 0
+TakesAll old new words values =
+    (c : ℕ) → slice_get new c ≡ (if tells words c then Some (values c) else slice_get old c)
 
 -- ---- its code
 

@@ -316,7 +316,62 @@ fn borders(rt: HostRuntime) -> Result<(), Fail> {
     Ok(())
 }
 
-/// So many cells that trees of them have inner nodes.
+/// How many cells a store has, the last page of 64 that it has, and how many of them are in it.
+const SHORT: &[(usize, usize, usize)] = &[
+    (1, 0, 1),
+    (63, 0, 63),
+    (64, 0, 64),
+    (65, 1, 1),
+    (130, 2, 2),
+];
+
+/// That a view shows so many values of a page: 7 in the last one, and 5 before it.
+fn check_page(rt: &impl Abort, view: &View<'_>, page: usize, count: usize) {
+    let shown = view.page(page).expect(rt, "a page");
+    assert!(rt; shown.len() == count, "{page}");
+    for (number, &value) in shown.iter().enumerate() {
+        let want = if number + 1 == count { 7 } else { 5 };
+        assert!(rt; value == want, "{number} of {page}");
+    }
+}
+
+/// Writes the last cell of a store, behind which its page is shown, and no other one is.
+fn write_last(
+    rt: &impl Abort,
+    alloc: Global,
+    base: &Whole,
+    page: usize,
+    count: usize,
+) -> Result<(), AllocError>
+    requires some { 0 < length base.now }
+    requires few { page < 3 }
+{
+    let last = base.cells().len() - 1;
+    let mut view = View::new(alloc, base);
+    assert!(rt; view.page(page).is_none());
+    view.write(Cell(last), 7)?;
+    check_page(rt, &view, page, count);
+    assert!(rt; view.page(page + 1).is_none());
+    assert!(rt; page == 0 || view.page(0).is_none());
+    Ok(())
+}
+
+#[test]
+fn last_pages(rt: HostRuntime) -> Result<(), Fail> {
+    for &(cells, page, count) in SHORT {
+        let values = vec![in rt.alloc(); 5; cells]?;
+        let base = Whole::new(rt.alloc(), &values)?;
+        assert!(rt; !base.cells().is_empty());
+        assert!(rt; page < 3);
+        write_last(&rt, rt.alloc(), &base, page, count)?;
+    }
+    let none = Whole::new(rt.alloc(), &[])?;
+    let view = View::new(rt.alloc(), &none);
+    assert!(rt; view.page(0).is_none());
+    Ok(())
+}
+
+/// So many cells that several pages are copied.
 const MANY: usize = 300;
 
 /// Reads a cell, and asserts that the view is lost where the cell couldn't be marked, and only then.

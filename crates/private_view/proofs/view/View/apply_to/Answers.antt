@@ -1,28 +1,14 @@
-use Rattle.std.proofs.Common.{◌≡◌, length, sym, ap, ◌∙◌}
+use Rattle.std.proofs.Common.{Some, None, cond, sym, ap, subst, ◌∙◌}
 use Rattle.std.specs.FinMap as map
-use Rattle.meaning.specs.Stores.{known, overlay}
-use Rattle.array_store.specs.Whole.{world_of}
-use Rattle.private_view.specs.Views.{Seen}
-use Rattle.private_view.proofs.Putting.{keys_below, below_more, put_is, length-put_entries}
+use Rattle.private_view.specs.Views.{Seen, TakesAll, value_at}
+use Rattle.private_view.proofs.Looking.{written_is}
+use Rattle.private_view.proofs.Marked.{known_taken}
 use Rattle.private_view.proofs.view.View.apply_to.Goals as goal
-
-pub put_all-requires : goal.put_all-requires
-put_all-requires c =
-    let i = c.self.inside in
-    let same : length i.base.now ≡ length c.args.target.now =
-    ap (λ (t : Seen). length t.base) c.self.view_is ∙ sym c.requires in
-    below_more (length i.base.now) (length c.args.target.now) same i.values.entries (keys_below (length i.base.now) i.values.entries c.self.invariant.within)
 
 pub returns-clause-values : goal.returns-clause-values
 returns-clause-values c =
     let i = c.self.inside in
-    let same : length i.base.now ≡ length c.args.target.now =
-    ap (λ (t : Seen). length t.base) c.self.view_is ∙ sym c.requires in
-    let below = below_more (length i.base.now) (length c.args.target.now) same i.values.entries (keys_below (length i.base.now) i.values.entries c.self.invariant.within) in
-    ap (λ xs. known (world_of xs)) c.put_all.ensures.put
-    ∙ put_is i.values.entries c.args.target.now below c.put_all.ensures.ordered
-    ∙ ap (λ (t : Seen). overlay (known (world_of c.args.target.now)) (map.get t.written)) c.self.view_is
-
-pub returns-clause-len : goal.returns-clause-len
-returns-clause-len c =
-    ap length c.put_all.ensures.put ∙ length-put_entries c.self.inside.values.entries c.args.target.now
+    let f = value_at i.slots.items i.values.items in
+    let words = c.words.result.now in
+    let takes = subst (λ ss. TakesAll c.args.target.now c.put_all.new.target words (value_at ss i.values.items)) c.deref.ensures.value (subst (λ vs. TakesAll c.args.target.now c.put_all.new.target words (value_at c.deref.result.now vs)) c.deref-3.ensures.value c.put_all.ensures.takes) in
+    known_taken c.args.target.now c.put_all.new.target words f c.args.self.now.written takes (λ q. ap (λ (t : Seen). map.get t.written q) (sym c.self.view_is) ∙ written_is i.written f q ∙ ap (λ b. cond b (Some (f q)) None) (c.words.ensures.told q))

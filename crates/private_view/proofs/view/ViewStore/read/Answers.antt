@@ -4,35 +4,37 @@ use Rattle.std.proofs.lemmas.Int.{to_z-of_z}
 use Rattle.std.specs.FinSet as set
 use Rattle.std.specs.FinMap as map
 use Rattle.meaning.specs.Stores.{LeavesRead}
-use Rattle.private_view.specs.Views.{Seen, world_seen}
-use Rattle.private_view.proofs.Looking.{got_is, known_written, leaves_written, known_base, leaves_marked, leaves_lost}
+use Rattle.private_view.specs.Views.{Seen, world_seen, value_at}
+use Rattle.private_view.proofs.Looking.{has_value, has_none, known_written, leaves_written, known_base, leaves_marked, leaves_lost}
 use Rattle.private_view.proofs.view.ViewStore.read.Goals as goal
 
-pub returns-in-Some-clause-value : goal.returns-in-Some-clause-value
-returns-in-Some-clause-value c =
+pub returns-then-is_own-clause-value : goal.returns-then-is_own-clause-value
+returns-then-is_own-clause-value c =
     let s = c.args.self.now in
     let k = c.args.cell.0 in
-    let v = c.in-Some.value.now in
+    let i = c.self.inside in
+    let v = c.value_of.result in
     let f : FitsSigned w32 v = search rules in
+    let same : value_at i.slots.items i.values.items k ≡ v =
+    sym (c.value_of.ensures ∙ (λ j. value_at (c.deref.ensures.value j) (c.deref-then-is_own-2.ensures.value j) k)) in
     let is : map.get s.written k ≡ Some v =
-    ap (λ (t : Seen). map.get t.written k) (sym c.self.view_is) ∙ got_is c.self.inside.values.entries k ∙ sym c.in-Some.ensures.value in
+    has_value i.written (value_at i.slots.items i.values.items) s.written (ap (λ (t : Seen). t.written) c.self.view_is) k (sym c.has-is_own.ensures ∙ c.if-is_own.true) ∙ ap Some same in
     to_z-of_z w32 v f ∙ known_written (world_seen s) k v is
 
-pub returns-in-Some-clause-after : goal.returns-in-Some-clause-after
-returns-in-Some-clause-after c =
+pub returns-then-is_own-clause-after : goal.returns-then-is_own-clause-after
+returns-then-is_own-clause-after c =
     let s = c.args.self.now in
     let k = c.args.cell.0 in
-    let v = c.in-Some.value.now in
-    let is : map.get s.written k ≡ Some v =
-    ap (λ (t : Seen). map.get t.written k) (sym c.self.view_is) ∙ got_is c.self.inside.values.entries k ∙ sym c.in-Some.ensures.value in
-    leaves_written (world_seen s) k v is
+    let i = c.self.inside in
+    leaves_written (world_seen s) k (value_at i.slots.items i.values.items k) (has_value i.written (value_at i.slots.items i.values.items) s.written (ap (λ (t : Seen). t.written) c.self.view_is) k (sym c.has-is_own.ensures ∙ c.if-is_own.true))
 
 pub returns-in-Ok-clause-value : goal.returns-in-Ok-clause-value
 returns-in-Ok-clause-value c =
     let s = c.args.self.now in
     let k = c.args.cell.0 in
+    let i = c.self.inside in
     let none : map.get s.written k ≡ None =
-    ap (λ (t : Seen). map.get t.written k) (sym c.self.view_is) ∙ got_is c.self.inside.values.entries k ∙ sym c.in_default.ensures.value in
+    has_none i.written (value_at i.slots.items i.values.items) s.written (ap (λ (t : Seen). t.written) c.self.view_is) k (sym c.has-is_own.ensures ∙ c.if-is_own.false) in
     let x = c.read-value.result in
     let f : FitsSigned w32 x = search rules in
     let is : slice_get s.base k ≡ Some x = ap (λ (t : Seen). slice_get t.base k) (sym c.self.view_is) ∙ c.read-value.ensures in
@@ -42,8 +44,9 @@ pub returns-in-Ok-clause-after : goal.returns-in-Ok-clause-after
 returns-in-Ok-clause-after c =
     let s = c.args.self.now in
     let k = c.args.cell.0 in
+    let i = c.self.inside in
     let none : map.get s.written k ≡ None =
-    ap (λ (t : Seen). map.get t.written k) (sym c.self.view_is) ∙ got_is c.self.inside.values.entries k ∙ sym c.in_default.ensures.value in
+    has_none i.written (value_at i.slots.items i.values.items) s.written (ap (λ (t : Seen). t.written) c.self.view_is) k (sym c.has-is_own.ensures ∙ c.if-is_own.false) in
     let e = c.set.new.self in
     subst (λ (t : Seen). LeavesRead k (world_seen s) (world_seen (record t { exposed = e }))) (sym c.self.view_is) (leaves_marked s k e none (c.in-Ok.ensures.ok ∙ ap (λ (t : Seen). set.insert t.exposed k) c.self.view_is))
 
@@ -51,8 +54,9 @@ pub returns-in-Err-clause-value : goal.returns-in-Err-clause-value
 returns-in-Err-clause-value c =
     let s = c.args.self.now in
     let k = c.args.cell.0 in
+    let i = c.self.inside in
     let none : map.get s.written k ≡ None =
-    ap (λ (t : Seen). map.get t.written k) (sym c.self.view_is) ∙ got_is c.self.inside.values.entries k ∙ sym c.in_default.ensures.value in
+    has_none i.written (value_at i.slots.items i.values.items) s.written (ap (λ (t : Seen). t.written) c.self.view_is) k (sym c.has-is_own.ensures ∙ c.if-is_own.false) in
     let x = c.read-value.result in
     let f : FitsSigned w32 x = search rules in
     let is : slice_get s.base k ≡ Some x = ap (λ (t : Seen). slice_get t.base k) (sym c.self.view_is) ∙ c.read-value.ensures in
@@ -62,7 +66,8 @@ pub returns-in-Err-clause-after : goal.returns-in-Err-clause-after
 returns-in-Err-clause-after c =
     let s = c.args.self.now in
     let k = c.args.cell.0 in
+    let i = c.self.inside in
     let none : map.get s.written k ≡ None =
-    ap (λ (t : Seen). map.get t.written k) (sym c.self.view_is) ∙ got_is c.self.inside.values.entries k ∙ sym c.in_default.ensures.value in
+    has_none i.written (value_at i.slots.items i.values.items) s.written (ap (λ (t : Seen). t.written) c.self.view_is) k (sym c.has-is_own.ensures ∙ c.if-is_own.false) in
     let e = c.set.new.self in
     subst (λ (t : Seen). LeavesRead k (world_seen s) (world_seen (record t { exposed = e; lost = true }))) (sym c.self.view_is) (leaves_lost s k e none (c.in-Err.ensures.err ∙ ap (λ (t : Seen). t.exposed) c.self.view_is))
