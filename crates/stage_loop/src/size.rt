@@ -1,6 +1,7 @@
 //! How many blocks a stage has, and how many trips they have.
 
 ghost use Rattle.std.specs.Prelude.{◌≡◌, ◌-◌, ◌*◌, ◌<◌, min};
+ghost use Rattle.stage_loop.specs.Crews.{paid_by};
 
 /// How many blocks a stage has: the window, or all that are left.
 pub(crate) fn blocks_of(left: u64, block: u64, window: u32) -> u32
@@ -15,6 +16,27 @@ pub(crate) fn blocks_of(left: u64, block: u64, window: u32) -> u32
         return whole as u32 + 1;
     }
     window
+}
+
+/// How many workers a stage has: no more than blocks, and where a stage went before, as many as the turns that it committed pay for,
+/// since to start a thread costs what some 2,000 turns do. The calling thread is one of them.
+pub(crate) fn workers_of(most: u32, blocks: u32, committed: Option<u64>) -> u32
+    requires most { 0 < most }
+    requires blocks { 0 < blocks }
+    ensures { result ≡ paid_by committed (min most blocks) }
+{
+    let all = most.min(blocks);
+    match committed {
+        Some(turns) => {
+            let paid = turns / 2048 + 1;
+            if paid < u64::from(all) {
+                paid as u32
+            } else {
+                all
+            }
+        }
+        None => all,
+    }
 }
 
 /// How many trips some first blocks have.

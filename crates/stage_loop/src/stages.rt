@@ -11,7 +11,7 @@ ghost use Rattle.stage_loop.specs.Loops.{AreIntegers, IsQuietLoop, LeavesIn};
 
 use crate::copies::{brought_along, copy_of};
 use crate::course::{Course, behind};
-use crate::size::{blocks_of, trips_in};
+use crate::size::{blocks_of, trips_in, workers_of};
 use array_store::Whole;
 use block_stage::{Gate, Job, Posted, cut, run_stage};
 use evaluator::run_trips;
@@ -32,12 +32,14 @@ struct Stage {
     changed: Option<Vec<usize>>,
 }
 
-// How far the loop came: how many trips more, how the last one ended, and a copy of the cells, if there is one.
+// How far the loop came: how many trips more, how the last one ended, a copy of the cells, if there is one, and the turns that were
+// committed, where it was a stage.
 #[derive(Drop)]
 struct Advance {
     done: u64,
     outcome: Outcome,
     copy: Option<Whole>,
+    committed: Option<u64>,
 }
 
 // The cells that the first so many blocks wrote; none where a growth was refused.
@@ -99,6 +101,7 @@ fn run_blocks<R: Threads + Wait + Sync, G: Gate + Sync>(
     repeated: &Loop,
     course: Course,
     plan: &Plan,
+    committed: Option<u64>,
     copy: &Whole,
     cells: &mut Whole,
     turns: &mut u64,
@@ -133,7 +136,7 @@ fn run_blocks<R: Threads + Wait + Sync, G: Gate + Sync>(
         blocks,
         *turns,
     );
-    let workers = (plan.workers() as u32).min(blocks);
+    let workers = workers_of(plan.workers() as u32, blocks, committed);
     let posted = match run_stage(rt, alloc, &job, workers, gate) {
         Some(posted) => posted,
         None => return None,
@@ -182,6 +185,7 @@ fn run_in_order(
                 done,
                 outcome: run.outcome,
                 copy: None,
+                committed: None,
             }
         }
         // A whole store refuses no write.
@@ -189,6 +193,7 @@ fn run_in_order(
             done,
             outcome: Outcome::Normal,
             copy: None,
+            committed: None,
         },
     }
 }
@@ -201,6 +206,7 @@ fn run_next<R: Threads + Wait + Sync, G: Gate + Sync>(
     repeated: &Loop,
     course: Course,
     plan: &Plan,
+    committed: Option<u64>,
     copy: Option<Whole>,
     cells: &mut Whole,
     turns: &mut u64,
@@ -225,7 +231,7 @@ fn run_next<R: Threads + Wait + Sync, G: Gate + Sync>(
         None => return run_in_order(program, repeated, course, plan, cells, turns),
     };
     match run_blocks(
-        rt, alloc, program, repeated, course, plan, &copy, cells, turns, gate,
+        rt, alloc, program, repeated, course, plan, committed, &copy, cells, turns, gate,
     ) {
         Some(stage) => {
             let Stage { done, run, changed } = stage;
@@ -234,6 +240,7 @@ fn run_next<R: Threads + Wait + Sync, G: Gate + Sync>(
                 done,
                 outcome: run.outcome,
                 copy,
+                committed: Some(run.turns_used),
             }
         }
         None => {
@@ -267,14 +274,16 @@ pub(crate) fn run_stages<R: Threads + Wait + Sync, G: Gate + Sync>(
     ensures len { length cells.new ≡ length cells.old }
 {
     let mut copy = None;
+    let mut last = None;
     let mut rest = course;
     while rest.trips > 0 {
         let Advance {
             done,
             outcome,
             copy: next,
+            committed,
         } = run_next(
-            rt, alloc, program, repeated, rest, plan, copy, cells, turns, gate,
+            rt, alloc, program, repeated, rest, plan, last, copy, cells, turns, gate,
         );
         match outcome {
             Outcome::Normal => {}
@@ -284,6 +293,7 @@ pub(crate) fn run_stages<R: Threads + Wait + Sync, G: Gate + Sync>(
         }
         rest = behind(rest, done);
         copy = next;
+        last = committed;
     }
     Outcome::Normal
 }
