@@ -4,5 +4,4 @@ pub mod CellsOf
 pub mod Starting
 pub mod Ruled
 pub mod Building
-pub mod Found
 pub mod Agreeing

@@ -8,6 +8,8 @@ use Rattle.roles.specs.TypedNames.{implicit_parts, letter_type}
 use Rattle.k_rules.specs.declared.verdict.Facts.{Facts}
 use Rattle.k_rules.specs.Judged.{arrays_in, constant_in, starts_in}
 use Rattle.data_rules.specs.DataSets.{given_by}
+use Rattle.statement_rules.specs.declared.reading.Formats.{Formats}
+use Rattle.statement_rules.specs.FormatsFound.{HoldsFormats}
 use Rattle.meaning.specs.Initial.{starts_from}
 use Rattle.meaning.specs.Types.{has_implicit_none}
 use Rattle.meaning.specs.Rules.{checked}
@@ -40,9 +42,9 @@ pub record AreNames (f : Facts) (r : Roles) (k : Names) : Type 0 where
   pub started : AreStarted f r (variables_at r) k.entries k.starts
   pub letters : (c : ℕ) → c < 256 → slice_get k.letters.items c ≡ Some (letter_type (has_implicit_none (trees_at r.items.now)) (implicit_parts (trees_at r.items.now)) c)
 
--- a tree with what is kept beside it
-abbrev pub parts_by : Tree → Kept → Parts
-parts_by t k = record {
+-- a tree with its formats and what is kept beside it
+abbrev pub parts_by : Tree → Formats → Kept → Parts
+parts_by t f k = record {
   tree = t;
   entries = k.names.entries;
   letters = k.names.letters;
@@ -50,8 +52,8 @@ parts_by t k = record {
   function_count = k.function_count;
   no_dummies = k.no_dummies;
   starts = k.names.starts;
-  formats = k.formats.by_label;
-  texts = k.formats.texts;
+  formats = f.by_label;
+  texts = f.texts;
   landmarks = k.landmarks;
 }
 
@@ -61,3 +63,4 @@ pub record IsJudged (t : Tree) (f : Facts) : Type 0 where
   pub constants : (n : List ℕ) → constant_in f n ≡ (names_in t).known n
   pub arrays : (n : List ℕ) → arrays_in f n ≡ (names_in t).arrays n
   pub starts : starts_in f ≡ given_by (roles_of (items_in t)).names (starts_from (roles_of (items_in t)) [] (items_in t))
+  pub formats : HoldsFormats (items_in t) f.formats

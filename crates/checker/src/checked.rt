@@ -5,11 +5,11 @@ ghost use Rattle.meaning.specs.Reports.{Gives};
 ghost use Rattle.meaning.specs.Rules.{checked};
 ghost use Rattle.meaning.specs.Trees.{nested};
 
-use crate::formats::Formats;
 use crate::rules::{Kept, Names, kept_of};
 use meaning::refusal::Refusal;
 use meaning::syntax::Tree;
 use numbering::{Parts, Program};
+use statement_rules::Formats;
 use std::alloc::Global;
 
 /// Checks a program unit by the rules on labels, names, constants, arrays, DO variables, units, formats, DATA and statement
@@ -21,16 +21,14 @@ pub fn check(alloc: Global, tree: Tree) -> Result<Program, Refusal>
     ensures tree { IfOk result (λ p. p ≡ tree) }
 {
     match kept_of(alloc, &tree) {
-        Ok(
-            Kept {
+        Ok((kept, formats)) => {
+            let Kept {
                 names,
                 functions,
                 function_count,
                 no_dummies,
-                formats,
                 landmarks,
-            },
-        ) => {
+            } = kept;
             let Names {
                 entries,
                 letters,

@@ -1,6 +1,6 @@
 //! What is kept of names (ANSI X3.9-1978, 2.12, 4.1.2, 5.4 and 8.6).
 
-ghost use Rattle.std.specs.Prelude.{◌≡◌, ◌+◌, ◌*◌, ◌∷◌, [], map, IfOk, OnOk};
+ghost use Rattle.std.specs.Prelude.{◌≡◌, ◌≤◌, ◌+◌, ◌*◌, ◌∷◌, [], length, map, IfOk, IsOk, OnOk};
 ghost use Rattle.meaning.specs.Arrays.{cells_of, size};
 ghost use Rattle.meaning.specs.Scopes.{constants_in};
 ghost use Rattle.meaning.specs.Syntax.{constant_tree, shape_tree};
@@ -9,7 +9,7 @@ ghost use Rattle.roles.specs.NameSets.{texts};
 ghost use Rattle.k_rules.specs.Judged.{constant_in};
 ghost use Rattle.checker.specs.Entries.{AddsOne, AddsCells, AreSaid, AreStored, Tells, given_in, cells_at, declared, defined, dimensions_at, given, named_by, said};
 
-use expressions::Dimension;
+use expressions::{Dimension, Dimensions};
 use indexmap::IndexMap;
 use k_rules::Facts;
 use meaning::ending::Value;
@@ -28,13 +28,15 @@ fn constant_named(facts: &Facts, name: &[u8]) -> Option<Value>
     }
 }
 
-/// The dimensions of a name, none where it is no array's.
-fn dimensions_named(alloc: Global, facts: &Facts, name: &[u8]) -> Result<Vec<Dimension>, AllocError>
-    ensures { IfOk result (λ v. map dimension v.items ≡ dimensions_at facts.now name.now) }
+/// The dimensions of a name, none where it is no array's. The `AllocError` comes where they are more than seven, and a growth was
+/// refused.
+fn dimensions_named(alloc: Global, facts: &Facts, name: &[u8]) -> Result<Dimensions, AllocError>
+    ensures are { IfOk result (λ v. map dimension v.items ≡ dimensions_at facts.now name.now) }
+    ensures inline { length (dimensions_at facts.now name.now) ≤ 7 → IsOk result }
 {
     match facts.arrays.get(name) {
-        Some(dimensions) => Vec::from_slice(alloc, dimensions),
-        None => Ok(Vec::new(alloc)),
+        Some(dimensions) => Dimensions::from_slice(alloc, dimensions),
+        None => Ok(Dimensions::new(alloc)),
     }
 }
 

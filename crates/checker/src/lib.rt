@@ -3,7 +3,6 @@
 
 mod checked;
 mod entries;
-mod formats;
 mod rules;
 mod starts;
 

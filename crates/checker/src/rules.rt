@@ -11,7 +11,6 @@ ghost use Rattle.checker.specs.Built.{AreNames, AreStarted, IsJudged, parts_by};
 ghost use Rattle.numbering.specs.Checked.{items_in};
 
 use crate::entries::{Storing, entries_of};
-use crate::formats::{Formats, formats_of};
 use crate::starts::starts_of;
 use indexmap::IndexMap;
 use k_rules::{Facts, judge};
@@ -20,6 +19,7 @@ use meaning::refusal::Refusal;
 use meaning::syntax::{DataType, Exprs, Tree};
 use numbering::{Entry, FunctionAt, functions_in, variables_in_order};
 use roles::{Roles, items_of, letter_types_of};
+use statement_rules::Formats;
 use std::alloc::{AllocError, Global};
 
 /// What is kept of names.
@@ -30,14 +30,13 @@ pub(crate) struct Names {
     pub starts: Vec<i32>,
 }
 
-/// What is kept of a program unit beside its statements.
+/// What is kept of a program unit beside its statements and formats.
 #[derive(Drop)]
 pub(crate) struct Kept {
     pub names: Names,
     pub functions: IndexMap<Vec<u8>, FunctionAt>,
     pub function_count: usize,
     pub no_dummies: Exprs,
-    pub formats: Formats,
     pub landmarks: Landmarks,
 }
 
@@ -78,29 +77,20 @@ fn names_of(alloc: Global, roles: &Roles, facts: &Facts) -> Result<Names, AllocE
 fn kept_in(alloc: Global, tree: &Tree, facts: &Facts, roles: &Roles) -> Result<Kept, AllocError>
     requires judged { IsJudged tree.now facts.now }
     requires listed { trees_at roles.now.items.now ≡ items_in tree.now }
-    ensures { IfOk result (λ k. IsNumbered (parts_by tree.now k)) }
+    ensures { IfOk result (λ k. IsNumbered (parts_by tree.now facts.now.formats k)) }
 {
     let landmarks = Landmarks::new(alloc, &tree.body)?;
     let names = names_of(alloc, roles, facts)?;
-    let functions = match functions_in(alloc, roles, &tree.body) {
-        Ok(functions) => functions,
-        Err(AllocError) => {
-            drop(names);
-            return Err(AllocError);
-        }
-    };
-    match formats_of(alloc, roles.items) {
-        Ok(formats) => Ok(Kept {
+    match functions_in(alloc, roles, &tree.body) {
+        Ok(functions) => Ok(Kept {
             names,
             functions,
             function_count: roles.functions.len(),
             no_dummies: Exprs::Empty,
-            formats,
             landmarks,
         }),
         Err(AllocError) => {
             drop(names);
-            drop(functions);
             Err(AllocError)
         }
     }
@@ -109,7 +99,7 @@ fn kept_in(alloc: Global, tree: &Tree, facts: &Facts, roles: &Roles) -> Result<K
 /// What is kept of a program unit that breaks no rule.
 fn kept_by(alloc: Global, tree: &Tree, facts: &Facts) -> Result<Kept, AllocError>
     requires { IsJudged tree.now facts.now }
-    ensures { IfOk result (λ k. IsNumbered (parts_by tree.now k)) }
+    ensures { IfOk result (λ k. IsNumbered (parts_by tree.now facts.now.formats k)) }
 {
     let items = items_of(alloc, tree)?;
     let roles = Roles::new(alloc, items.as_slice())?;
@@ -118,16 +108,18 @@ fn kept_by(alloc: Global, tree: &Tree, facts: &Facts) -> Result<Kept, AllocError
     kept
 }
 
-/// What is kept of a program unit, or the least broken rule of the least line. `Memory` where a growth was refused.
-pub(crate) fn kept_of(alloc: Global, tree: &Tree) -> Result<Kept, Refusal>
+/// What is kept of a program unit, with its formats, or the least broken rule of the least line. `Memory` where a growth was
+/// refused.
+pub(crate) fn kept_of(alloc: Global, tree: &Tree) -> Result<(Kept, Formats), Refusal>
     ensures exact { Gives (λ _. nested tree.now) result (checked (nested tree.now)) }
-    ensures numbered { IfOk result (λ k. IsNumbered (parts_by tree.now k)) }
+    ensures numbered { IfOk result (λ k. IsNumbered (parts_by tree.now k.1 k.0)) }
 {
     let facts = judge(alloc, tree)?;
-    let kept = kept_by(alloc, tree, &facts);
-    drop(facts);
-    match kept {
-        Ok(kept) => Ok(kept),
-        Err(AllocError) => Err(Refusal::Memory),
+    match kept_by(alloc, tree, &facts) {
+        Ok(kept) => Ok((kept, facts.into_formats())),
+        Err(AllocError) => {
+            drop(facts);
+            Err(Refusal::Memory)
+        }
     }
 }

@@ -7,5 +7,6 @@ mod functions;
 mod items;
 mod program;
 mod statement;
+mod stopping;
 
 pub use program::coded;

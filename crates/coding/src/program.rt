@@ -3,7 +3,7 @@
 ghost use Rattle.std.specs.Prelude.{◌≡◌, IfOk};
 ghost use Rattle.roles.specs.Listed.{trees_at};
 ghost use Rattle.numbering.specs.Checked.{items_in};
-ghost use Rattle.programs.specs.Kept.{AreFunctions, AreKept};
+ghost use Rattle.programs.specs.Kept.{AreFunctions, AreKept, HasNoOther};
 
 use crate::functions::functions_of;
 use crate::statement::action_of;
@@ -17,7 +17,8 @@ use std::alloc::{AllocError, Global};
 
 // What statements need.
 fn actions_of(alloc: Global, items: &[&Item], program: &Program) -> Result<Actions, NoCode>
-    ensures { IfOk result (λ a. AreKept program.now a (trees_at items.now)) }
+    ensures kept { IfOk result (λ a. AreKept program.now a (trees_at items.now)) }
+    ensures others { IfOk result (λ a. HasNoOther a (trees_at items.now)) }
 {
     let mut actions = Actions::new(alloc);
     for item in items {
@@ -49,6 +50,7 @@ struct Kept {
 // What its statements need, and the codes of its statement functions.
 fn kept_of(alloc: Global, program: &Program) -> Result<Kept, NoCode>
     ensures actions { IfOk result (λ k. AreKept program.now k.actions (items_in program.now)) }
+    ensures others { IfOk result (λ k. HasNoOther k.actions (items_in program.now)) }
     ensures functions { IfOk result (λ k. AreFunctions program.now k.functions.items) }
 {
     let items = items_of(alloc, program.tree())?;

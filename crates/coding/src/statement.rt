@@ -11,6 +11,7 @@ ghost use Rattle.programs.specs.Codes.{IsTarget};
 
 use crate::codes::{cell_of, code_in, repeat_in};
 use crate::items::list_code;
+use crate::stopping::stop_action;
 use compiler::{NoCode, Scene, place_of};
 use expressions::{Cells, Numbering};
 use meaning::number::number;
@@ -256,7 +257,7 @@ fn simple_action(alloc: Global, shape: &Shape, program: &Program) -> Result<Acti
         Shape::Continue => Ok(Action::Continue),
         Shape::EndDo => Ok(Action::Continue),
         Shape::DoWhile { condition, .. } => while_action(alloc, condition, program),
-        Shape::Stop(_) => Ok(Action::Stop),
+        Shape::Stop(text) => stop_action(alloc, text),
         Shape::Write { control: _, list } => output_action(alloc, list, program),
         Shape::Print { format: _, list } => output_action(alloc, list, program),
         Shape::IfThen(condition) => test_action(alloc, condition, program),

@@ -15,3 +15,4 @@ mod RulyExamples
 pub mod Asked
 pub mod Kept
 pub mod Kinded
+pub mod Small

@@ -4,3 +4,4 @@ pub mod Functions
 pub mod Ruly
 pub mod Within
 pub mod Kinds
+pub mod Small

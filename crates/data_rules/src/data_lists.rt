@@ -11,7 +11,7 @@ ghost use Rattle.data_rules.specs.DataTargets.{FillsItem, FillsItems, Repeats};
 use crate::giving::{Giving, give_value};
 use crate::trips::{Trips, next_trip, trips_of, value_of_trip};
 use declarations::{enter_name, leave_name};
-use expressions::Dimension;
+use expressions::Dimensions;
 use indexmap::IndexMap;
 use meaning::ending::Value;
 use meaning::syntax::{DataType, ListItem, ListItems};
@@ -34,7 +34,7 @@ pub fn is_counter(roles: &Roles, name: &[u8]) -> bool
 fn give_trips<'a>(
     giving: &mut Giving<'a>,
     alloc: Global,
-    arrays: &IndexMap<Vec<u8>, Vec<Dimension>>,
+    arrays: &IndexMap<Vec<u8>, Dimensions>,
     items: &'a ListItems,
     variable: &'a [u8],
     trips: Trips,
@@ -62,7 +62,7 @@ fn give_trips<'a>(
 fn give_item<'a>(
     giving: &mut Giving<'a>,
     alloc: Global,
-    arrays: &IndexMap<Vec<u8>, Vec<Dimension>>,
+    arrays: &IndexMap<Vec<u8>, Dimensions>,
     item: &'a ListItem,
 ) -> Result<bool, AllocError>
     requires { AreArrays (roles_in giving.old) arrays.now }
@@ -92,7 +92,7 @@ fn give_item<'a>(
 pub fn give_items<'a>(
     giving: &mut Giving<'a>,
     alloc: Global,
-    arrays: &IndexMap<Vec<u8>, Vec<Dimension>>,
+    arrays: &IndexMap<Vec<u8>, Dimensions>,
     items: &'a ListItems,
 ) -> Result<bool, AllocError>
     requires { AreArrays (roles_in giving.old) arrays.now }

@@ -11,7 +11,7 @@ use crate::data_values::Values;
 use crate::elements::place_in;
 use crate::filling::{Filling, give_places};
 use declarations::Scope;
-use expressions::Dimension;
+use expressions::{Dimension, Dimensions};
 use indexmap::IndexMap;
 use meaning::syntax::{Expr, Exprs};
 use roles::is_other_name;
@@ -45,7 +45,7 @@ fn size_of(dimensions: &[Dimension]) -> Result<u64, AllocError>
 fn give_name(
     giving: &mut Giving,
     alloc: Global,
-    arrays: &IndexMap<Vec<u8>, Vec<Dimension>>,
+    arrays: &IndexMap<Vec<u8>, Dimensions>,
     name: &[u8],
 ) -> Result<bool, AllocError>
     requires { AreArrays (roles_in giving.old) arrays.now }
@@ -88,7 +88,7 @@ fn give_name(
 fn give_element(
     giving: &mut Giving,
     alloc: Global,
-    arrays: &IndexMap<Vec<u8>, Vec<Dimension>>,
+    arrays: &IndexMap<Vec<u8>, Dimensions>,
     name: &[u8],
     subscripts: &Exprs,
 ) -> Result<bool, AllocError>
@@ -121,7 +121,7 @@ fn give_element(
 pub fn give_value(
     giving: &mut Giving,
     alloc: Global,
-    arrays: &IndexMap<Vec<u8>, Vec<Dimension>>,
+    arrays: &IndexMap<Vec<u8>, Dimensions>,
     expression: &Expr,
 ) -> Result<bool, AllocError>
     requires { AreArrays (roles_in giving.old) arrays.now }

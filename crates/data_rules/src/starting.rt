@@ -17,7 +17,7 @@ use crate::data_values::{is_used_up, values_in};
 use crate::filling::Filling;
 use crate::giving::Giving;
 use declarations::{Table, pass_constants, scope_of, table_of};
-use expressions::Dimension;
+use expressions::Dimensions;
 use indexmap::IndexMap;
 use meaning::refusal::{Broken, Rule};
 use meaning::syntax::{DataSet, Item, ListItems, Shape};
@@ -28,7 +28,7 @@ use std::alloc::{AllocError, Global};
 fn give_list<'a>(
     giving: &mut Giving<'a>,
     alloc: Global,
-    arrays: &IndexMap<Vec<u8>, Vec<Dimension>>,
+    arrays: &IndexMap<Vec<u8>, Dimensions>,
     list: &'a ListItems,
 ) -> Result<bool, AllocError>
     requires { AreArrays (roles_in giving.old) arrays.now }
@@ -46,7 +46,7 @@ fn give_set<'a>(
     filling: Filling,
     alloc: Global,
     table: &'a Table<'a>,
-    arrays: &IndexMap<Vec<u8>, Vec<Dimension>>,
+    arrays: &IndexMap<Vec<u8>, Dimensions>,
     set: &'a DataSet,
 ) -> Result<Option<Filling>, AllocError>
     requires { AreArrays (roles_at table.now.roles.now) arrays.now }
@@ -84,7 +84,7 @@ fn give_sets<'a>(
     filling: Filling,
     alloc: Global,
     table: &'a Table<'a>,
-    arrays: &IndexMap<Vec<u8>, Vec<Dimension>>,
+    arrays: &IndexMap<Vec<u8>, Dimensions>,
     sets: &'a [DataSet],
 ) -> Result<Option<Filling>, AllocError>
     requires { AreArrays (roles_at table.now.roles.now) arrays.now }
@@ -138,7 +138,7 @@ fn pass_data<'a>(
     passed: Passed,
     alloc: Global,
     table: &'a Table<'a>,
-    arrays: &IndexMap<Vec<u8>, Vec<Dimension>>,
+    arrays: &IndexMap<Vec<u8>, Dimensions>,
     item: &'a Item,
 ) -> Result<Passed, AllocError>
     requires { AreArrays (roles_at table.now.roles.now) arrays.now }
@@ -177,7 +177,7 @@ fn pass_data<'a>(
 pub fn given_by_data(
     alloc: Global,
     roles: &Roles,
-    arrays: &IndexMap<Vec<u8>, Vec<Dimension>>,
+    arrays: &IndexMap<Vec<u8>, Dimensions>,
     items: &[&Item],
     others: Option<Broken>,
 ) -> Result<Passed, AllocError>

@@ -10,6 +10,7 @@ use Rattle.std.proofs.lemmas.Bool.{le-ltb, lt-ltb}
 use Rattle.std.proofs.lemmas.List.{length-map}
 use Rattle.std.proofs.lemmas.Slice.Eq.{bytes_eq-Decides}
 use Rattle.indexmap.specs.IndexMap.{IndexMap, insert_entry}
+use Rattle.smallvec.specs.SmallVec.{SmallVec}
 use Rattle.meaning.specs.declared.syntax.Declarator.{Declarator}
 use Rattle.meaning.specs.declared.syntax.Item.{Item}
 use Rattle.meaning.specs.Arrays as arrays
@@ -60,7 +61,7 @@ module _ (types : Types) (known : Known) where
 
 -- ---- a map from names to dimensions
 
-kept_or : (o : Option (Vec Dimension)) (b c : Bool) (v : Vec Dimension) (ds : List arrays.Dimension) → dimensions_of v ≡ ds → c ≡ true → option_map dimensions_of (option_or o (if b then Some v else None)) ≡ or_dimensions (option_map dimensions_of o) (if b && c then Some ds else None)
+kept_or : (o : Option (SmallVec Dimension)) (b c : Bool) (v : SmallVec Dimension) (ds : List arrays.Dimension) → dimensions_of v ≡ ds → c ≡ true → option_map dimensions_of (option_or o (if b then Some v else None)) ≡ or_dimensions (option_map dimensions_of o) (if b && c then Some ds else None)
 kept_or (Some x) b c v ds is e = refl
 kept_or None true true v ds is e = ap Some is
 kept_or None true false v ds is e = absurd cc
@@ -70,7 +71,7 @@ and_false : (c : Bool) → (c && false) ≡ false
 and_false true = refl
 and_false false = refl
 
-module _ {S : Type 0} (types : Types) (known : Known) (m : IndexMap (Vec ℕ) (Vec Dimension) S) (d : Declarator) (number : ℕ) (n : List ℕ) (many : number ≡ length d.bounds.items) where
+module _ {S : Type 0} (types : Types) (known : Known) (m : IndexMap (Vec ℕ) (SmallVec Dimension) S) (d : Declarator) (number : ℕ) (n : List ℕ) (many : number ≡ length d.bounds.items) where
   abbrev pub tree : DeclaratorTree
   tree = declarator_tree d
 
@@ -84,14 +85,14 @@ module _ {S : Type 0} (types : Types) (known : Known) (m : IndexMap (Vec ℕ) (V
       ∙ ap (λ b. or_dimensions (arrays_kept m n) (if b then Some (map (dimension_of types known) tree.bounds) else None)) (sym (and_false (bytes_eq n tree.name)) ∙ ap (λ c. bytes_eq n tree.name && c) (sym (ap (nat_lt 0) bounds_length ∙ le-ltb 0 number none)))
 
   -- a new name goes last
-  pub kept_first : (new : IndexMap (Vec ℕ) (Vec Dimension) S) (own : Vec ℕ) (v : Vec Dimension) → own.items ≡ tree.name → is_some (kept_at m tree.name) ≡ false → 0 < number → dimensions_of v ≡ map (dimension_of types known) tree.bounds → new.entries ≡ insert_entry (λ a b. bytes_eq a.items b.items) m.entries own v → arrays_kept new n ≡ or_dimensions (arrays_kept m n) (given types known tree n)
+  pub kept_first : (new : IndexMap (Vec ℕ) (SmallVec Dimension) S) (own : Vec ℕ) (v : SmallVec Dimension) → own.items ≡ tree.name → is_some (kept_at m tree.name) ≡ false → 0 < number → dimensions_of v ≡ map (dimension_of types known) tree.bounds → new.entries ≡ insert_entry (λ a b. bytes_eq a.items b.items) m.entries own v → arrays_kept new n ≡ or_dimensions (arrays_kept m n) (given types known tree n)
   kept_first new own v same unknown some is added =
       ap (option_map dimensions_of) (kept_new m new own tree.name v n same unknown added)
       ∙ kept_or (kept_at m n) (bytes_eq n tree.name) (nat_lt 0 (length tree.bounds)) v (map (dimension_of types known) tree.bounds) is (ap (nat_lt 0) bounds_length ∙ lt-ltb 0 number some)
 
 -- a name that is there keeps what it has
-module _ {S : Type 0} (types : Types) (known : Known) (m : IndexMap (Vec ℕ) (Vec Dimension) S) (d : DeclaratorTree) (n : List ℕ) where
-  some_mapped : (o : Option (Vec Dimension)) → is_some (option_map dimensions_of o) ≡ is_some o
+module _ {S : Type 0} (types : Types) (known : Known) (m : IndexMap (Vec ℕ) (SmallVec Dimension) S) (d : DeclaratorTree) (n : List ℕ) where
+  some_mapped : (o : Option (SmallVec Dimension)) → is_some (option_map dimensions_of o) ≡ is_some o
   some_mapped None = refl
   some_mapped (Some v) = refl
 

@@ -1,6 +1,6 @@
 //! The arrays of a program unit with their bounds (ANSI X3.9-1978, 5.1).
 
-ghost use Rattle.std.specs.Prelude.{◌≡◌, ◌∷◌, [], map, IfOk, OnOk};
+ghost use Rattle.std.specs.Prelude.{◌≡◌, ◌≤◌, ◌∷◌, [], length, map, IfOk, IsOk, OnOk};
 ghost use Rattle.expressions.specs.Dimensions.{dimension};
 ghost use Rattle.declarations.specs.ArraysKept.{AreArrays, AreConstants, GainsDeclared};
 ghost use Rattle.declarations.specs.Dimensioned.{bound_at, dimension_at, dimensions_at};
@@ -8,7 +8,7 @@ ghost use Rattle.declarations.specs.Tables.{known_at};
 ghost use Rattle.roles.specs.RolesAt.{roles_at};
 
 use crate::known::{Table, pass_constants, table_of, value_of};
-use expressions::{Dimension, as_integer};
+use expressions::{Dimension, Dimensions, as_integer};
 use indexmap::IndexMap;
 use meaning::syntax::{Bounds, Declarator, Expr};
 use roles::{Roles, declarators_in};
@@ -38,15 +38,12 @@ pub fn dimension_of(table: &Table, bounds: &Bounds) -> Dimension
     }
 }
 
-/// The dimensions that several bounds give.
-fn dimensions_by(
-    alloc: Global,
-    table: &Table,
-    bounds: &[Bounds],
-) -> Result<Vec<Dimension>, AllocError>
-    ensures { IfOk result (λ v. map dimension v.items ≡ dimensions_at table.now bounds.now) }
+/// The dimensions that several bounds give. The `AllocError` comes where they are more than seven, and a growth was refused.
+fn dimensions_by(alloc: Global, table: &Table, bounds: &[Bounds]) -> Result<Dimensions, AllocError>
+    ensures are { IfOk result (λ v. map dimension v.items ≡ dimensions_at table.now bounds.now) }
+    ensures inline { length bounds.now ≤ 7 → IsOk result }
 {
-    let mut found = Vec::new(alloc);
+    let mut found = Dimensions::new(alloc);
     for one in bounds {
         found.push(dimension_of(table, one))?;
     }
@@ -55,7 +52,7 @@ fn dimensions_by(
 
 /// Keeps the dimensions of a declarator, if it is the first that gives its name bounds.
 fn add_array(
-    arrays: &mut IndexMap<Vec<u8>, Vec<Dimension>>,
+    arrays: &mut IndexMap<Vec<u8>, Dimensions>,
     alloc: Global,
     table: &Table,
     declarator: &Declarator,
@@ -73,7 +70,7 @@ fn add_array(
 
 /// Keeps the dimensions of declarators that are the first to give their names bounds.
 fn add_arrays(
-    arrays: &mut IndexMap<Vec<u8>, Vec<Dimension>>,
+    arrays: &mut IndexMap<Vec<u8>, Dimensions>,
     alloc: Global,
     table: &Table,
     declarators: &[Declarator],
@@ -92,7 +89,7 @@ pub struct Declared<'a> {
     /// The constants behind all statements.
     pub table: Table<'a>,
     /// The arrays with their dimensions.
-    pub arrays: IndexMap<Vec<u8>, Vec<Dimension>>,
+    pub arrays: IndexMap<Vec<u8>, Dimensions>,
 }
 
 /// The constants and the arrays that the statements of a unit define (ANSI X3.9-1978, 5.1 and 8.6). The `AllocError` comes where a

@@ -3,6 +3,7 @@
 //! doesn't.
 #![tactic(auto)]
 
+mod lines;
 mod running;
 
 pub use running::engine;

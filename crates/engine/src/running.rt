@@ -2,18 +2,21 @@
 
 ghost use Rattle.std.specs.Prelude.{◌≡◌, ◌⊎◌, IfOk, IfSome};
 ghost use Rattle.engine.specs.declared.running.NoRun.TheVariants.{Memory};
+ghost use Rattle.engine.specs.Lines.{IsTold, line_of_none, lines_of};
 ghost use Rattle.engine.specs.Source.{AnswersAs};
 ghost use Rattle.engine.specs.Status.{IsStatusOf, status_of, no_run_for};
 
+use crate::lines::{Texts, put, tell_ending, tell_turns};
 use command_line::asked::OptionsFault;
 use command_line::help::{HELP, VERSION};
 use command_line::options::options;
 use executor::run::run;
-use executor::{Open, Out};
+use executor::{Open, Out, Sink};
 use meaning::ending::{Ending, Report};
 use meaning::plan::Plan;
 use std::alloc::{AllocError, AllocFailed, Global};
 use std::env::Env;
+use std::fmt::Write as _;
 use std::io::{ErrorKind, Read, Write};
 use std::rt::Files;
 use std::sync::Wait;
@@ -90,10 +93,13 @@ pub fn engine<
     O: Write + Drop,
     E: Write,
 >(rt: &R, words: &V, input: &mut I, out: O, err: &mut E) -> u8 {
-    match job_asked(rt, words, input) {
-        Ok(job) => tell(run_whole(rt, &job, out), job.count, err),
-        Err(no_run) => tell_no_run(no_run, out, err),
-    }
+    let mut lines = Out::new(err);
+    let status = match job_asked(rt, words, input) {
+        Ok(job) => tell(run_whole(rt, &job, out), job.count, &mut lines),
+        Err(no_run) => tell_no_run(no_run, out, &mut lines),
+    };
+    let _ = lines.into_inner();
+    status
 }
 
 // What a command line names.
@@ -214,76 +220,43 @@ fn run_whole<R: AllocGlobal + Threads + Wait + Sync, O: Write + Drop>(
 
 // Writes what is told of a run, its turns where they are asked for and there are any, and answers the exit status. A line that
 // can't be written changes nothing.
-fn tell<E: Write>(report: Report, count: bool, err: &mut E) -> u8
-    ensures { result ≡ status_of report.ending }
+#[tactic(auto, using(crate::proofs::Told::told_then))]
+fn tell<S: Sink>(report: Report, count: bool, err: &mut S) -> u8
+    ensures status { result ≡ status_of report.ending }
+    ensures lines { IsTold (lines_of count report) (S.told err.old) (S.told err.new) }
 {
     let Report { ending, turns } = report;
     let status = tell_ending(ending, err);
-    if count {
-        if let Some(turns) = turns {
-            let _ = writeln!(err, "TURNS {turns}");
-        }
-    }
+    tell_turns(count, turns, err);
     status
 }
 
-// Writes the line of an ending, if it has one, and answers the exit status. A line that can't be written changes
-// nothing.
-fn tell_ending<E: Write>(ending: Ending, err: &mut E) -> u8
-    ensures { result ≡ status_of ending }
-{
-    match ending {
-        Ending::Ended => 0,
-        Ending::Stopped(message) => {
-            let _ = write_stop(message.text(), err);
-            0
-        }
-        Ending::Fault(fault) => {
-            let _ = writeln!(err, "FAULT {} LINE {}", fault.kind, fault.line);
-            1
-        }
-        Ending::Refused(rule, line) => {
-            let _ = writeln!(err, "REFUSED {rule} LINE {line}");
-            2
-        }
-        Ending::Memory => {
-            let _ = writeln!(err, "NO MEMORY");
-            4
-        }
-        Ending::WriteRefused => {
-            let _ = writeln!(err, "WRITE REFUSED");
-            5
-        }
-    }
-}
-
-// Writes the line of a STOP statement: STOP, and what it tells if that isn't empty.
-fn write_stop<E: Write>(message: &[u8], err: &mut E) -> io::Result<()> {
-    err.write_all(b"STOP")?;
-    if !message.is_empty() {
-        err.write_all(b" ")?;
-        err.write_all(message)?;
-    }
-    err.write_all(b"\n")
-}
-
 // Writes why no source is run, or the text that is asked for, and answers the exit status.
-fn tell_no_run<O: Write + Drop, E: Write>(no_run: NoRun, out: O, err: &mut E) -> u8
-    ensures { IsStatusOf no_run result }
+#[tactic(auto, using(crate::proofs::Told::told_text))]
+fn tell_no_run<O: Write + Drop, S: Sink>(no_run: NoRun, out: O, err: &mut S) -> u8
+    ensures status { IsStatusOf no_run result }
+    ensures line { IfSome (line_of_none no_run result)
+        (λ line. IsTold line (S.told err.old) (S.told err.new)) }
 {
     match no_run {
         NoRun::Help => tell_ending(show(HELP, out), err),
         NoRun::Version => tell_ending(show(VERSION, out), err),
         NoRun::Faulty(fault) => {
-            let _ = writeln!(err, "{fault}");
+            tell_fault(fault, err);
             3
         }
         NoRun::Memory => tell_ending(Ending::Memory, err),
         NoRun::FileRefused => {
-            let _ = writeln!(err, "FILE REFUSED");
+            put("FILE REFUSED\n", err);
             5
         }
     }
+}
+
+// Writes what is wrong with a command line.
+fn tell_fault<S: Sink>(fault: OptionsFault, err: &mut S) {
+    let mut texts = Texts { sink: err };
+    let _ = writeln!(texts, "{fault}");
 }
 
 // Writes a text and flushes it, and answers the ending that this is.

@@ -54,7 +54,7 @@ AddsOver t u v n by r = Does u v (λ m k. Adds n by (map_at t m) (map_at t k) r)
 abbrev pub IsSpanAt : Tree → LimitsTree → Result Span FaultKind → Cells → Type 0
 IsSpanAt t l r m = SpanIs r (span_of (scope_in t) l (map_at t m))
 
--- the values of a list, and the map behind them, or their fault
+-- the values of a list and the map behind them, or their fault and the map that it leaves
 abbrev pub ListsOver : Tree → World → World → ListItemsTree → Result (Vec Value) FaultKind → Type 0
 ListsOver t u v list r = Does u v (λ m k. ListIs r (map_at t k) (listed (scope_in t) list (map_at t m) list_limit))
 

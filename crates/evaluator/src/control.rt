@@ -244,7 +244,7 @@ fn run_simple<S: Store>(
         Action::ArithmeticIf(code, negative, zero, positive) => Ok(run_arithmetic_if(
             program, line, shape, code, *negative, *zero, *positive, store, turns,
         )),
-        Action::Stop => Ok(run_stop(line, turns)),
+        Action::Stop(_) => Ok(run_stop(line, turns)),
         Action::Pass => Ok(Outcome::Normal),
         Action::Output(_) => Ok(Outcome::Normal),
         Action::If(_, _) => Ok(Outcome::Normal),

@@ -6,7 +6,7 @@ use Rattle.meaning.specs.declared.ending.FaultKind.TheVariants.{F8}
 use Rattle.meaning.specs.declared.ending.Value.{Value}
 use Rattle.meaning.specs.Syntax.{ExprTree, name, number, truth, signed, negated, binary, paren, element, call}
 use Rattle.meaning.specs.Arrays.{size, place, elements}
-use Rattle.meaning.specs.Lists.{element_values, one_value, named_value, item_value}
+use Rattle.meaning.specs.Lists.{faulted, with_value, element_values, one_value, named_value, item_value}
 use Rattle.meaning.specs.Maps.{Map, CellNumbers, value_at, map_by}
 use Rattle.meaning.specs.Values.{Scope, Valued, value, typed, and_then}
 use Rattle.meaning.specs.Stores.{Cells, World, LeavesRead, known, Reads}
@@ -54,7 +54,7 @@ module _ (g : Glossary) (numbers : CellNumbers) (count : ℕ) (n : List ℕ) (c 
       ∙ ap (λ o. typed c.data_type (value_at m o)) (sym (cells.cells ss) ∙ ap (from_cell c.place.cell c.place.stride) is)
 
   array_values : (m : Cells) (given rest : ℕ) (vs : List Value) → length vs ≡ size (left c.place) → rest + size (left c.place) ≡ given → AreValues (element_at c m) 0 vs → item_value (scope_by g) (name n) (map_by numbers m) given ≡ Ok (record { values = vs; map = map_by numbers m; left = rest })
-  unfolding and_then
+  unfolding with_value
   array_values m given rest vs many fits are =
       let found : element_values (scope_by g) n (elements (left c.place)) (map_by numbers m) ≡ Ok vs = elements_are (scope_by g) n (map_by numbers m) (place (left c.place)) (element_at c m) (alike m) 0 (elements (left c.place)) vs (elements-numbered (left c.place)) (many ∙ sym (elements-length (left c.place))) are in
       let small : nat_lt given (length (elements (left c.place))) ≡ false = ap (nat_lt given) (elements-length (left c.place)) ∙ le-ltb given (size (left c.place)) (room rest (size (left c.place)) given fits) in
@@ -67,7 +67,7 @@ module _ (g : Glossary) (numbers : CellNumbers) (count : ℕ) (n : List ℕ) (c 
       less : (a b c : ℕ) → a + b ≡ c → c - b ≡ a
       less a b c e = omega (arith, e)
 
-  array_too_long : (m : Cells) (given : ℕ) → given < size (left c.place) → item_value (scope_by g) (name n) (map_by numbers m) given ≡ Err F8
+  array_too_long : (m : Cells) (given : ℕ) → given < size (left c.place) → item_value (scope_by g) (name n) (map_by numbers m) given ≡ faulted F8 (map_by numbers m)
   array_too_long m given lt =
       let large : nat_lt given (length (elements (left c.place))) ≡ true = ap (nat_lt given) (elements-length (left c.place)) ∙ lt-ltb given (size (left c.place)) lt in
       rw array (rw large refl)
@@ -91,19 +91,19 @@ module _ (g : Glossary) (numbers : CellNumbers) where
           reads = reads_so u v (λ m. AreValues (element_at c m) 0 added.values) (λ m. item_value (scope_by g) (name n) (map_by numbers m) given ≡ Ok (record { values = added.values; map = map_by numbers m; left = rest })) added.reads (λ m are. array_values g numbers count n c array cells m given rest added.values added.many added.fits are);
         }
 
-    pub array_fails : (given : ℕ) (k : FaultKind) → (k ≡ F8) × (given < size (left c.place)) × (v ≡ u) → Reads u v (λ m. item_value (scope_by g) (name n) (map_by numbers m) given ≡ Err k)
+    pub array_fails : (given : ℕ) (k : FaultKind) → (k ≡ F8) × (given < size (left c.place)) × (v ≡ u) → Reads u v (λ m. item_value (scope_by g) (name n) (map_by numbers m) given ≡ faulted k (map_by numbers m))
     array_fails given k f =
-        subst (λ w. Reads u w (λ m. item_value (scope_by g) (name n) (map_by numbers m) given ≡ Err k)) (sym f.2) (reads_nothing u (λ m. item_value (scope_by g) (name n) (map_by numbers m) given ≡ Err k) (λ m. array_too_long g numbers count n c array cells m given f.1 ∙ ap Err (sym f.0)))
+        subst (λ w. Reads u w (λ m. item_value (scope_by g) (name n) (map_by numbers m) given ≡ faulted k (map_by numbers m))) (sym f.2) (reads_nothing u (λ m. item_value (scope_by g) (name n) (map_by numbers m) given ≡ faulted k (map_by numbers m)) (λ m. array_too_long g numbers count n c array cells m given f.1 ∙ ap (λ j. faulted j (map_by numbers m)) (sym f.0)))
 
 -- ---- one value
 
 one_more : (s : Scope) (e : ExprTree) (m : Map) (given rest : ℕ) (v : Value) → given ≡ suc rest → value s e m ≡ Ok v → one_value s e m given ≡ Ok (record { values = v ∷ []; map = m; left = rest })
-unfolding and_then
+unfolding with_value
 one_more s e m zero rest v same is = absurd (omega (arith, same))
 one_more s e m (suc n) rest v same is = let one : n ≡ rest = omega (arith, same) in rw is (ap (λ k. Ok (record { values = v ∷ []; map = m; left = k })) one)
 
-one_fault : (s : Scope) (e : ExprTree) (m : Map) (given : ℕ) (k : FaultKind) → 0 < given → value s e m ≡ Err k → one_value s e m given ≡ Err k
-unfolding and_then
+one_fault : (s : Scope) (e : ExprTree) (m : Map) (given : ℕ) (k : FaultKind) → 0 < given → value s e m ≡ Err k → one_value s e m given ≡ faulted k m
+unfolding with_value
 one_fault s e m zero k lt is = absurd (omega (arith, lt))
 one_fault s e m (suc n) k lt is = rw is refl
 
@@ -128,9 +128,9 @@ module _ (g : Glossary) (numbers : CellNumbers) (count : ℕ) (e : ExprTree) (pl
         reads = reads_so u v (Values (scope_by g) numbers e (Ok x)) (λ m. item_value (scope_by g) e (map_by numbers m) given ≡ Ok (record { values = x ∷ []; map = map_by numbers m; left = rest })) reads (λ m h. plain_item g numbers count e (map_by numbers m) given plain ∙ one_more (scope_by g) e (map_by numbers m) given rest x same h);
       }
 
-  pub value_fails : (given : ℕ) (k : FaultKind) → 0 < given → Reads u v (Values (scope_by g) numbers e (Err k)) → Reads u v (λ m. item_value (scope_by g) e (map_by numbers m) given ≡ Err k)
+  pub value_fails : (given : ℕ) (k : FaultKind) → 0 < given → Reads u v (Values (scope_by g) numbers e (Err k)) → Reads u v (λ m. item_value (scope_by g) e (map_by numbers m) given ≡ faulted k (map_by numbers m))
   value_fails given k lt reads =
-      reads_so u v (Values (scope_by g) numbers e (Err k)) (λ m. item_value (scope_by g) e (map_by numbers m) given ≡ Err k) reads (λ m h. plain_item g numbers count e (map_by numbers m) given plain ∙ one_fault (scope_by g) e (map_by numbers m) given k lt h)
+      reads_so u v (Values (scope_by g) numbers e (Err k)) (λ m. item_value (scope_by g) e (map_by numbers m) given ≡ faulted k (map_by numbers m)) reads (λ m h. plain_item g numbers count e (map_by numbers m) given plain ∙ one_fault (scope_by g) e (map_by numbers m) given k lt h)
 
 -- ---- one element more
 

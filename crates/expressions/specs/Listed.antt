@@ -30,7 +30,7 @@ pub record Adding (u v : World) (item : Cells → lists.Listed) (map : Cells →
 
 abbrev pub AddsItem : World → World → (Cells → lists.Listed) → (Cells → Map) → List Value → List Value → ℕ → Result (Unit {0}) FaultKind → Type 0
 AddsItem u v item map before after rest (Ok t) = Adding u v item map before after rest
-AddsItem u v item map before after rest (Err k) = Reads u v (λ m. item m ≡ Err k)
+AddsItem u v item map before after rest (Err k) = Reads u v (λ m. item m ≡ lists.faulted k (map m))
 
 -- ---- the elements of a whole array
 

@@ -5,12 +5,17 @@ ghost use Rattle.meaning.specs.Characters.{at_least_zero};
 ghost use Rattle.meaning.specs.Arrays.{extent as extent_of, above as above_in, within as within_of};
 ghost use Rattle.expressions.specs.Dimensions.{dimension};
 
-/// A dimension by its bounds.
-#[derive(Clone, Copy, Debug, PartialEq, Eq)]
+use smallvec::SmallVec;
+
+/// A dimension by its bounds; by default both are 0, which stands where a place for one isn't used.
+#[derive(Clone, Copy, Debug, Default, PartialEq, Eq)]
 pub struct Dimension {
     pub lower: i32,
     pub upper: i32,
 }
+
+/// The dimensions of an array, in their order. The seven that are allowed at most (5.1.1) take no growth.
+pub type Dimensions = SmallVec<Dimension, 7>;
 
 impl Dimension {
     /// How many values a subscript may have.

@@ -15,7 +15,7 @@ ghost use Rattle.meaning.specs.Values.{integer, typed as typed_as, as_integer as
 ghost use Rattle.meaning.specs.Characters.{number_of};
 
 pub use constants::{Constants, constant_value};
-pub use dimension::Dimension;
+pub use dimension::{Dimension, Dimensions};
 pub use intrinsics::{Arguments, Intrinsic};
 use meaning::ending::{FaultKind, Value};
 use meaning::number::number;

@@ -40,9 +40,7 @@ pub fn run_by<S: Sink, Q: QuietLoops>(
             };
         }
     };
-    let report = run_program(alloc, &program, quiet_loops, turns, sink);
-    drop(program);
-    report
+    run_program(alloc, program, quiet_loops, turns, sink)
 }
 
 /// Runs a source in order, with the turns of the plan, and puts what it writes into a sink that hasn't refused.

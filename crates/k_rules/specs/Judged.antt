@@ -25,6 +25,7 @@ use Rattle.roles.specs.declared.names.Roles.{Roles as Kept}
 use Rattle.roles.specs.RolesAt.{roles_at}
 use Rattle.rule_passes.specs.Listed.{tree_at}
 use Rattle.k_rules.specs.declared.verdict.Facts.{Facts}
+use Rattle.statement_rules.specs.FormatsFound.{HoldsFormats}
 use Rattle.declarations.specs.ArraysKept.{arrays_kept}
 use Rattle.data_rules.specs.DataSets.{given_by}
 use Rattle.data_rules.specs.DataStages.{Found}
@@ -59,6 +60,10 @@ AreFirstLeast r items b = b ≡ least (rules_first (roles_at r) (map tree_at ite
 abbrev pub AreLastLeast : Kept → List Member → Option Broken → Type 0
 AreLastLeast r members b = b ≡ least (rules_last (roles_at r) (map tree_at r.items.now) (members_tree members))
 
+-- the least pair of the rule on units and formats
+abbrev pub IsOutputLeast : Kept → Option Broken → Type 0
+IsOutputLeast r b = b ≡ least (told (has_bad_output (roles_at r) (map tree_at r.items.now)) K11 [] (map tree_at r.items.now))
+
 -- the least pair of others and of the rule on DATA statements
 abbrev pub with_data : List ItemTree → Option Broken → Option Broken
 with_data all others = merge others (least (told (has_bad_data (roles_of all)) K10 [] all))
@@ -76,3 +81,7 @@ HasArrays all f = (n : List ℕ) → arrays_in f n ≡ arrays_of all n
 
 abbrev pub HasStarts : List ItemTree → Facts → Type 0
 HasStarts all f = starts_in f ≡ given_by (roles_of all).names (starts_from (roles_of all) [] all)
+
+-- and of its formats
+abbrev pub HasFormats : List ItemTree → Facts → Type 0
+HasFormats all f = HoldsFormats all f.formats

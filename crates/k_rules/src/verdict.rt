@@ -5,11 +5,12 @@ ghost use Rattle.meaning.specs.Reports.{Gives};
 ghost use Rattle.meaning.specs.Rules.{checked};
 ghost use Rattle.meaning.specs.Trees.{flatten, nested};
 ghost use Rattle.rule_passes.specs.Listed.{tree_at};
-ghost use Rattle.k_rules.specs.Judged.{AreFirstLeast, AreLastLeast, AreNamesLeast, HasArrays, HasConstants, HasStarts, IsDecided, with_data};
+ghost use Rattle.statement_rules.specs.FormatsFound.{HoldsFormats};
+ghost use Rattle.k_rules.specs.Judged.{AreFirstLeast, AreLastLeast, AreNamesLeast, HasArrays, HasConstants, HasFormats, HasStarts, IsDecided, IsOutputLeast, with_data};
 
 use data_rules::{Filling, Passed, given_by_data};
 use declarations::{Declared, declared_in};
-use expressions::Dimension;
+use expressions::Dimensions;
 use function_rules::{misdefined_function, misused_name, unknown_function};
 use indexmap::IndexMap;
 use meaning::ending::Value;
@@ -18,7 +19,9 @@ use meaning::syntax::{Item, Member, Tree};
 use name_rules::disputed_name;
 use number_rules::{bad_number, large_array};
 use roles::{Roles, items_of};
-use statement_rules::{bad_output, missed_label, misused_variable, repeated_label};
+use statement_rules::{
+    Formats, Output, bad_output, missed_label, misused_variable, repeated_label,
+};
 use std::alloc::{AllocError, Global};
 use type_rules::{real_name, wrong_type};
 
@@ -27,10 +30,12 @@ pub struct Facts {
     /// The constants by their names, with their values.
     pub constants: IndexMap<Vec<u8>, Option<Value>>,
     /// The arrays by their names, with their dimensions.
-    pub arrays: IndexMap<Vec<u8>, Vec<Dimension>>,
+    pub arrays: IndexMap<Vec<u8>, Dimensions>,
     /// What DATA statements give: by the names of variables and arrays the values of their places in column-major order, from 0,
     /// which is the only one of a variable. A place that was given none has none, and so have those behind the last one that is kept.
     pub starts: IndexMap<Vec<u8>, Vec<Option<Value>>>,
+    /// The formats of its FORMAT statements and those in its character constants, each of which was read once.
+    pub formats: Formats,
 }
 
 impl Drop for Facts {
@@ -39,10 +44,30 @@ impl Drop for Facts {
             constants,
             arrays,
             starts,
+            formats,
         } = self;
         drop(constants);
         drop(arrays);
         drop(starts);
+        drop(formats);
+    }
+}
+
+impl Facts {
+    /// The formats alone.
+    pub fn into_formats(self) -> Formats
+        ensures { result ≡ self.formats }
+    {
+        let Facts {
+            constants,
+            arrays,
+            starts,
+            formats,
+        } = self;
+        drop(constants);
+        drop(arrays);
+        drop(starts);
+        formats
     }
 }
 
@@ -76,35 +101,45 @@ fn broken_first(alloc: Global, roles: &Roles, items: &[&Item]) -> Result<Option<
     Ok(lesser(repeated, second))
 }
 
-/// The least pair of the rules that stand behind it.
+/// The least pair of the rules that stand behind it, of which this is that of the rule on units and formats.
 fn broken_last(
     alloc: Global,
     roles: &Roles,
     members: &[Member],
+    output: Option<Broken>,
 ) -> Result<Option<Broken>, AllocError>
+    requires { IsOutputLeast roles.now output }
     ensures { IfOk result (AreLastLeast roles.now members.now) }
 {
-    let output = bad_output(alloc, roles)?;
     let missed = missed_label(alloc, roles, roles.items, members)?;
     let misused = misused_variable(alloc, roles, members)?;
     let last = lesser(missed, misused);
     Ok(lesser(output, last))
 }
 
-/// What is known of statements, or the least of these pairs and of those of the rule on DATA statements.
+/// What is known of statements whose formats these are, or the least of these pairs and of those of the rule on DATA statements.
 fn facts_of(
     alloc: Global,
     roles: &Roles,
     items: &[&Item],
     others: Option<Broken>,
+    formats: Formats,
 ) -> Result<Facts, Refusal>
-    requires { map tree_at roles.now.items.now ≡ map tree_at items.now }
+    requires same { map tree_at roles.now.items.now ≡ map tree_at items.now }
+    requires formats { HoldsFormats (map tree_at items.now) formats }
     ensures exact { IsDecided (with_data (map tree_at items.now) others) result }
     ensures constants { IfOk result (HasConstants (map tree_at items.now)) }
     ensures arrays { IfOk result (HasArrays (map tree_at items.now)) }
     ensures starts { IfOk result (HasStarts (map tree_at items.now)) }
+    ensures formats { IfOk result (HasFormats (map tree_at items.now)) }
 {
-    let declared = declared_in(alloc, roles)?;
+    let declared = match declared_in(alloc, roles) {
+        Ok(declared) => declared,
+        Err(AllocError) => {
+            drop(formats);
+            return Err(Refusal::Memory);
+        }
+    };
     match given_by_data(alloc, roles, &declared.arrays, items, others) {
         Ok(passed) => {
             let Passed { broken, filling } = passed;
@@ -112,6 +147,7 @@ fn facts_of(
                 Some(least) => {
                     drop(filling);
                     drop(declared);
+                    drop(formats);
                     Err(Refusal::Rule {
                         rule: least.rule,
                         line: least.line,
@@ -125,10 +161,12 @@ fn facts_of(
                             constants: table.values,
                             arrays,
                             starts: given,
+                            formats,
                         })
                     }
                     None => {
                         drop(declared);
+                        drop(formats);
                         Err(Refusal::Memory)
                     }
                 },
@@ -136,6 +174,7 @@ fn facts_of(
         }
         Err(_) => {
             drop(declared);
+            drop(formats);
             Err(Refusal::Memory)
         }
     }
@@ -148,12 +187,18 @@ fn judge_items(alloc: Global, tree: &Tree, items: &[&Item]) -> Result<Facts, Ref
     ensures constants { IfOk result (HasConstants (flatten (nested tree.now))) }
     ensures arrays { IfOk result (HasArrays (flatten (nested tree.now))) }
     ensures starts { IfOk result (HasStarts (flatten (nested tree.now))) }
+    ensures formats { IfOk result (HasFormats (flatten (nested tree.now))) }
 {
     let roles = Roles::new(alloc, &*items)?;
     let first = broken_first(alloc, &roles, items)?;
-    let last = broken_last(alloc, &roles, &tree.body)?;
-    let others = lesser(first, last);
-    facts_of(alloc, &roles, items, others)
+    let Output { broken, formats } = bad_output(alloc, &roles)?;
+    match broken_last(alloc, &roles, &tree.body, broken) {
+        Ok(last) => facts_of(alloc, &roles, items, lesser(first, last), formats),
+        Err(AllocError) => {
+            drop(formats);
+            Err(Refusal::Memory)
+        }
+    }
 }
 
 /// What is known of a program unit, or the least pair of the rules that it breaks.
@@ -162,6 +207,7 @@ pub fn judge(alloc: Global, tree: &Tree) -> Result<Facts, Refusal>
     ensures constants { IfOk result (HasConstants (flatten (nested tree.now))) }
     ensures arrays { IfOk result (HasArrays (flatten (nested tree.now))) }
     ensures starts { IfOk result (HasStarts (flatten (nested tree.now))) }
+    ensures formats { IfOk result (HasFormats (flatten (nested tree.now))) }
 {
     let items = items_of(alloc, tree)?;
     judge_items(alloc, tree, &items)

@@ -1,11 +1,14 @@
 -- Programs with transfers, IF statements, STOP and implied DOs, from their bytes to their bytes. Turns are counted by hand; a
 -- limit is met exactly, or missed by one.
-use Rattle.std.proofs.Common.{◌≡◌, ℕ, List, [], ◌∷◌, refl}
+use Rattle.std.proofs.Common.{◌≡◌, ℕ, ℤ, pos, List, [], ◌∷◌, Result, Ok, Err, refl}
 use Rattle.std.specs.Prelude.{codes}
 use Rattle.meaning.specs.declared.ending.Ending.TheVariants as endings
 use Rattle.meaning.specs.declared.ending.FaultKind.{FaultKind}
 use Rattle.meaning.specs.declared.ending.FaultKind.TheVariants.{F1, F2, F4, F5}
 use Rattle.meaning.specs.declared.refusal.Rule.TheVariants.{K2}
+use Rattle.meaning.specs.declared.refusal.Broken.{Broken}
+use Rattle.meaning.specs.Answers.{program_of, run_of}
+use Rattle.meaning.specs.Trees.{Nested}
 use Rattle.meaning.proofs.Examples.{Shown, shown, all_definitions}
 
 abbrev ends : Shown
@@ -205,3 +208,20 @@ implied_step = refl
 implied_overflow : shown (codes "      PRINT '(I11)',(I,I=2147483647,2147483647)\n      END\n") 9 ≡ faults F2 1
 unfolding all_definitions
 implied_overflow = refl
+
+-- a fault in a list, or in its records, writes nothing, and what was given before it stays
+abbrev kept_by : Result Nested Broken → List ℕ → ℤ
+kept_by (Ok t) n = (run_of t 9).map n []
+kept_by (Err b) n = pos 0
+
+implied_overflow_kept : kept_by (program_of (codes "      PRINT '(I11)',(I,I=2147483646,2147483647)\n      END\n")) (codes "I") ≡ pos 2147483647
+unfolding all_definitions
+implied_overflow_kept = refl
+
+implied_division_kept : kept_by (program_of (codes "      PRINT '(I11)',(I,6/(3-I),I=1,5)\n      END\n")) (codes "I") ≡ pos 3
+unfolding all_definitions
+implied_division_kept = refl
+
+implied_record_kept : kept_by (program_of (codes "      PRINT '(L2)',(I,I=1,3)\n      END\n")) (codes "I") ≡ pos 4
+unfolding all_definitions
+implied_record_kept = refl

@@ -19,14 +19,14 @@ use Rattle.meaning.specs.Uses.{is_one_of}
 use Rattle.meaning.specs.LoopRules.{set_by, variables_set}
 use Rattle.meaning.specs.LabelRules.{has_label}
 use Rattle.meaning.specs.Scopes.{scope_of, Definition, defined_by}
-use Rattle.meaning.specs.Lists.{Listed, behind, followed, one_item, element_values, one_value, named_value, item_value, stepped, trips_listed, loop_listed, listed, list_limit}
+use Rattle.meaning.specs.Lists.{Listed, faulted, with_value, behind, followed, one_item, element_values, one_value, named_value, item_value, stepped, trips_listed, loop_listed, listed, list_limit}
 use Rattle.meaning.specs.Trees.{Members, none, plain, loop, block, Arms, no_arms, arm, flat, flat_arms}
 use Rattle.meaning.specs.Trips.{span_of, trips}
 use Rattle.meaning.specs.Maps.{Map, put}
 use Rattle.meaning.specs.Values.{Scope, value, subscripts, dimensions_in, as_integer, as_logical, integer, and_then, in_first, others}
 use Rattle.meaning.specs.Records.{edited}
 use Rattle.meaning.specs.LoopLaws.{sets}
-use Rattle.meaning.specs.Execution.{Outcome, normal, jump, stopped, fault, Ran, more, ended_by, turn, with_ok, parts_for, output, assigned, unless_defined, picked_by, by_count, by_sign, Meaning, Follow, Next, onward, at_label, Ways, goes_on, goes_on_by, leads_on, leads_on_by, simple, step, added, fold_trips, trips_from, looped, while_of, ways_again, repeated, loop_by, condition_of, holds, turn_if, tested, arms_from, heads, labelled, goes_at, ways_in, pass_over, fuelled, exec}
+use Rattle.meaning.specs.Execution.{Outcome, normal, jump, stopped, fault, Ran, more, ended_by, turn, with_ok, parts_for, with_list, output, assigned, unless_defined, picked_by, by_count, by_sign, Meaning, Follow, Next, onward, at_label, Ways, goes_on, goes_on_by, leads_on, leads_on_by, simple, step, added, fold_trips, trips_from, looped, while_of, ways_again, repeated, loop_by, condition_of, holds, turn_if, tested, arms_from, heads, labelled, goes_at, ways_in, pass_over, fuelled, exec}
 
 -- ---- tests
 
@@ -66,28 +66,29 @@ module _ (v : List ℕ) where
 
     -- ---- lists of items
 
-    -- where they have values, the variable has its value behind them
+    -- the variable has its value behind them, and behind a fault
     abbrev ListedKeeps : Listed → Type 0
     ListedKeeps (Ok l) = Has l.map
-    ListedKeeps (Err k) = Unit {0}
+    ListedKeeps (Err f) = Has f.map
 
-    and_then-keeps : {A : Type 0} (r : Result A FaultKind) (go : A → Listed) → ((x : A) → r ≡ Ok x → ListedKeeps (go x)) → ListedKeeps (and_then r go)
-    unfolding and_then
-    and_then-keeps (Ok x) go keeps = keeps x refl
-    and_then-keeps (Err k) go keeps = tt
+    with_value-keeps : {A : Type 0} (r : Result A FaultKind) (m : Map) (go : A → Listed) → Has m → ((x : A) → r ≡ Ok x → ListedKeeps (go x)) → ListedKeeps (with_value r m go)
+    unfolding with_value
+    with_value-keeps (Ok x) m go h keeps = keeps x refl
+    with_value-keeps (Err k) m go h keeps = h
 
-    behind-keeps : (vs : List Value) (r : Listed) → ListedKeeps r → ListedKeeps (and_then r (λ l. Ok (behind vs l)))
-    unfolding and_then
+    behind-keeps : (vs : List Value) (r : Listed) → ListedKeeps r → ListedKeeps (behind vs r)
+    unfolding behind
     behind-keeps vs (Ok l) h = h
-    behind-keeps vs (Err k) h = tt
+    behind-keeps vs (Err f) h = h
 
     followed-keeps : (r : Listed) (go : Map → ℕ → Listed) → ListedKeeps r → ((m : Map) (left : ℕ) → Has m → ListedKeeps (go m left)) → ListedKeeps (followed r go)
-    followed-keeps r go h keeps =
-        and_then-keeps r (λ l. and_then (go l.map l.left) (λ k. Ok (behind l.values k))) (λ l is. behind-keeps l.values (go l.map l.left) (keeps l.map l.left (subst ListedKeeps is h)))
+    unfolding followed
+    followed-keeps (Ok l) go h keeps = behind-keeps l.values (go l.map l.left) (keeps l.map l.left h)
+    followed-keeps (Err f) go h keeps = h
 
-    one_item-keeps : (left : ℕ) (go : ℕ → Listed) → ((n : ℕ) → ListedKeeps (go n)) → ListedKeeps (one_item left go)
-    one_item-keeps zero go keeps = tt
-    one_item-keeps (suc n) go keeps = keeps n
+    one_item-keeps : (left : ℕ) (m : Map) (go : ℕ → Listed) → Has m → ((n : ℕ) → ListedKeeps (go n)) → ListedKeeps (one_item left m go)
+    one_item-keeps zero m go h keeps = h
+    one_item-keeps (suc n) m go h keeps = keeps n
 
     if-keeps : (b : Bool) (x y : Listed) → ListedKeeps x → ListedKeeps y → ListedKeeps (if b then x else y)
     if-keeps true x y h k = h
@@ -96,13 +97,13 @@ module _ (v : List ℕ) where
     module _ (s : Scope) where
       one_value-keeps : (e : ExprTree) (m : Map) (left : ℕ) → Has m → ListedKeeps (one_value s e m left)
       one_value-keeps e m left h =
-          one_item-keeps left (λ n. and_then (value s e m) (λ x. Ok (record { values = x ∷ []; map = m; left = n }))) (λ n. and_then-keeps (value s e m) (λ x. Ok (record { values = x ∷ []; map = m; left = n })) (λ x is. h))
+          one_item-keeps left m (λ n. with_value (value s e m) m (λ x. Ok (record { values = x ∷ []; map = m; left = n }))) h (λ n. with_value-keeps (value s e m) m (λ x. Ok (record { values = x ∷ []; map = m; left = n })) h (λ x is. h))
 
       named_value-keeps : (n : List ℕ) (o : Option (List Dimension)) (m : Map) (left : ℕ) → Has m → ListedKeeps (named_value s n o m left)
       named_value-keeps n (Some ds) m left h =
           let found = element_values s n (elements ds) m in
-          let go = λ (vs : List Value). Ok (record { values = vs; map = m; left = left - length (elements ds) }) in
-          if-keeps (nat_lt left (length (elements ds))) (Err F8) (and_then found go) tt (and_then-keeps found go (λ vs is. h))
+          let go : List Value → Listed = λ vs. Ok (record { values = vs; map = m; left = left - length (elements ds) }) in
+          if-keeps (nat_lt left (length (elements ds))) (faulted F8 m) (with_value found m go) h (with_value-keeps found m go h (λ vs is. h))
       named_value-keeps n None m left h = one_value-keeps (name n) m left h
 
       item_value-keeps : (e : ExprTree) (m : Map) (left : ℕ) → Has m → ListedKeeps (item_value s e m left)
@@ -113,7 +114,7 @@ module _ (v : List ℕ) where
       unfolding trips_listed
       trips_listed-keeps items keeps n other by [] m left h = h
       trips_listed-keeps items keeps n other by (i ∷ is) m left h =
-          followed-keeps (items m left) (λ k rest. stepped n by k (λ j. trips_listed items n by is j rest)) (keeps m left h) (λ k rest hk. and_then-keeps (integer (k n [] +ℤ by)) (λ x. trips_listed items n by is (put k n [] (as_integer x)) rest) (λ x is2. trips_listed-keeps items keeps n other by is (put k n [] (as_integer x)) rest (put_other k n [] (as_integer x) other ∙ hk)))
+          followed-keeps (items m left) (λ k rest. stepped n by k (λ j. trips_listed items n by is j rest)) (keeps m left h) (λ k rest hk. with_value-keeps (integer (k n [] +ℤ by)) k (λ x. trips_listed items n by is (put k n [] (as_integer x)) rest) hk (λ x is2. trips_listed-keeps items keeps n other by is (put k n [] (as_integer x)) rest (put_other k n [] (as_integer x) other ∙ hk)))
 
       listed-keeps : (list : ListItemsTree) → is_one_of (loop_variables list) v ≡ false → (m : Map) (left : ℕ) → Has m → ListedKeeps (listed s list m left)
       unfolding listed
@@ -123,8 +124,8 @@ module _ (v : List ℕ) where
       listed-keeps (more_items (loop_item ys variable limits) xs) unset m left h =
           let other = other_first variable (loop_variables ys ++ loop_variables xs) unset in
           let parts = any-parts (bytes_eq v) (loop_variables ys) (loop_variables xs) (or-parts (bytes_eq v variable) (is_one_of (loop_variables ys ++ loop_variables xs) v) unset).1 in
-          let first = one_item left (λ n. and_then (span_of s limits m) (λ span. loop_listed (listed s ys) variable m n span)) in
-          followed-keeps first (listed s xs) (one_item-keeps left (λ n. and_then (span_of s limits m) (λ span. loop_listed (listed s ys) variable m n span)) (λ n. and_then-keeps (span_of s limits m) (λ span. loop_listed (listed s ys) variable m n span) (λ span is. trips_listed-keeps (listed s ys) (λ k rest hk. listed-keeps ys parts.0 k rest hk) variable other span.step (trips span.first span.last span.step) (put m variable [] span.first) n (put_other m variable [] span.first other ∙ h)))) (λ n rest hn. listed-keeps xs parts.1 n rest hn)
+          let one : ℕ → Listed = λ n. with_value (span_of s limits m) m (λ span. loop_listed (listed s ys) variable m n span) in
+          followed-keeps (one_item left m one) (listed s xs) (one_item-keeps left m one h (λ n. with_value-keeps (span_of s limits m) m (λ span. loop_listed (listed s ys) variable m n span) h (λ span is. trips_listed-keeps (listed s ys) (λ k rest hk. listed-keeps ys parts.0 k rest hk) variable other span.step (trips span.first span.last span.step) (put m variable [] span.first) n (put_other m variable [] span.first other ∙ h)))) (λ n rest hn. listed-keeps xs parts.1 n rest hn)
 
     -- ---- what follows
 
@@ -171,6 +172,11 @@ module _ (v : List ℕ) where
     unfolding with_ok
     with_ok-keeps (Ok y) line m go h keeps = keeps y refl
     with_ok-keeps (Err k) line m go h keeps = h
+
+    with_list-keeps : (r : Listed) (line : ℕ) (go : List Value → Map → Ran) → ListedKeeps r → ((vs : List Value) (n : Map) → Has n → Has (go vs n).map) → Has (with_list r line go).map
+    unfolding with_list
+    with_list-keeps (Ok l) line go h keeps = keeps l.values l.map h
+    with_list-keeps (Err f) line go h keeps = h
 
     turn-keeps : (line : ℕ) (m : Map) (t : ℕ) (go : ℕ → Ran) → Has m → ((u : ℕ) → Has (go u).map) → Has (turn line m t go).map
     unfolding turn
@@ -227,7 +233,7 @@ module _ (v : List ℕ) where
       output-keeps source list line m t go unset keeps h =
           let records : List Value → Result (List ℕ) FaultKind = λ vs. edited (parts_for program source) vs in
           let items = listed (scope_of program) list m list_limit in
-          turn-keeps line m t (λ u. with_ok items line m (λ l. with_ok (records l.values) line m (λ r. more (r ∷ []) 0 (go l.map u)))) h (λ u. with_ok-keeps items line m (λ l. with_ok (records l.values) line m (λ r. more (r ∷ []) 0 (go l.map u))) h (λ l is. with_ok-keeps (records l.values) line m (λ r. more (r ∷ []) 0 (go l.map u)) h (λ r is2. more-keeps (r ∷ []) 0 (go l.map u) (keeps l.map u (subst ListedKeeps is (listed-keeps (scope_of program) list unset m list_limit h))))))
+          turn-keeps line m t (λ u. with_list items line (λ vs n. with_ok (records vs) line n (λ r. more (r ∷ []) 0 (go n u)))) h (λ u. with_list-keeps items line (λ vs n. with_ok (records vs) line n (λ r. more (r ∷ []) 0 (go n u))) (listed-keeps (scope_of program) list unset m list_limit h) (λ vs n hn. with_ok-keeps (records vs) line n (λ r. more (r ∷ []) 0 (go n u)) hn (λ r is. more-keeps (r ∷ []) 0 (go n u) (keeps n u hn))))
 
       simple-keeps : (s : ShapeTree) (line : ℕ) (m : Map) (t : ℕ) (go : Ways) → is_one_of (variables_set s) v ≡ false → WaysKeep go → Has m → Has (simple program s line m t go).map
       simple-keeps (assignment target es e) line m t go unset keeps h =

@@ -7,13 +7,13 @@ use Rattle.meaning.specs.declared.ending.Value.{Value}
 use Rattle.meaning.specs.Characters.{number_of}
 use Rattle.meaning.specs.Syntax.{ExprTree, ExprsTree, ShapeTree, ListItemsTree, FormatTree, assignment, writing, printing, doing, continuing, going, computed_going, arithmetic_if, logical_if, stopping, end_do, ItemTree}
 use Rattle.meaning.specs.Scopes.{scope_of, Definition, defined_by}
-use Rattle.meaning.specs.Lists.{listed, list_limit}
+use Rattle.meaning.specs.Lists.{Listed, listed, list_limit}
 use Rattle.meaning.specs.Trees.{Members, none, plain, loop, block, Arms, no_arms, arm}
 use Rattle.meaning.specs.Trips.{span_of, trips}
 use Rattle.meaning.specs.Maps.{Map, put}
 use Rattle.meaning.specs.Values.{Scope, value, subscripts, dimensions_in, as_integer, as_logical, integer}
 use Rattle.meaning.specs.Records.{edited}
-use Rattle.meaning.specs.Execution.{Outcome, normal, jump, stopped, fault, Ran, more, ended, ended_by, turn, with_ok, parts_for, output, assigned, unless_defined, picked_by, by_count, by_sign, Meaning, Follow, Next, onward, at_label, Ways, goes_on, goes_on_by, leads_on, leads_on_by, simple, step, added, fold_trips, trips_from, looped, while_of, ways_again, repeated, loop_by, condition_of, holds, turn_if, tested, arms_from, labelled, goes_at, ways_in, pass_over, fuelled, exec}
+use Rattle.meaning.specs.Execution.{Outcome, normal, jump, stopped, fault, Ran, more, ended, ended_by, turn, with_ok, parts_for, with_list, output, assigned, unless_defined, picked_by, by_count, by_sign, Meaning, Follow, Next, onward, at_label, Ways, goes_on, goes_on_by, leads_on, leads_on_by, simple, step, added, fold_trips, trips_from, looped, while_of, ways_again, repeated, loop_by, condition_of, holds, turn_if, tested, arms_from, labelled, goes_at, ways_in, pass_over, fuelled, exec}
 use Rattle.meaning.specs.Turns.{met_limit, Bounded}
 use Rattle.meaning.proofs.Running.{more-more, more-none, exec-fuelled}
 
@@ -41,6 +41,11 @@ with_ok-bounded : {A : Type 0} (r : Result A FaultKind) (line : ℕ) (m : Map) (
 unfolding with_ok
 with_ok-bounded (Ok x) line m go bounded = bounded x
 with_ok-bounded (Err k) line m go bounded = ended_by-bounded (fault k line) m
+
+with_list-bounded : (r : Listed) (line : ℕ) (go : List Value → Map → ℕ → Ran) → ((vs : List Value) (n : Map) → Bounded (go vs n)) → Bounded (λ t. with_list r line (λ vs n. go vs n t))
+unfolding with_list
+with_list-bounded (Ok l) line go bounded = bounded l.values l.map
+with_list-bounded (Err f) line go bounded = ended_by-bounded (fault f.kind line) f.map
 
 -- ---- behind pieces and turns
 
@@ -202,7 +207,7 @@ module _ (program : List ItemTree) where
   output-bounded source list line m go h =
       let records : List Value → Result (List ℕ) FaultKind = λ vs. edited (parts_for program source) vs in
       let items = listed (scope_of program) list m list_limit in
-      turn-bounded line m (λ u. with_ok items line m (λ l. with_ok (records l.values) line m (λ r. more (r ∷ []) 0 (go l.map u)))) (with_ok-bounded items line m (λ l u. with_ok (records l.values) line m (λ r. more (r ∷ []) 0 (go l.map u))) (λ l. with_ok-bounded (records l.values) line m (λ r u. more (r ∷ []) 0 (go l.map u)) (λ r. piece-bounded (r ∷ []) (λ u. go l.map u) (h l.map))))
+      turn-bounded line m (λ u. with_list items line (λ vs n. with_ok (records vs) line n (λ r. more (r ∷ []) 0 (go n u)))) (with_list-bounded items line (λ vs n u. with_ok (records vs) line n (λ r. more (r ∷ []) 0 (go n u))) (λ vs n. with_ok-bounded (records vs) line n (λ r u. more (r ∷ []) 0 (go n u)) (λ r. piece-bounded (r ∷ []) (λ u. go n u) (h n))))
 
   assigned-bounded : (s : Scope) (target : List ℕ) (es : ExprsTree) (e : ExprTree) (line : ℕ) (m : Map) (go : Follow) → BoundedFollow go → Bounded (λ t. assigned s target es e line m t go)
   assigned-bounded s target es e line m go h =

@@ -1,19 +1,19 @@
 -- Laws of execution: it is its own pass, it uses no more turns than it is given, and more turns change nothing in a run
 -- that didn't meet the limit.
-use Rattle.std.proofs.Common.{◌≡◌, ℕ, zero, suc, ℤ, ◌+◌, ◌-◌, ◌+ℤ◌, ◌<◌, ◌≤◌, Bool, true, false, if◌then◌else◌, Option, Some, None, List, [], ◌∷◌, ◌++◌, Result, refl, sym, ap, ◌∙◌, arith, append_assoc}
+use Rattle.std.proofs.Common.{◌≡◌, ℕ, zero, suc, ℤ, ◌+◌, ◌-◌, ◌+ℤ◌, ◌<◌, ◌≤◌, Bool, true, false, if◌then◌else◌, Option, Some, None, List, [], ◌∷◌, ◌++◌, Result, Ok, Err, refl, sym, ap, ◌∙◌, arith, append_assoc}
 use mathlib.Core.Path.{fun_ext}
 use Rattle.meaning.specs.declared.ending.FaultKind.{FaultKind}
 use Rattle.meaning.specs.declared.ending.Value.{Value}
 use Rattle.meaning.specs.Characters.{number_of}
 use Rattle.meaning.specs.Syntax.{ExprTree, ExprsTree, ShapeTree, ListItemsTree, FormatTree, assignment, writing, printing, doing, continuing, going, computed_going, arithmetic_if, logical_if, stopping, end_do, ItemTree}
 use Rattle.meaning.specs.Scopes.{scope_of, Definition, defined_by}
-use Rattle.meaning.specs.Lists.{listed, list_limit}
+use Rattle.meaning.specs.Lists.{Listed, listed, list_limit}
 use Rattle.meaning.specs.Trees.{Members, none, plain, loop, block, Arms, no_arms, arm}
 use Rattle.meaning.specs.Trips.{span_of, trips}
 use Rattle.meaning.specs.Maps.{Map, put}
 use Rattle.meaning.specs.Values.{Scope, value, subscripts, dimensions_in, as_integer, as_logical, integer}
 use Rattle.meaning.specs.Records.{edited}
-use Rattle.meaning.specs.Execution.{Outcome, normal, jump, stopped, fault, Ran, more, turn, with_ok, parts_for, output, assigned, unless_defined, picked_by, by_count, by_sign, Meaning, Follow, Next, onward, at_label, Ways, goes_on, goes_on_by, leads_on, leads_on_by, simple, step, added, fold_trips, trips_from, looped, while_of, ways_again, repeated, loop_by, condition_of, holds, turn_if, tested, arms_from, labelled, goes_at, ways_in, pass_over, fuelled, exec}
+use Rattle.meaning.specs.Execution.{Outcome, normal, jump, stopped, fault, Ran, more, turn, with_ok, parts_for, with_list, output, assigned, unless_defined, picked_by, by_count, by_sign, Meaning, Follow, Next, onward, at_label, Ways, goes_on, goes_on_by, leads_on, leads_on_by, simple, step, added, fold_trips, trips_from, looped, while_of, ways_again, repeated, loop_by, condition_of, holds, turn_if, tested, arms_from, labelled, goes_at, ways_in, pass_over, fuelled, exec}
 
 -- ---- pieces and turns in front
 
@@ -77,6 +77,11 @@ leads_on-same r t go on same = leads_on_by-same r.outcome r t go on same
 with_ok-same : {A : Type 0} (r : Result A FaultKind) (line : ℕ) (m : Map) (go on : A → Ran) → ((x : A) → go x ≡ on x) → with_ok r line m go ≡ with_ok r line m on
 with_ok-same r line m go on same = ap (λ f. with_ok r line m f) (fun_ext same)
 
+with_list-same : (r : Listed) (line : ℕ) (go on : List Value → Map → Ran) → ((vs : List Value) (n : Map) → go vs n ≡ on vs n) → with_list r line go ≡ with_list r line on
+unfolding with_list
+with_list-same (Ok l) line go on same = same l.values l.map
+with_list-same (Err f) line go on same = refl
+
 turn-same : (line : ℕ) (m : Map) (t : ℕ) (go on : ℕ → Ran) → ((u : ℕ) → suc u ≤ t → go u ≡ on u) → turn line m t go ≡ turn line m t on
 unfolding turn
 turn-same line m zero go on same = refl
@@ -97,7 +102,8 @@ module _ (program : List ItemTree) where
   output-same : (source : FormatTree) (list : ListItemsTree) (line : ℕ) (m : Map) (t : ℕ) (go on : Follow) → Same t go on → output program source list line m t go ≡ output program source list line m t on
   output-same source list line m t go on same =
       let records : List Value → Result (List ℕ) FaultKind = λ vs. edited (parts_for program source) vs in
-      turn-same line m t (λ u. with_ok (listed (scope_of program) list m list_limit) line m (λ l. with_ok (records l.values) line m (λ r. more (r ∷ []) 0 (go l.map u)))) (λ u. with_ok (listed (scope_of program) list m list_limit) line m (λ l. with_ok (records l.values) line m (λ r. more (r ∷ []) 0 (on l.map u)))) (λ u lt. with_ok-same (listed (scope_of program) list m list_limit) line m (λ l. with_ok (records l.values) line m (λ r. more (r ∷ []) 0 (go l.map u))) (λ l. with_ok (records l.values) line m (λ r. more (r ∷ []) 0 (on l.map u))) (λ l. ap (λ x. with_ok (records l.values) line m (λ r. more (r ∷ []) 0 x)) (same l.map u (omega arith))))
+      let items = listed (scope_of program) list m list_limit in
+      turn-same line m t (λ u. with_list items line (λ vs n. with_ok (records vs) line n (λ r. more (r ∷ []) 0 (go n u)))) (λ u. with_list items line (λ vs n. with_ok (records vs) line n (λ r. more (r ∷ []) 0 (on n u)))) (λ u lt. with_list-same items line (λ vs n. with_ok (records vs) line n (λ r. more (r ∷ []) 0 (go n u))) (λ vs n. with_ok (records vs) line n (λ r. more (r ∷ []) 0 (on n u))) (λ vs n. ap (λ x. with_ok (records vs) line n (λ r. more (r ∷ []) 0 x)) (same n u (omega arith))))
 
   assigned-same : (s : Scope) (target : List ℕ) (es : ExprsTree) (e : ExprTree) (line : ℕ) (m : Map) (t : ℕ) (go on : Follow) → Same t go on → assigned s target es e line m t go ≡ assigned s target es e line m t on
   assigned-same s target es e line m t go on same =

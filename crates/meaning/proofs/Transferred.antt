@@ -19,12 +19,12 @@ use Rattle.meaning.specs.LabelRules.{has_label, transfers_of, not_executable, is
 use Rattle.meaning.specs.LoopRules.{breaks_loops}
 use Rattle.meaning.specs.Rules.{broken_items, broken_lists, checked}
 use Rattle.meaning.specs.Scopes.{scope_of, Definition, defined_by}
-use Rattle.meaning.specs.Lists.{listed, list_limit}
+use Rattle.meaning.specs.Lists.{Listed, listed, list_limit}
 use Rattle.meaning.specs.Trips.{Span, span_of, trips}
 use Rattle.meaning.specs.Maps.{Map, put}
 use Rattle.meaning.specs.Values.{Scope, value, subscripts, dimensions_in, as_integer, as_logical, integer}
 use Rattle.meaning.specs.Records.{edited}
-use Rattle.meaning.specs.Execution.{Outcome, normal, jump, stopped, fault, Ran, more, ended, ended_by, turn, with_ok, parts_for, output, assigned, unless_defined, picked_by, nth_label, by_count, by_sign, Meaning, Follow, Next, onward, at_label, Ways, goes_on, goes_on_by, leads_on, leads_on_by, simple, step, added, fold_trips, trips_from, looped, while_of, ways_again, repeated, loop_by, condition_of, holds, turn_if, tested, arms_from, heads, labelled, goes_at, ways_in, pass_over, fuelled, exec}
+use Rattle.meaning.specs.Execution.{Outcome, normal, jump, stopped, fault, Ran, more, ended, ended_by, turn, with_ok, parts_for, with_list, output, assigned, unless_defined, picked_by, nth_label, by_count, by_sign, Meaning, Follow, Next, onward, at_label, Ways, goes_on, goes_on_by, leads_on, leads_on_by, simple, step, added, fold_trips, trips_from, looped, while_of, ways_again, repeated, loop_by, condition_of, holds, turn_if, tested, arms_from, heads, labelled, goes_at, ways_in, pass_over, fuelled, exec}
 use Rattle.meaning.proofs.Keeping.{or-parts}
 use Rattle.meaning.proofs.Lasting.{none_of_both, not_told, nothing_broken}
 
@@ -223,6 +223,11 @@ module _ (outer : List ItemTree) where
   with_ok-inside (Ok x) line m go inside = inside x
   with_ok-inside (Err k) line m go inside = failed-inside k line m
 
+  with_list-inside : (r : Listed) (line : ℕ) (go : List Value → Map → Ran) → ((vs : List Value) (n : Map) → Inside outer (go vs n)) → Inside outer (with_list r line go)
+  unfolding with_list
+  with_list-inside (Ok l) line go inside = inside l.values l.map
+  with_list-inside (Err f) line go inside = failed-inside f.kind line f.map
+
   if-inside : (b : Bool) (x y : Ran) → Inside outer x → Inside outer y → Inside outer (if b then x else y)
   if-inside true x y h k = h
   if-inside false x y h k = k
@@ -277,7 +282,7 @@ module _ (outer : List ItemTree) where
       output-inside source list line m t go follow =
           let records : List Value → Result (List ℕ) FaultKind = λ vs. edited (parts_for program source) vs in
           let items = listed (scope_of program) list m list_limit in
-          turn-inside line m t (λ u. with_ok items line m (λ l. with_ok (records l.values) line m (λ r. more (r ∷ []) 0 (go l.map u)))) (λ u. with_ok-inside items line m (λ l. with_ok (records l.values) line m (λ r. more (r ∷ []) 0 (go l.map u))) (λ l. with_ok-inside (records l.values) line m (λ r. more (r ∷ []) 0 (go l.map u)) (λ r. more-inside (r ∷ []) 0 (go l.map u) (follow l.map u))))
+          turn-inside line m t (λ u. with_list items line (λ vs n. with_ok (records vs) line n (λ r. more (r ∷ []) 0 (go n u)))) (λ u. with_list-inside items line (λ vs n. with_ok (records vs) line n (λ r. more (r ∷ []) 0 (go n u))) (λ vs n. with_ok-inside (records vs) line n (λ r. more (r ∷ []) 0 (go n u)) (λ r. more-inside (r ∷ []) 0 (go n u) (follow n u))))
 
       assigned-inside : (s : Scope) (target : List ℕ) (es : ExprsTree) (e : ExprTree) (line : ℕ) (m : Map) (t : ℕ) (go : Follow) → FollowInside outer go → Inside outer (assigned s target es e line m t go)
       assigned-inside s target es e line m t go follow =

@@ -11,7 +11,7 @@ use Rattle.meaning.specs.Formats.{Parts, no_parts, descriptors_of, format_in, un
 use Rattle.meaning.specs.Records.{edited}
 use Rattle.meaning.specs.LabelRules.{has_label}
 use Rattle.meaning.specs.Scopes.{scope_of, Definition, defined_by}
-use Rattle.meaning.specs.Lists.{listed, list_limit}
+use Rattle.meaning.specs.Lists.{Listed, listed, list_limit}
 use Rattle.meaning.specs.Maps.{Map, put}
 use Rattle.meaning.specs.Values.{Scope, Valued, value, subscripts, dimensions_in, as_integer, as_logical, integer}
 
@@ -119,11 +119,16 @@ parts_for program (format_constant text) = unwrap_or (format_in (undoubled text)
 
 -- ---- one statement, and then what follows it
 
--- the values of the whole list, then their records, then one piece (12.8 and 12.9.4.2). A fault of these leaves the map from
--- before the list, whatever variables of implied DOs were set: no statement is executed behind a fault
+-- goes on with the values of a list and the map behind them, or faults at the line with the map that its fault left
+unfoldable pub with_list : Listed → ℕ → (List Value → Map → Ran) → Ran
+with_list (Ok l) line go = go l.values l.map
+with_list (Err f) line go = failed f.kind line f.map
+
+-- the values of the whole list, then their records, then one piece (12.8 and 12.9.4.2). A fault writes nothing of the statement, and
+-- variables of implied DOs keep what they were given before it (own)
 abbrev pub output : List ItemTree → FormatTree → ListItemsTree → ℕ → Map → ℕ → Follow → Ran
 output program source list line m t go =
-    turn line m t (λ u. with_ok (listed (scope_of program) list m list_limit) line m (λ l. with_ok (edited (parts_for program source) l.values) line m (λ records. more (records ∷ []) 0 (go l.map u))))
+    turn line m t (λ u. with_list (listed (scope_of program) list m list_limit) line (λ vs n. with_ok (edited (parts_for program source) vs) line n (λ records. more (records ∷ []) 0 (go n u))))
 
 -- the subscripts on the left, then the value, then the place has it (10.1, own)
 abbrev pub assigned : Scope → List ℕ → ExprsTree → ExprTree → ℕ → Map → ℕ → Follow → Ran

@@ -20,6 +20,7 @@ pub mod Scopes
 pub mod Typing
 pub mod Uses
 pub mod NameRules
+pub mod Names
 pub mod NumberRules
 pub mod Surroundings
 pub mod LabelRules

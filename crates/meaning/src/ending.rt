@@ -1,6 +1,7 @@
 //! Values, faults and how a run ends.
 
-ghost use Rattle.std.specs.Prelude.{◌≡◌, bytes_eq};
+ghost use Rattle.std.specs.Prelude.{◌≡◌, Some, bytes_eq};
+ghost use Rattle.meaning.specs.Names.{fault_name};
 ghost use Rattle.std.specs.Cmp.{partial_equiv_from_equiv};
 ghost use Rattle.std.specs.Cmp.Lexicographic.{nat_list_eq_equiv};
 
@@ -38,9 +39,12 @@ pub enum FaultKind {
     F8,
 }
 
-impl fmt::Display for FaultKind {
-    fn fmt<W: fmt::Write>(&self, f: &mut fmt::Formatter<W>) -> fmt::Result {
-        let name = match self {
+impl FaultKind {
+    /// The name that the program prints.
+    pub fn name(self) -> &'static str
+        ensures { result.now ≡ fault_name self }
+    {
+        match self {
             FaultKind::F1 => "F1",
             FaultKind::F2 => "F2",
             FaultKind::F3 => "F3",
@@ -49,8 +53,15 @@ impl fmt::Display for FaultKind {
             FaultKind::F6 => "F6",
             FaultKind::F7 => "F7",
             FaultKind::F8 => "F8",
-        };
-        write!(f, "{name}")
+        }
+    }
+}
+
+impl fmt::Display for FaultKind {
+    ghost output = { λ kind. Some (fault_name kind) };
+
+    fn fmt<W: fmt::Write>(&self, f: &mut fmt::Formatter<W>) -> fmt::Result {
+        f.write_str(self.name())
     }
 }
 

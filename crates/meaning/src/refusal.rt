@@ -1,6 +1,7 @@
 //! Why a source is refused.
 
-ghost use Rattle.std.specs.Prelude.{◌≡◌};
+ghost use Rattle.std.specs.Prelude.{◌≡◌, Some};
+ghost use Rattle.meaning.specs.Names.{rule_name};
 ghost use Rattle.meaning.specs.Ranks.{rank_of};
 ghost use Rattle.meaning.specs.Refusals.{merge};
 ghost use Rattle.meaning.specs.declared.refusal.Refusal.TheVariants.{Memory};
@@ -93,9 +94,12 @@ impl Rule {
     }
 }
 
-impl fmt::Display for Rule {
-    fn fmt<W: fmt::Write>(&self, f: &mut fmt::Formatter<W>) -> fmt::Result {
-        let name = match self {
+impl Rule {
+    /// The name that the program prints.
+    pub fn name(self) -> &'static str
+        ensures { result.now ≡ rule_name self }
+    {
+        match self {
             Rule::C1 => "C1",
             Rule::C2 => "C2",
             Rule::C3 => "C3",
@@ -124,8 +128,15 @@ impl fmt::Display for Rule {
             Rule::K11 => "K11",
             Rule::K12 => "K12",
             Rule::K13 => "K13",
-        };
-        write!(f, "{name}")
+        }
+    }
+}
+
+impl fmt::Display for Rule {
+    ghost output = { λ rule. Some (rule_name rule) };
+
+    fn fmt<W: fmt::Write>(&self, f: &mut fmt::Formatter<W>) -> fmt::Result {
+        f.write_str(self.name())
     }
 }
 

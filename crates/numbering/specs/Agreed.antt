@@ -10,6 +10,7 @@ use Rattle.meaning.specs.Trees.{members_tree, nested}
 use Rattle.meaning.specs.Syntax.{exprs_tree, no_exprs}
 use Rattle.meaning.specs.Formats.{Parts as FormatParts, format_in, undoubled}
 use Rattle.format_edit.specs.declared.format.Format.{Format}
+use Rattle.format_edit.specs.Constants.{constant_format}
 use Rattle.format_edit.specs.Formatted.{descriptors}
 use Rattle.landmarks.specs.Landmarked.{AreLandmarks}
 use Rattle.roles.specs.Keeping.{kept_at}
@@ -23,14 +24,14 @@ use Rattle.numbering.specs.Whereabouts.{where_in}
 abbrev pub found_in : BTreeMap ℕ Format → ℕ → Option FormatParts
 found_in formats s = option_map descriptors (get nat_cmp formats s)
 
--- a format that is kept of a character constant is the one in it
+-- a format that stands in a character constant
 abbrev pub IsReadFrom : List ℕ → Option Format → Type 0
 IsReadFrom text None = Unit {0}
 IsReadFrom text (Some f) = format_in (undoubled text) ≡ Some (descriptors f)
 
--- each of them is
-abbrev pub AreRead : {S : Type 0} → IndexMap (Vec ℕ) Format S → Type 0
-AreRead m = (text : List ℕ) → IsReadFrom text (kept_at m text)
+-- the format that is kept of a character constant
+abbrev pub text_in : {S : Type 0} → IndexMap (Vec ℕ) Format S → List ℕ → Option FormatParts
+text_in m text = option_map descriptors (kept_at m text)
 
 pub record IsNumbered (p : Parts) : Type 0 where
   pub accepted : checked (nested p.tree) ≡ Ok (nested p.tree)
@@ -46,5 +47,5 @@ pub record IsNumbered (p : Parts) : Type 0 where
   pub started : (n : List ℕ) (ss : List ℤ) → map_of p.tree p.starts.items n ss ≡ start_in p.tree n ss
   pub small : (s : ℕ) → 2 ^ 32 ≤ s → format_found (items_in p.tree) s ≡ None
   pub formatted : (s : ℕ) → found_in p.formats s ≡ format_found (items_in p.tree) s
-  pub read : AreRead p.texts
+  pub read : (text : List ℕ) → text_in p.texts text ≡ constant_format (items_in p.tree) text
   pub marked : AreLandmarks (members_tree p.tree.body.items) p.landmarks

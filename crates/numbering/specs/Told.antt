@@ -5,6 +5,7 @@ use Rattle.meaning.specs.declared.syntax.Tree.{Tree}
 use Rattle.meaning.specs.Characters.{number_of}
 use Rattle.meaning.specs.Execution.{format_found}
 use Rattle.meaning.specs.Formats.{Parts}
+use Rattle.format_edit.specs.Constants.{constant_format}
 use Rattle.expressions.specs.declared.numbering.Cells.{Cells}
 use Rattle.expressions.specs.declared.numbering.Named.{Named}
 use Rattle.expressions.specs.Names.{IsArray, IsNamed}
@@ -27,6 +28,10 @@ TellsArray s o r = (t : Tree) (n : List ℕ) → count_in t < 2 ^ 64 → AreCell
 -- the format of the label that digits spell
 abbrev pub format_at : Tree → List ℕ → Option Parts
 format_at t digits = format_found (items_in t) (number_of digits)
+
+-- the format in a character constant that is the format of a statement
+abbrev pub text_format_at : Tree → List ℕ → Option Parts
+text_format_at t text = constant_format (items_in t) text
 
 -- each cell's value is what its variable or array element starts with
 abbrev pub AreStarts : Tree → List ℤ → Type 0

@@ -1,6 +1,6 @@
 //! What is kept beside the tree of a program (ANSI X3.9-1978, 2.5, 2.12, 8.6 and 15.4).
 
-use expressions::Dimension;
+use expressions::Dimensions;
 use format_edit::Format;
 use indexmap::IndexMap;
 use landmarks::Landmarks;
@@ -14,7 +14,7 @@ pub struct Storage {
     /// The number of the first cell.
     pub first: usize,
     /// The dimensions, none for a variable.
-    pub dimensions: Vec<Dimension>,
+    pub dimensions: Dimensions,
 }
 
 /// What is kept of a name.

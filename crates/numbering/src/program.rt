@@ -9,7 +9,7 @@ ghost use Rattle.landmarks.specs.Places.{place_in};
 ghost use Rattle.format_edit.specs.Formatted.{descriptors};
 ghost use Rattle.numbering.specs.Checked.{count_in, names_in, numbers_in};
 ghost use Rattle.numbering.specs.Agreed.{IsNumbered, IsReadFrom};
-ghost use Rattle.numbering.specs.Told.{AreStarts, format_at};
+ghost use Rattle.numbering.specs.Told.{AreStarts, format_at, text_format_at};
 
 use crate::parts::Parts;
 use crate::queries::{
@@ -91,9 +91,12 @@ impl Program {
         is_loud_in_parts(&self.parts, line)
     }
 
-    /// The format in a character constant, if one is kept (ANSI X3.9-1978, 12.4); it was read once.
+    /// The format in a character constant that is the format of a WRITE or PRINT statement of the program (ANSI X3.9-1978, 12.4); it
+    /// was read once. `None` where no statement has that constant.
     pub fn text_format(&self, text: &[u8]) -> Option<&Format>
-        ensures { IfSome result (λ f. IsReadFrom text.now (Some f.now)) }
+        ensures kept { option_map (λ f. descriptors f.now) result ≡
+            text_format_at self.now text.now }
+        ensures read { IfSome result (λ f. IsReadFrom text.now (Some f.now)) }
     {
         text_format_in(&self.parts, text)
     }

@@ -6,7 +6,7 @@ ghost use Rattle.expressions.specs.Names.{IsFunction};
 ghost use Rattle.numbering.specs.Agreed.{IsNumbered};
 ghost use Rattle.numbering.specs.Checked.{names_in};
 ghost use Rattle.numbering.specs.Kept.{IsStored, Says, StartsWithByte, by_first, function_by, shown_at, shown_by};
-ghost use Rattle.numbering.specs.Told.{IsArrayIn, IsNamedIn, TellsArray, format_at};
+ghost use Rattle.numbering.specs.Told.{IsArrayIn, IsNamedIn, TellsArray, format_at, text_format_at};
 ghost use Rattle.numbering.specs.Whereabouts.{IsPlace, Whereabouts, where_in};
 ghost use Rattle.meaning.specs.Characters.{number_of};
 ghost use Rattle.meaning.specs.Formats.{format_in as format_in_text, undoubled};
@@ -207,10 +207,13 @@ pub(crate) fn format_in<'a>(parts: &'a Parts, digits: &[u8]) -> Option<&'a Forma
     parts.formats.get(&label)
 }
 
-/// The format in a character constant, if one is kept.
+/// The format in a character constant that is the format of a statement.
 pub(crate) fn text_format_in<'a>(parts: &'a Parts, text: &[u8]) -> Option<&'a Format>
     requires { IsNumbered parts.now }
-    ensures { IfSome result (λ f. format_in_text (undoubled text.now) ≡ Some (descriptors f.now)) }
+    ensures kept { option_map (λ f. descriptors f.now) result ≡
+        text_format_at parts.now.tree text.now }
+    ensures read { IfSome result
+        (λ f. format_in_text (undoubled text.now) ≡ Some (descriptors f.now)) }
 {
     parts.texts.get(text)
 }

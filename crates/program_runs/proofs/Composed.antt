@@ -25,7 +25,7 @@ use Rattle.evaluator.proofs.Executed.{fault_at, one_less, added_goes, added_fail
 use Rattle.evaluator.proofs.Looped.{from_place, behind_place, at_place, at_end_of, trips_left, behind_range, at_trip, at_last_trip, arms_left, after_test, do_is, while_comes}
 use Rattle.program_runs.specs.declared.halt.Halt.{Halt}
 use Rattle.program_runs.specs.declared.halt.Halt.TheVariants as halts
-use Rattle.program_runs.specs.Walk.{IsLeft, IsOver, Halts, Runs, GoesOn, Steps, GoesAgain, Passes, SoFar, Ends}
+use Rattle.program_runs.specs.Walk.{IsOver, Halts, Runs, GoesOn, Steps, GoesAgain, Passes, SoFar, Ends}
 use Rattle.record_sinks.proofs.Taken.{Took-none, Took-then, Took-refused}
 
 pub concat-append : (xs ys : List (List ℕ)) → concat (xs ++ ys) ≡ concat xs ++ concat ys
@@ -98,7 +98,7 @@ unfolding more
 over_more ps n r given t m left o old mid new e took x =
     record {
       outcome = x.outcome;
-      leaves = x.leaves;
+      after = x.after;
       turns = add_turns n r.used left t given e x.turns;
       bytes = subst (λ bs. Took old new bs) (sym (concat-append ps r.pieces)) (Took-then old mid new (concat ps) (concat r.pieces) took x.bytes);
     }
@@ -124,14 +124,8 @@ module _ (whole rest : Ran) (given t : ℕ) (old mid new : Told) (s : SoFar whol
   halts_along h x =
       subst (λ ps. Halts ps h old new) (sym (ap (λ (r : Ran). r.pieces) s.is ∙ pieces-more s.pieces s.used rest)) (halts_behind s.pieces rest.pieces h old mid new s.bytes x)
 
-left_by : (o : Outcome) (n m : Map) → n ≡ m → IsLeft o n m
-left_by outcomes.Normal n m e = e
-left_by (outcomes.Left s) n m e = e
-left_by (outcomes.Stopped line) n m e = e
-left_by (outcomes.Fault f) n m e = tt
-
 nothing_over : (o : Outcome) (m : Map) (t : ℕ) (a : Told) → IsOver (ended_by (outcome_of o) m) t m t o a a
-nothing_over o m t a = record { outcome = refl; leaves = left_by o m m refl; turns = omega arith; bytes = Took-none a }
+nothing_over o m t a = record { outcome = refl; after = refl; turns = omega arith; bytes = Took-none a }
 
 pub over_at_end : (whole rest : Ran) (given t : ℕ) (m : Map) (o : Outcome) (old new : Told) → rest ≡ ended_by (outcome_of o) m → SoFar whole rest given t old new → IsOver whole given m t o old new
 over_at_end whole rest given t m o old new e s =
@@ -141,7 +135,7 @@ over_at_end whole rest given t m o old new e s =
 
 pub quiet_over : (r : Ran) (given : ℕ) (m : Map) (left : ℕ) (o : Outcome) (a : Told) → Leaves r given m left o → IsOver r given m left o a a
 quiet_over r given m left o a x =
-    record { outcome = x.outcome; leaves = left_by o r.map m x.after; turns = x.turns; bytes = subst (λ ps. Took a a (concat ps)) (sym x.nothing) (Took-none a) }
+    record { outcome = x.outcome; after = x.after; turns = x.turns; bytes = subst (λ ps. Took a a (concat ps)) (sym x.nothing) (Took-none a) }
 
 pub steps_quietly : (does : Ways → Ran) (given : ℕ) (m : Map) (left : ℕ) (o : Outcome) (a : Told) → Moves does given m left o → Steps does given m left (Ok o) a a
 steps_quietly does given m left outcomes.Normal a h = record { pieces = []; used = h.used; is = h.is; turns = h.turns; bytes = Took-none a }
@@ -165,9 +159,9 @@ halts_lead_by (fault k line) r given h old new go x = x
 pub steps_on : (r : Ran) (given : ℕ) (m : Map) (left : ℕ) (o : Result Outcome Halt) (old new : Told) → Runs r given m left o old new → Steps (λ go. leads_on r given go) given m left o old new
 unfolding leads_on
 steps_on r given m left (Ok outcomes.Normal) old new x =
-    record { pieces = r.pieces; used = r.used; is = λ go. ap (λ o. leads_on_by o r given go) x.outcome ∙ (λ i. more r.pieces r.used (go onward (x.leaves i) (what_is_left r.used left given x.turns i))); turns = x.turns; bytes = x.bytes }
+    record { pieces = r.pieces; used = r.used; is = λ go. ap (λ o. leads_on_by o r given go) x.outcome ∙ (λ i. more r.pieces r.used (go onward (x.after i) (what_is_left r.used left given x.turns i))); turns = x.turns; bytes = x.bytes }
 steps_on r given m left (Ok (outcomes.Left s)) old new x =
-    record { pieces = r.pieces; used = r.used; is = λ go. ap (λ o. leads_on_by o r given go) x.outcome ∙ (λ i. more r.pieces r.used (go (at_label s) (x.leaves i) (what_is_left r.used left given x.turns i))); turns = x.turns; bytes = x.bytes }
+    record { pieces = r.pieces; used = r.used; is = λ go. ap (λ o. leads_on_by o r given go) x.outcome ∙ (λ i. more r.pieces r.used (go (at_label s) (x.after i) (what_is_left r.used left given x.turns i))); turns = x.turns; bytes = x.bytes }
 steps_on r given m left (Ok (outcomes.Stopped line)) old new x =
     λ go. subst (λ s. IsOver s given m left (outcomes.Stopped line) old new) (sym (ap (λ o. leads_on_by o r given go) x.outcome)) x
 steps_on r given m left (Ok (outcomes.Fault f)) old new x =
@@ -287,7 +281,7 @@ halts_then_by (fault k line) r given h old new go x = x
 over_goes : (r : Ran) (given : ℕ) (m : Map) (left : ℕ) (old new : Told) → IsOver r given m left outcomes.Normal old new → (go : Follow) → goes_on r given go ≡ more r.pieces r.used (go m left)
 unfolding goes_on
 over_goes r given m left old new x go =
-    ap (λ o. goes_on_by o r given go) x.outcome ∙ (λ i. more r.pieces r.used (go (x.leaves i) (what_is_left r.used left given x.turns i)))
+    ap (λ o. goes_on_by o r given go) x.outcome ∙ (λ i. more r.pieces r.used (go (x.after i) (what_is_left r.used left given x.turns i)))
 
 over_stays : (r : Ran) (given : ℕ) (m : Map) (left : ℕ) (o : Outcome) (old new : Told) → IsEnd o → IsOver r given m left o old new → (go : Follow) → goes_on r given go ≡ r
 unfolding goes_on

@@ -2,6 +2,5 @@ pub mod Composed
 pub mod Written
 pub mod Promised
 pub mod Unit
-pub mod Located
 pub mod Told
 pub mod Allowing

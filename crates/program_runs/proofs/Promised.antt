@@ -1,6 +1,5 @@
 -- The three cases of the main theorem, of a program.
-use Rattle.std.proofs.Common.{ℕ, [], Ok, Some, inl, inr, refl, sym, ap₂, ◌∙◌, subst}
-use Rattle.std.proofs.lemmas.List.{append-nil}
+use Rattle.std.proofs.Common.{ℕ, Ok, Some, refl, sym, ap₂, ◌∙◌}
 use Rattle.std.specs.List.{concat}
 use Rattle.meaning.specs.declared.ending.Report.{Report}
 use Rattle.meaning.specs.declared.ending.Run.{Run}
@@ -12,18 +11,9 @@ use Rattle.program_runs.specs.Reported.{IsReportOf}
 use Rattle.program_runs.specs.Walk.{HasEnded}
 
 module _ (limit : ℕ) (t : Nested) (old new : Told) where
-  -- memory was refused behind all pieces
-  keeps_all : (run : Run) → HasEnded (run_of t limit) run old new → Keeps (answer_of (Ok t) limit) old new endings.Memory
-  keeps_all run over =
-      cut_short (record {
-        bytes = record { taken = (run_of t limit).pieces; left = []; parts = sym (append-nil (run_of t limit).pieces); after = over.bytes };
-        says_so = refl;
-      })
-
   pub keeps_reported : (run : Run) (r : Report) → HasEnded (run_of t limit) run old new → IsReportOf (flatten t) run r → Keeps (answer_of (Ok t) limit) old new r
-  keeps_reported run r over (inl is) =
+  keeps_reported run r over is =
       whole (record { bytes = over.bytes; same_ending = is ∙ ap₂ (λ o n. report (ending_of (flatten t) o) (Some n)) (sym over.outcome) (sym over.turns) })
-  keeps_reported run r over (inr is) = subst (λ x. Keeps (answer_of (Ok t) limit) old new x) (sym is) (keeps_all run over)
 
   pub keeps_front : IsFront (run_of t limit).pieces old new → Keeps (answer_of (Ok t) limit) old new endings.Memory
   keeps_front front = cut_short (record { bytes = front; says_so = refl })

@@ -1,5 +1,5 @@
 -- WRITE and PRINT statements.
-use Rattle.std.proofs.Common.{◌≡◌, ℕ, suc, true, List, [], ◌∷◌, ◌++◌, if◌then◌else◌, Some, None, Result, Ok, Err, refl, sym, ap, ◌∙◌, subst, append_assoc}
+use Rattle.std.proofs.Common.{◌≡◌, ℕ, suc, true, List, [], ◌∷◌, ◌++◌, if◌then◌else◌, Some, None, Result, Ok, Err, refl, sym, ap, ◌∙◌, subst, append_assoc, arith}
 use Rattle.std.specs.Prelude.{not, IsTrue, is_some}
 use Rattle.std.proofs.lemmas.Bool.{false≢true}
 use Rattle.std.specs.Global.{Vec}
@@ -10,80 +10,78 @@ use Rattle.meaning.specs.declared.ending.FaultKind.{FaultKind}
 use Rattle.meaning.specs.declared.ending.FaultKind.TheVariants.{F4}
 use Rattle.meaning.specs.declared.ending.Value.{Value}
 use Rattle.meaning.specs.Scopes.{scope_of}
-use Rattle.meaning.specs.Lists.{Listed, listed, list_limit}
+use Rattle.meaning.specs.Lists.{Listed, faulted, listed, list_limit}
 use Rattle.meaning.specs.Maps.{Map}
 use Rattle.meaning.specs.Syntax.{ExprTree, FormatTree, ListItemsTree, ShapeTree, writing, printing, logical_if, ItemTree}
-use Rattle.meaning.specs.Values.{and_then, value, as_logical}
+use Rattle.meaning.specs.Values.{value, as_logical}
 use Rattle.meaning.specs.Records.{edited}
-use Rattle.meaning.specs.Execution.{Ran, more, Ways, onward, turn, with_ok, output, parts_for, simple, step}
+use Rattle.meaning.specs.Execution.{Ran, more, failed, Ways, onward, turn, with_ok, with_list, output, parts_for, simple, step}
 use Rattle.meaning.specs.Promise.{Told, Took, IsBroken}
 use Rattle.meaning.proofs.Running.{more-more}
 use Rattle.evaluator.specs.Listing.{Gives}
 use Rattle.landmarks.specs.Quiet.{output_in, is_writing}
 use Rattle.programs.specs.Asked.{is_logical_if}
 use Rattle.evaluator.specs.Statements.{Leaves, Moves, Comes}
-use Rattle.evaluator.proofs.Executed.{fault_at, one_less, turn_none, turn_goes, turn_fails}
-use Rattle.program_runs.specs.Recorded.{AreEdited, AreRecorded, recorded}
+use Rattle.evaluator.proofs.Executed.{fault_at, one_less, turn_none, turn_some, turn_goes}
+use Rattle.program_runs.specs.Recorded.{AreEdited, AreRecorded, recorded_by, recorded}
 use Rattle.program_runs.specs.Walk.{GoesOn, IsOver, output_as}
-use Rattle.program_runs.proofs.Composed.{pieces-more, quiet_over}
+use Rattle.program_runs.proofs.Composed.{pieces-more}
+use Rattle.record_sinks.proofs.Taken.{Took-none}
 
 -- ---- the records
 
-with_ok-edited : (r : Result (List ℕ) FaultKind) (n : Map) (line : ℕ) (m : Map) (go : List ℕ → Map → Ran) → with_ok r line m (λ records. go records n) ≡ with_ok {A = List ℕ × Map} (and_then r (λ records. Ok (records, n))) line m (λ p. go p.0 p.1)
-unfolding with_ok and_then
-with_ok-edited (Ok records) n line m go = refl
-with_ok-edited (Err k) n line m go = refl
-
-with_ok-listed : (r : Listed) (f : List Value → Result (List ℕ) FaultKind) (line : ℕ) (m : Map) (go : List ℕ → Map → Ran) → with_ok r line m (λ l. with_ok (f l.values) line m (λ records. go records l.map)) ≡ with_ok {A = List ℕ × Map} (and_then r (λ l. and_then (f l.values) (λ records. Ok (records, l.map)))) line m (λ p. go p.0 p.1)
-unfolding with_ok and_then
-with_ok-listed (Ok l) f line m go = with_ok-edited (f l.values) l.map line m go
-with_ok-listed (Err k) f line m go = refl
+with_list-recorded : (r : Listed) (f : List Value → Result (List ℕ) FaultKind) (line : ℕ) (go : List ℕ → Map → Ran) → with_list r line (λ vs n. with_ok (f vs) line n (λ records. go records n)) ≡ with_ok (recorded_by f r).0 line (recorded_by f r).1 (λ records. go records (recorded_by f r).1)
+unfolding with_list with_ok
+with_list-recorded (Ok l) f line go = refl
+with_list-recorded (Err k) f line go = refl
 
 module _ (all : List ItemTree) (source : FormatTree) (list : ListItemsTree) (m : Map) where
-  pub list_fails : (k : FaultKind) (n : Map) → listed (scope_of all) list m list_limit ≡ Err k → AreRecorded (Err k) n (recorded all source list m)
-  unfolding and_then
-  list_fails k n h = rw h refl
+  pub list_fails : (k : FaultKind) (n : Map) → listed (scope_of all) list m list_limit ≡ faulted k n → AreRecorded (Err k) n (recorded all source list m)
+  list_fails k n h = rw h (refl, refl)
 
   pub list_recorded : (vs : List Value) (n : Map) (r : Result (Vec ℕ) FaultKind) → Gives (listed (scope_of all) list m list_limit) vs n → AreEdited r (edited (parts_for all source) vs) → AreRecorded r n (recorded all source list m)
-  unfolding and_then
-  list_recorded vs n (Ok v) h made = rw h.is (rw made refl)
-  list_recorded vs n (Err k) h made = rw h.is (rw made refl)
+  list_recorded vs n r h made = rw h.is (made, refl)
 
 -- ---- the statement
 
 module _ (all : List ItemTree) (source : FormatTree) (list : ListItemsTree) (line : ℕ) (m : Map) (t : ℕ) where
-  abbrev made : Result (List ℕ × Map) FaultKind
+  abbrev made : Result (List ℕ) FaultKind × Map
   made = recorded all source list m
 
   abbrev whole : Ways → Ran
   whole go = output_as all source list line m t go
 
-  abbrev puts_it : Ways → List ℕ × Map → ℕ → Ran
-  puts_it go p u = more (p.0 ∷ []) 0 (go onward p.1 u)
+  abbrev puts_it : Ways → List ℕ → ℕ → Ran
+  puts_it go records u = more (records ∷ []) 0 (go onward made.1 u)
 
-  writes_it : (go : Ways) → whole go ≡ turn line m t (λ u. with_ok made line m (λ p. puts_it go p u))
-  writes_it go = λ i. turn line m t (λ u. with_ok-listed (listed (scope_of all) list m list_limit) (edited (parts_for all source)) line m (λ records n. more (records ∷ []) 0 (go onward n u)) i)
+  writes_it : (go : Ways) → whole go ≡ turn line m t (λ u. with_ok made.0 line made.1 (λ records. puts_it go records u))
+  writes_it go = λ i. turn line m t (λ u. with_list-recorded (listed (scope_of all) list m list_limit) (λ vs. edited (parts_for all source) vs) line (λ records n. more (records ∷ []) 0 (go onward n u)) i)
 
   -- no turn is left
   pub unwritten : (u : ℕ) → t ≡ 0 → u ≡ 0 → Moves whole t m u (fault_at F4 line)
   unwritten u zero-left left go =
-      subst (λ r. Leaves r t m u (fault_at F4 line)) (sym (writes_it go)) (turn_none line m t u (λ k. with_ok made line m (λ p. puts_it go p k)) zero-left left)
+      subst (λ r. Leaves r t m u (fault_at F4 line)) (sym (writes_it go)) (turn_none line m t u (λ k. with_ok made.0 line made.1 (λ records. puts_it go records k)) zero-left left)
 
   module _ (u : ℕ) (taken : t ≡ suc u) where
-    fails : (k : FaultKind) → made ≡ Err k → (go : Ways) → Leaves (whole go) t m u (fault_at k line)
-    fails k h go =
-        subst (λ r. Leaves r t m u (fault_at k line)) (sym (writes_it go)) (turn_fails line m t u made k (λ p n. puts_it go p n) taken h)
+    turned : (go : Ways) (r : Result (List ℕ) FaultKind) → made.0 ≡ r → whole go ≡ more [] 1 (with_ok r line made.1 (λ records. puts_it go records u))
+    turned go r h =
+        writes_it go ∙ turn_some line m t u (λ k. with_ok made.0 line made.1 (λ records. puts_it go records k)) taken ∙ ap (λ q. more [] 1 (with_ok q line made.1 (λ records. puts_it go records u))) h
 
-    -- whatever map the cells stand for then
-    pub write_fails : (k : FaultKind) (n : Map) (a : Told) → made ≡ Err k → (go : Ways) → IsOver (whole go) t n u (fault_at k line) a a
+    fault_over : (k : FaultKind) (n p : Map) (a : Told) → p ≡ n → IsOver (more [] 1 (failed k line p)) t n u (fault_at k line) a a
+    unfolding more
+    fault_over k n p a e = record { outcome = refl; after = e; turns = omega arith; bytes = Took-none a }
+
+    -- a fault of the list or of its records
+    pub write_fails : (k : FaultKind) (n : Map) (a : Told) → (made.0 ≡ Err k) × (made.1 ≡ n) → (go : Ways) → IsOver (whole go) t n u (fault_at k line) a a
+    unfolding with_ok
     write_fails k n a h go =
-        let x = quiet_over (whole go) t m u (fault_at k line) a (fails k h go) in
-        record { outcome = x.outcome; leaves = tt; turns = x.turns; bytes = x.bytes }
+        subst (λ r. IsOver r t n u (fault_at k line) a a) (sym (turned go (Err k) h.0)) (fault_over k n made.1 a h.1)
 
-    module _ (n : Map) (records : List ℕ) (h : made ≡ Ok (records, n)) where
+    module _ (n : Map) (records : List ℕ) (h : (made.0 ≡ Ok records) × (made.1 ≡ n)) where
       one_piece : (go : Ways) → whole go ≡ more (records ∷ []) 1 (go onward n u)
+      unfolding with_ok
       one_piece go =
-          writes_it go ∙ turn_goes line m t u made (records, n) (λ p k. puts_it go p k) taken h ∙ more-more [] (records ∷ []) 1 0 (go onward n u)
+          turned go (Ok records) h.0 ∙ more-more [] (records ∷ []) 1 0 (go onward made.1 u) ∙ ap (λ x. more (records ∷ []) 1 (go onward x u)) h.1
 
       pub written_whole : (old new : Told) → Took old new records → GoesOn whole t onward n u old new
       written_whole old new took =

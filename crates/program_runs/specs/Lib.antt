@@ -1,6 +1,5 @@
 pub mod Allowed
 pub mod Conditions
-pub mod Located
 pub mod Quiet
 pub mod Recorded
 pub mod Walk

@@ -18,18 +18,10 @@ use Rattle.evaluator.specs.Statements.{outcome_of}
 
 -- ---- a run by itself, from turns that are given
 
--- the map that a run leaves. A fault says nothing of it: variables of implied DOs may have been set before a list faulted, and
--- no statement is executed behind a fault
-abbrev pub IsLeft : Outcome → Map → Map → Type 0
-IsLeft outcomes.Normal n m = n ≡ m
-IsLeft (outcomes.Left s) n m = n ≡ m
-IsLeft (outcomes.Stopped line) n m = n ≡ m
-IsLeft (outcomes.Fault f) n m = Unit {0}
-
 -- it ended so, with this map and so many turns left, and wrote all its pieces
 pub record IsOver (r : Ran) (given : ℕ) (m : Map) (left : ℕ) (o : Outcome) (old new : Told) : Type 0 where
   pub outcome : r.outcome ≡ outcome_of o
-  pub leaves : IsLeft o r.map m
+  pub after : r.map ≡ m
   pub turns : r.used + left ≡ given
   pub bytes : Took old new (concat r.pieces)
 

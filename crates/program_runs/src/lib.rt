@@ -5,8 +5,9 @@ mod halt;
 mod quiet_loops;
 mod run;
 mod statement;
-mod stopping;
 mod walk;
 
+pub use halt::Halt;
 pub use quiet_loops::{InOrder, QuietLoops};
 pub use run::run_program;
+pub use statement::execute_item;

@@ -1,6 +1,7 @@
 -- What a statement's execution needs is what the statement says (ANSI X3.9-1978, 10.1, chapter 11, 12.8 and 15.4).
 use Rattle.std.specs.Prelude.{◌≡◌, ◌⊎◌, ℕ, Bool, true, false, List, map, IsTrue, Option, None, IsSome}
 use Rattle.meaning.specs.declared.syntax.Tree.{Tree}
+use Rattle.meaning.specs.Answers.{told_by}
 use Rattle.meaning.specs.Characters.{number_of}
 use Rattle.meaning.specs.Scopes.{defined_by}
 use Rattle.meaning.specs.Syntax.{ExprTree, ExprsTree, LimitsTree, StopTree, ShapeTree, assignment, format, doing, continuing, typing, ending, naming, implying, logical_typing, dimensioning, parameter, initializing, definition, going, computed_going, arithmetic_if, logical_if, block_if, else_if, otherwise, end_if, stopping, doing_while, end_do, implicit_none}
@@ -76,9 +77,11 @@ pub record GoesBySign (t : Tree) (c : Code) (negative zero positive : ℕ) (s : 
   pub zero_is : number_of at_zero ≡ zero
   pub positive_is : number_of above ≡ positive
 
-pub record Stops (s : ShapeTree) : Type 0 where
+-- a STOP statement that tells this
+pub record Stops (message : List ℕ) (s : ShapeTree) : Type 0 where
   pub text : StopTree
   pub is : s ≡ stopping text
+  pub tells : told_by text ≡ message
 
 -- a logical IF whose statement acts so
 pub record Conditional (t : Tree) (c : Code) (acts : ShapeTree → Type 0) (s : ShapeTree) : Type 0 where
@@ -117,7 +120,7 @@ Acts t Continue s = (s ≡ continuing) ⊎ (s ≡ end_do)
 Acts t (GoTo label) s = Goes label s
 Acts t (ComputedGoTo labels c) s = GoesByCount t labels.items c s
 Acts t (ArithmeticIf c negative zero positive) s = GoesBySign t c negative zero positive s
-Acts t Stop s = Stops s
+Acts t (Stop message) s = Stops message s
 Acts t (Output list) s = AreItemsOf t (output_in s) list
 Acts t (If' c p a) s = Conditional t c (Acts t a) s
 Acts t (Test c) s = Tests t c s

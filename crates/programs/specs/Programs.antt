@@ -7,7 +7,7 @@ use Rattle.numbering.specs.Checked.{items_in}
 use Rattle.programs.specs.declared.action.Action.{Action}
 use Rattle.programs.specs.declared.program.Parts.{Parts}
 use Rattle.programs.specs.Acts.{Acts}
-use Rattle.programs.specs.Kept.{AreKept, AreFunctions}
+use Rattle.programs.specs.Kept.{AreKept, AreFunctions, HasNoOther}
 
 -- a statement of the program
 pub record IsStatement (t : Tree) (x : ItemTree) : Type 0 where
@@ -16,6 +16,7 @@ pub record IsStatement (t : Tree) (x : ItemTree) : Type 0 where
 
 pub record IsCoded (p : Parts) : Type 0 where
   pub kept : AreKept p.unit p.actions (items_in p.unit)
+  pub others : HasNoOther p.actions (items_in p.unit)
   pub functions : AreFunctions p.unit p.functions.items
 
 -- what is kept of a statement is what it needs

@@ -1,11 +1,16 @@
 //! What the execution of a statement needs.
 
+ghost use Rattle.std.specs.Prelude.{◌≡◌, []};
 ghost use Rattle.meaning.specs.declared.syntax.Tree.{Tree};
 ghost use Rattle.meaning.specs.Syntax.{ShapeTree};
 ghost use Rattle.programs.specs.Acts.{Acts};
 ghost use Rattle.programs.specs.Asked.{ConditionIs, ConditionalIs, ListIs, RepeatIs, WhileIs};
+ghost use Rattle.programs.specs.Kept.{message_in};
 
+use meaning::ending::StopMessage;
 use postfix::Code;
+use std::alloc::Global;
+use std::mem::replace;
 
 /// Where the value of an assignment goes (ANSI X3.9-1978, 10.1).
 #[derive(Drop)]
@@ -75,8 +80,8 @@ pub enum Action {
     ComputedGoTo(Vec<u32>, Code),
     /// An arithmetic IF: the code of its expression, and the labels for a negative value, zero and a positive one.
     ArithmeticIf(Code, u32, u32, u32),
-    /// STOP
-    Stop,
+    /// STOP, with what it tells.
+    Stop(StopMessage),
     /// WRITE or PRINT, with its list.
     Output(ListCodes),
     /// A logical IF: the code of its condition, and what its statement needs.
@@ -139,4 +144,31 @@ impl Action {
             _ => None,
         }
     }
+
+    /// Takes out what a STOP statement tells, also one under a logical IF; other statements tell nothing. No memory is allocated.
+    pub(crate) fn take_message(&mut self, alloc: Global) -> StopMessage
+        ensures { result ≡ message_in self.old }
+    {
+        match self {
+            Action::Stop(message) => replace(message, silence(alloc)),
+            Action::If(_, action) => action.take_message(alloc),
+            Action::Pass => silence(alloc),
+            Action::Assign(_, _) => silence(alloc),
+            Action::Continue => silence(alloc),
+            Action::GoTo(_) => silence(alloc),
+            Action::ComputedGoTo(_, _) => silence(alloc),
+            Action::ArithmeticIf(_, _, _, _) => silence(alloc),
+            Action::Output(_) => silence(alloc),
+            Action::Test(_) => silence(alloc),
+            Action::Repeat(_) => silence(alloc),
+            Action::While(_) => silence(alloc),
+        }
+    }
+}
+
+/// A message without characters. No memory is allocated.
+pub(crate) fn silence(alloc: Global) -> StopMessage
+    ensures { result ≡ [] }
+{
+    StopMessage::new(Vec::new(alloc))
 }

@@ -1,11 +1,13 @@
 //! What statements need, by their lines.
 
-ghost use Rattle.std.specs.Prelude.{◌≡◌, ◌≤◌, IfOk, [], Some, length, slice_get};
+ghost use Rattle.std.specs.Prelude.{◌≡◌, ◌≢◌, ◌≤◌, ℕ, IfOk, [], Some, length, slice_get};
 ghost use Rattle.std.specs.Option.{option_copied};
-ghost use Rattle.programs.specs.Kept.{Adds, StayIn, action_at};
+ghost use Rattle.programs.specs.Kept.{Adds, IsNowhere, StayIn, action_at, told_in};
 
 use crate::Action;
+use crate::action::silence;
 use compiler::NoCode;
+use meaning::ending::StopMessage;
 use std::alloc::Global;
 
 // No statement begins there.
@@ -16,6 +18,8 @@ fn put_at(places: &mut Vec<u32>, line: u32, place: u32) -> Result<(), NoCode>
     requires free { length places.old.items ≤ line }
     ensures put { IfOk result (λ _. slice_get places.new.items line ≡ Some place) }
     ensures kept { IfOk result (λ _. StayIn places.old.items places.new.items) }
+    ensures others { (other : ℕ) → other ≢ line → IfOk result (λ _.
+        IsNowhere (slice_get places.old.items other) → IsNowhere (slice_get places.new.items other)) }
 {
     places.resize(line as usize, NOWHERE)?;
     places.push(place)?;
@@ -69,6 +73,18 @@ impl Actions {
                 drop(action);
                 Err(reason)
             }
+        }
+    }
+    /// Takes out what the statement at a line tells. No memory is allocated.
+    pub(crate) fn take_message(&mut self, alloc: Global, line: u32) -> StopMessage
+        ensures { result ≡ told_in (action_at self.old line) }
+    {
+        match self.places.get(line as usize) {
+            Some(place) => match self.actions.get_mut(*place as usize) {
+                Some(action) => action.take_message(alloc),
+                None => silence(alloc),
+            },
+            None => silence(alloc),
         }
     }
 }

@@ -1,6 +1,7 @@
 //! Programs that keep the rules, with what their statements need.
 
 ghost use Rattle.std.specs.Prelude.{◌≡◌, ◌<◌, [], IfSome, Ok, Some, length, option_map};
+ghost use Rattle.meaning.specs.Answers.{message_at};
 ghost use Rattle.meaning.specs.Rules.{checked};
 ghost use Rattle.meaning.specs.Trees.{members_tree, nested};
 ghost use Rattle.landmarks.specs.Kept.{IsKept};
@@ -8,17 +9,19 @@ ghost use Rattle.landmarks.specs.Loud.{is_loud_in};
 ghost use Rattle.landmarks.specs.Places.{place_in};
 ghost use Rattle.format_edit.specs.Formatted.{descriptors};
 ghost use Rattle.numbering.specs.Agreed.{IsReadFrom};
-ghost use Rattle.numbering.specs.Told.{AreStarts, format_at};
+ghost use Rattle.numbering.specs.Told.{AreStarts, format_at, text_format_at};
 ghost use Rattle.numbering.specs.Checked.{count_in, items_in, names_in, numbers_in};
-ghost use Rattle.programs.specs.Kept.{AreFunctions, AreKept};
+ghost use Rattle.programs.specs.Kept.{AreFunctions, AreKept, HasNoOther};
 ghost use Rattle.programs.specs.Programs.{IsActionAt};
 
 use crate::Action;
 use crate::actions::Actions;
 use expressions::Numbering;
 use format_edit::Format;
+use meaning::ending::StopMessage;
 use meaning::syntax::Tree;
 use postfix::Code;
+use std::alloc::Global;
 use std::marker::Model;
 
 /// A program that keeps the rules, what each statement needs, and the codes of its statement functions.
@@ -54,6 +57,7 @@ impl Program {
     /// The program with what its statements need, and with the codes of its statement functions.
     pub fn new(unit: numbering::Program, actions: Actions, functions: Vec<Code>) -> Program
         requires actions { AreKept unit actions (items_in unit) }
+        requires others { HasNoOther actions (items_in unit) }
         requires functions { AreFunctions unit functions.items }
         ensures { result ≡ unit }
     {
@@ -90,9 +94,11 @@ impl Program {
         self.parts.unit.format(digits)
     }
 
-    /// The format in a character constant, if one is kept, as `numbering::Program` has it.
+    /// The format in a character constant that is the format of a statement, as `numbering::Program` has it.
     pub fn text_format(&self, text: &[u8]) -> Option<&Format>
-        ensures { IfSome result (λ f. IsReadFrom text.now (Some f.now)) }
+        ensures kept { option_map (λ f. descriptors f.now) result ≡
+            text_format_at self.now text.now }
+        ensures read { IfSome result (λ f. IsReadFrom text.now (Some f.now)) }
     {
         self.parts.unit.text_format(text)
     }
@@ -152,5 +158,22 @@ impl Program {
         ensures { AreFunctions self.now result.now }
     {
         &self.parts.functions
+    }
+    /// What the STOP statement with this initial line tells, also one under a logical IF (ANSI X3.9-1978, 11.12). It is moved out
+    /// of the program, which is used up: no memory is allocated.
+    pub fn into_message(self, alloc: Global, line: u32) -> StopMessage
+        ensures { result ≡ message_at (items_in self) line }
+    {
+        let Program { parts } = self;
+        let Parts {
+            unit,
+            mut actions,
+            functions,
+        } = parts;
+        let message = actions.take_message(alloc, line);
+        drop(unit);
+        drop(actions);
+        drop(functions);
+        message
     }
 }

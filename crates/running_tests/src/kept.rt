@@ -3,3 +3,5 @@
 mod actions;
 mod lengths;
 mod sources;
+
+pub use sources::program_of;

@@ -1,5 +1,5 @@
 //! Tests of running that no FORTRAN program of run_programs says: sources by their bytes, turns, and where records go; the codes that are
-//! kept of statements; consecutive members of a list; loops by stages, step by step; and the program itself with its command line.
+//! kept of statements; what a fault in a list leaves; consecutive members of a list; loops by stages, step by step; and the program itself with its command line.
 #![tactic(auto)]
 
 #[cfg(test)]
@@ -8,6 +8,8 @@ mod command;
 mod kept;
 #[cfg(test)]
 mod limits;
+#[cfg(test)]
+mod lists;
 #[cfg(test)]
 mod outcomes;
 #[cfg(test)]

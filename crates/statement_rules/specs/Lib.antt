@@ -4,3 +4,4 @@ pub mod Reached
 pub mod Counters
 pub mod FormatLabels
 pub mod Implied
+pub mod FormatsFound

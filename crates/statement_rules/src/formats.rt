@@ -1,19 +1,18 @@
 //! Units and formats (ANSI X3.9-1978, 12.3, 12.4 and 13.1).
 
-ghost use Rattle.std.specs.Prelude.{◌≡◌, ◌^◌, ◌≤◌, ℕ, false, map, IfOk, is_none, is_some, option_map};
-ghost use Rattle.meaning.specs.Formats.{descriptors_of, format_in, undoubled};
+ghost use Rattle.std.specs.Prelude.{◌≡◌, ◌^◌, ◌≤◌, ℕ, false, map, IfOk};
 ghost use Rattle.meaning.specs.Trees.{item_tree};
-ghost use Rattle.format_edit.specs.Formatted.{descriptors};
 ghost use Rattle.rule_passes.specs.Listed.{tree_at};
 ghost use Rattle.meaning.specs.LabelRules.{is_format_at, is_label_at, is_six as is_value_six};
 ghost use Rattle.rule_passes.specs.Telling.{Finds, IsLeast};
-ghost use Rattle.statement_rules.specs.FormatLabels.{AreFormats, FindsOk, HasFormats, KnowsOutput, breaks_output, is_allowed_by, is_format_of, is_misformed_at, is_unit_at};
+ghost use Rattle.statement_rules.specs.FormatLabels.{AreFormats, HasFormats, KnowsOutput, breaks_output, breaks_places, is_format_of, is_found_by, is_misplaced_at, is_unit_at};
+ghost use Rattle.statement_rules.specs.FormatsFound.{HoldsFormats};
 
+use crate::reading::{Formats, read_formats};
 use crate::transfers::label_of;
 use declarations::{Table, is_no_constant, pass_constants, table_of, value_of};
-use format_edit::{Format, FormatFault};
 use meaning::ending::Value;
-use meaning::refusal::{Broken, Rule};
+use meaning::refusal::{Broken, Rule, lesser};
 use meaning::syntax::{FormatSource, Item, Shape, Unit};
 use roles::Roles;
 use rule_passes::{Behind, least_told};
@@ -50,31 +49,6 @@ fn format_labels(alloc: Global, items: &[&Item]) -> Result<BTreeSet<u32>, AllocE
     Ok(labels)
 }
 
-/// The format that a text is, if it is one.
-pub fn format_of(alloc: Global, text: &[u8]) -> Result<Option<Format>, AllocError>
-    ensures { IfOk result (λ f. option_map descriptors f ≡ descriptors_of text.now) }
-{
-    match Format::read_inside(alloc, text) {
-        Ok(format) => Ok(Some(format)),
-        Err(FormatFault::Broken) => Ok(None),
-        Err(FormatFault::Memory) => Err(AllocError),
-    }
-}
-
-/// Whether the format in a character constant is one.
-fn is_constant_format(alloc: Global, text: &[u8]) -> Result<bool, AllocError>
-    ensures { IfOk result (λ b. b ≡ is_some (format_in (undoubled text.now))) }
-{
-    match Format::read_constant(alloc, text) {
-        Ok(format) => {
-            drop(format);
-            Ok(true)
-        }
-        Err(FormatFault::Broken) => Ok(false),
-        Err(FormatFault::Memory) => Err(AllocError),
-    }
-}
-
 /// Whether a value is the integer 6.
 fn is_six(value: Option<Value>) -> bool
     ensures { result ≡ is_value_six value }
@@ -106,35 +80,17 @@ fn is_format_label(labels: &BTreeSet<u32>, digits: &[u8]) -> bool
     }
 }
 
-/// Whether the format of a WRITE or PRINT statement is allowed.
-fn is_allowed(
-    alloc: Global,
-    labels: &BTreeSet<u32>,
-    source: &FormatSource,
-) -> Result<bool, AllocError>
-    ensures { FindsOk (AreFormats labels.now) (is_allowed_by source.now) result }
+/// Whether a FORMAT statement has the label that stands for a format; a character constant needs none.
+fn is_found(labels: &BTreeSet<u32>, source: &FormatSource) -> bool
+    ensures { Finds (AreFormats labels.now) (is_found_by source.now) result }
 {
     match source {
-        FormatSource::Label(digits) => Ok(is_format_label(labels, digits)),
-        FormatSource::Constant(text) => is_constant_format(alloc, text),
+        FormatSource::Label(digits) => is_format_label(labels, digits),
+        FormatSource::Constant(_) => true,
     }
 }
 
-/// Whether a text is no format.
-fn is_no_format(alloc: Global, text: &[u8]) -> Result<bool, AllocError>
-    ensures { IfOk result (λ b. b ≡ is_none (descriptors_of text.now)) }
-{
-    match Format::read_inside(alloc, text) {
-        Ok(format) => {
-            drop(format);
-            Ok(false)
-        }
-        Err(FormatFault::Broken) => Ok(true),
-        Err(FormatFault::Memory) => Err(AllocError),
-    }
-}
-
-/// What breaks the rule on units and formats.
+/// What breaks the rule on units and on the labels of formats.
 #[derive(Drop)]
 pub struct BadOutput<'a> {
     alloc: Global,
@@ -142,35 +98,28 @@ pub struct BadOutput<'a> {
     labels: BTreeSet<u32>,
 }
 
-/// Whether a statement has a unit or a format that isn't allowed.
-fn is_misformed(output: &BadOutput, label: Option<u32>, shape: &Shape) -> Result<bool, AllocError>
-    ensures { FindsOk (HasFormats output.now) (is_misformed_at output.now label shape.now) result }
+/// Whether a statement has a unit that isn't allowed or the label of no FORMAT statement, or is a FORMAT statement without a label.
+fn is_misplaced(output: &BadOutput, label: Option<u32>, shape: &Shape) -> bool
+    ensures { Finds (HasFormats output.now) (is_misplaced_at output.now label shape.now) result }
 {
     match shape {
         Shape::Write { control, list: _ } => {
-            let allowed = is_allowed(output.alloc, &output.labels, &control.format)?;
-            Ok(!is_unit(&output.table, &control.unit) || !allowed)
+            !is_unit(&output.table, &control.unit) || !is_found(&output.labels, &control.format)
         }
-        Shape::Print { format, list: _ } => {
-            let allowed = is_allowed(output.alloc, &output.labels, format)?;
-            Ok(!allowed)
-        }
-        Shape::Format(text) => {
-            let broken = is_no_format(output.alloc, text)?;
-            Ok(label.is_none() || broken)
-        }
-        Shape::LogicalIf(_, statement) => is_misformed(output, label, statement),
-        _ => Ok(false),
+        Shape::Print { format, list: _ } => !is_found(&output.labels, format),
+        Shape::Format(_) => label.is_none(),
+        Shape::LogicalIf(_, statement) => is_misplaced(output, label, statement),
+        _ => false,
     }
 }
 
 impl Behind for BadOutput<'_> {
-    ghost breaks = { λ s before x. breaks_output s.table.roles.now before x };
+    ghost breaks = { λ s before x. breaks_places s.table.roles.now before x };
 
     ghost knows = { λ s before. KnowsOutput s before };
 
     fn is_broken(&self, item: &Item) -> Result<bool, AllocError> {
-        is_misformed(self, item.label, &*item.form.shape)
+        Ok(is_misplaced(self, item.label, &*item.form.shape))
     }
 
     fn pass(&mut self, item: &Item) -> Result<(), AllocError> {
@@ -178,9 +127,9 @@ impl Behind for BadOutput<'_> {
     }
 }
 
-/// K11: the least line at which a unit, a format label or a format isn't allowed.
-pub fn bad_output(alloc: Global, roles: &Roles) -> Result<Option<Broken>, AllocError>
-    ensures { IfOk result (IsLeast (breaks_output roles.now) Rule.K11 roles.now.items.now) }
+/// The least line at which a unit or the label of a format isn't allowed.
+fn misplaced(alloc: Global, roles: &Roles) -> Result<Option<Broken>, AllocError>
+    ensures { IfOk result (IsLeast (breaks_places roles.now) Rule.K11 roles.now.items.now) }
 {
     let labels = format_labels(alloc, roles.items)?;
     let mut output = BadOutput {
@@ -189,4 +138,27 @@ pub fn bad_output(alloc: Global, roles: &Roles) -> Result<Option<Broken>, AllocE
         labels,
     };
     least_told(&mut output, Rule::K11, roles.items)
+}
+
+/// What is found out about units and formats.
+#[derive(Drop)]
+pub struct Output {
+    /// The least line at which one isn't allowed.
+    pub broken: Option<Broken>,
+    /// The formats.
+    pub formats: Formats,
+}
+
+/// K11: the least line at which a unit, a format label or a format isn't allowed, and the formats, each of which is read once.
+pub fn bad_output(alloc: Global, roles: &Roles) -> Result<Output, AllocError>
+    ensures broken { IfOk result
+        (λ o. IsLeast (breaks_output roles.now) Rule.K11 roles.now.items.now o.broken) }
+    ensures formats { IfOk result (λ o. HoldsFormats (map tree_at roles.now.items.now) o.formats) }
+{
+    let places = misplaced(alloc, roles)?;
+    let (formats, texts) = read_formats(alloc, roles.items)?;
+    Ok(Output {
+        broken: lesser(places, texts),
+        formats,
+    })
 }

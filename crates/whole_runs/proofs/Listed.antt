@@ -6,12 +6,12 @@ use Rattle.meaning.specs.declared.ending.FaultKind.{FaultKind}
 use Rattle.meaning.specs.declared.ending.FaultKind.TheVariants.{F8}
 use Rattle.meaning.specs.declared.ending.Value.{Value}
 use Rattle.meaning.specs.declared.syntax.Tree.{Tree}
-use Rattle.meaning.specs.Lists.{Listed, behind, followed, item_value, stepped, trips_listed, listed}
+use Rattle.meaning.specs.Lists.{Listed, faulted, with_value, behind, followed, item_value, stepped, trips_listed, listed}
 use Rattle.meaning.specs.Maps.{Map, put}
 use Rattle.meaning.specs.Stores.{World, Reads, Does}
 use Rattle.meaning.specs.Syntax.{ExprTree, LimitsTree, ListItemTree, value_item, loop_item, ListItemsTree, no_items, more_items}
 use Rattle.meaning.specs.Trips.{Span, span_of, trips, trip_count}
-use Rattle.meaning.specs.Values.{Scope, integer, and_then}
+use Rattle.meaning.specs.Values.{Scope, integer}
 use Rattle.meaning.proofs.Stores.{does_read, does_then}
 use Rattle.expressions.specs.Listed.{AddsItem}
 use Rattle.values.specs.Programs.{map_at}
@@ -21,30 +21,28 @@ use Rattle.evaluator.proofs.Composed.{does_so, does_nothing, reads_and_does}
 
 -- ---- values in front of others
 
-abbrev pub behind_all : List Value → Listed → Listed
-behind_all vs (Ok l) = Ok (behind vs l)
-behind_all vs (Err k) = Err k
-
-behind-none : (r : Listed) → r ≡ behind_all [] r
+behind-none : (r : Listed) → r ≡ behind [] r
+unfolding behind
 behind-none (Ok l) = refl
-behind-none (Err k) = refl
+behind-none (Err f) = refl
 
-behind-behind : (vs ws : List Value) (r : Listed) → behind_all vs (behind_all ws r) ≡ behind_all (vs ++ ws) r
+behind-behind : (vs ws : List Value) (r : Listed) → behind vs (behind ws r) ≡ behind (vs ++ ws) r
+unfolding behind
 behind-behind vs ws (Ok l) = ap (λ xs. Ok (record { values = xs; map = l.map; left = l.left })) (sym (append_assoc vs ws l.values))
-behind-behind vs ws (Err k) = refl
+behind-behind vs ws (Err f) = refl
 
-then-behind : (vs : List Value) (q : Listed) → and_then q (λ k. Ok (behind vs k)) ≡ behind_all vs q
-unfolding and_then
-then-behind vs (Ok k) = refl
-then-behind vs (Err k) = refl
+-- a fault is the same behind values
+behind-fault : (vs : List Value) (r : Listed) (k : FaultKind) (m : Map) → r ≡ faulted k m → behind vs r ≡ faulted k m
+unfolding behind
+behind-fault vs r k m h = rw h refl
 
-followed-ok : (r : Listed) (vs : List Value) (m : Map) (left : ℕ) (go : Map → ℕ → Listed) → r ≡ Ok (record { values = vs; map = m; left = left }) → followed r go ≡ behind_all vs (go m left)
-unfolding and_then
-followed-ok r vs m left go h = rw h (then-behind vs (go m left))
+followed-ok : (r : Listed) (vs : List Value) (m : Map) (left : ℕ) (go : Map → ℕ → Listed) → r ≡ Ok (record { values = vs; map = m; left = left }) → followed r go ≡ behind vs (go m left)
+unfolding followed
+followed-ok r vs m left go h = rw h refl
 
-followed-err : (r : Listed) (k : FaultKind) (go : Map → ℕ → Listed) → r ≡ Err k → followed r go ≡ Err k
-unfolding and_then
-followed-err r k go h = rw h refl
+followed-err : (r : Listed) (k : FaultKind) (m : Map) (go : Map → ℕ → Listed) → r ≡ faulted k m → followed r go ≡ faulted k m
+unfolding followed
+followed-err r k m go h = rw h refl
 
 -- ---- over any store
 
@@ -61,25 +59,26 @@ module _ (t : Tree) where
   pub finds_same : (u v : World) (f g : Items) (before after : List Value) (given left : ℕ) (r : Result (Unit {0}) FaultKind) → ((m : Map) → g m given ≡ f m given) → FindsOver t u v f before after given left r → FindsOver t u v g before after given left r
   finds_same u v f g before after given left (Ok x) same h = finds_as u v f g before after given left same h
   finds_same u v f g before after given left (Err k) same h =
-      does_so u v (λ m n. f (map_at t m) given ≡ Err k) (λ m n. g (map_at t m) given ≡ Err k) h (λ m n e. same (map_at t m) ∙ e)
+      does_so u v (λ m n. f (map_at t m) given ≡ faulted k (map_at t n)) (λ m n. g (map_at t m) given ≡ faulted k (map_at t n)) h (λ m n e. same (map_at t m) ∙ e)
 
   finds_then : (u v w : World) (f g : Items) (before mid after : List Value) (given room left : ℕ) → Finds t u v f before mid given room → Finds t v w g mid after room left → Finds t u w (λ m n. followed (f m n) g) before after given left
+  unfolding behind
   finds_then u v w f g before mid after given room left x y =
       record {
         values = x.values ++ y.values;
         behind = y.behind ∙ ap (λ vs. vs ++ y.values) x.behind ∙ append_assoc before x.values y.values;
-        does = does_then u v w (λ m n. f (map_at t m) given ≡ Ok (record { values = x.values; map = map_at t n; left = room })) (λ m n. g (map_at t m) room ≡ Ok (record { values = y.values; map = map_at t n; left = left })) (λ m n. followed (f (map_at t m) given) g ≡ Ok (record { values = x.values ++ y.values; map = map_at t n; left = left })) x.does y.does (λ m n k h q. followed-ok (f (map_at t m) given) x.values (map_at t n) room g h ∙ ap (behind_all x.values) q);
+        does = does_then u v w (λ m n. f (map_at t m) given ≡ Ok (record { values = x.values; map = map_at t n; left = room })) (λ m n. g (map_at t m) room ≡ Ok (record { values = y.values; map = map_at t n; left = left })) (λ m n. followed (f (map_at t m) given) g ≡ Ok (record { values = x.values ++ y.values; map = map_at t n; left = left })) x.does y.does (λ m n k h q. followed-ok (f (map_at t m) given) x.values (map_at t n) room g h ∙ ap (behind x.values) q);
       }
 
   -- one item, and then the others
   pub finds_behind : (u v w : World) (f g : Items) (before mid after : List Value) (given room left : ℕ) (r : Result (Unit {0}) FaultKind) → Finds t u v f before mid given room → FindsOver t v w g mid after room left r → FindsOver t u w (λ m n. followed (f m n) g) before after given left r
   finds_behind u v w f g before mid after given room left (Ok y) x h = finds_then u v w f g before mid after given room left x h
   finds_behind u v w f g before mid after given room left (Err k) x h =
-      does_then u v w (λ m n. f (map_at t m) given ≡ Ok (record { values = x.values; map = map_at t n; left = room })) (λ m n. g (map_at t m) room ≡ Err k) (λ m n. followed (f (map_at t m) given) g ≡ Err k) x.does h (λ m n j e q. followed-ok (f (map_at t m) given) x.values (map_at t n) room g e ∙ ap (behind_all x.values) q)
+      does_then u v w (λ m n. f (map_at t m) given ≡ Ok (record { values = x.values; map = map_at t n; left = room })) (λ m n. g (map_at t m) room ≡ faulted k (map_at t n)) (λ m n. followed (f (map_at t m) given) g ≡ faulted k (map_at t n)) x.does h (λ m n j e q. followed-ok (f (map_at t m) given) x.values (map_at t n) room g e ∙ behind-fault x.values (g (map_at t n) room) k (map_at t j) q)
 
-  pub first_fails : (u v : World) (f g : Items) (given : ℕ) (k : FaultKind) → Does u v (λ m n. f (map_at t m) given ≡ Err k) → Does u v (λ m n. followed (f (map_at t m) given) g ≡ Err k)
+  pub first_fails : (u v : World) (f g : Items) (given : ℕ) (k : FaultKind) → Does u v (λ m n. f (map_at t m) given ≡ faulted k (map_at t n)) → Does u v (λ m n. followed (f (map_at t m) given) g ≡ faulted k (map_at t n))
   first_fails u v f g given k h =
-      does_so u v (λ m n. f (map_at t m) given ≡ Err k) (λ m n. followed (f (map_at t m) given) g ≡ Err k) h (λ m n e. followed-err (f (map_at t m) given) k g e)
+      does_so u v (λ m n. f (map_at t m) given ≡ faulted k (map_at t n)) (λ m n. followed (f (map_at t m) given) g ≡ faulted k (map_at t n)) h (λ m n e. followed-err (f (map_at t m) given) k (map_at t n) g e)
 
   pub finds_nothing : (w : World) (s : Scope) (before after : List Value) (given left : ℕ) → after ≡ before → left ≡ given → Finds t w w (listed s no_items) before after given left
   unfolding listed
@@ -93,7 +92,7 @@ module _ (t : Tree) where
 -- ---- items
 
 pub listed-more : (s : Scope) (x : ListItemTree) (xs : ListItemsTree) (m : Map) (left : ℕ) → listed s (more_items x xs) m left ≡ followed (item_listed s x m left) (listed s xs)
-unfolding listed item_listed and_then
+unfolding listed item_listed
 listed-more s (value_item e) xs m left = refl
 listed-more s (loop_item ys variable limits) xs m left = refl
 
@@ -107,21 +106,21 @@ module _ (t : Tree) (s : Scope) where
         does = does_read u v (λ m. item_value s e (map_at t m) given ≡ Ok (record { values = h.values; map = map_at t m; left = left })) (λ m n. item_listed s (value_item e) (map_at t m) given ≡ Ok (record { values = h.values; map = map_at t n; left = left })) h.reads (λ m q. q);
       }
   value_found u v e before after given left (Err k) h =
-      does_read u v (λ m. item_value s e (map_at t m) given ≡ Err k) (λ m n. item_listed s (value_item e) (map_at t m) given ≡ Err k) h (λ m q. q)
+      does_read u v (λ m. item_value s e (map_at t m) given ≡ faulted k (map_at t m)) (λ m n. item_listed s (value_item e) (map_at t m) given ≡ faulted k (map_at t n)) h (λ m q. q)
 
   -- ---- implied DOs
 
   module _ (ys : ListItemsTree) (variable : List ℕ) (limits : LimitsTree) where
-    pub no_room : (m : Map) (given : ℕ) → given ≡ 0 → item_listed s (loop_item ys variable limits) m given ≡ Err F8
+    pub no_room : (m : Map) (given : ℕ) → given ≡ 0 → item_listed s (loop_item ys variable limits) m given ≡ faulted F8 m
     unfolding item_listed
     no_room m given none = rw none refl
 
-    pub limits_fail : (m : Map) (given room : ℕ) (k : FaultKind) → given ≡ suc room → span_of s limits m ≡ Err k → item_listed s (loop_item ys variable limits) m given ≡ Err k
-    unfolding item_listed and_then
+    pub limits_fail : (m : Map) (given room : ℕ) (k : FaultKind) → given ≡ suc room → span_of s limits m ≡ Err k → item_listed s (loop_item ys variable limits) m given ≡ faulted k m
+    unfolding item_listed with_value
     limits_fail m given room k one h = rw one (rw h refl)
 
     loop_is : (m : Map) (given room : ℕ) (x : Span) → given ≡ suc room → span_of s limits m ≡ Ok x → item_listed s (loop_item ys variable limits) m given ≡ trips_listed (listed s ys) variable x.step (trips x.first x.last x.step) (put m variable [] x.first) room
-    unfolding item_listed and_then
+    unfolding item_listed with_value
     loop_is m given room x one h = rw one (rw h refl)
 
     module _ (w0 w1 w2 w3 : World) (given room : ℕ) (one : given ≡ suc room) (x : Span) (first : ℤ) (same : first ≡ x.first) (reads : Reads w0 w1 (λ m. span_of s limits (map_at t m) ≡ Ok x)) (set : Does w1 w2 (λ m n. map_at t n ≡ put (map_at t m) variable [] first)) where
@@ -141,23 +140,23 @@ module _ (t : Tree) (s : Scope) where
             does = does_then w0 w2 w3 (λ m n. item_listed s (loop_item ys variable limits) (map_at t m) given ≡ all_trips (map_at t n) room) (λ m n. all_trips (map_at t m) room ≡ Ok (record { values = h.values; map = map_at t n; left = left })) (λ m n. item_listed s (loop_item ys variable limits) (map_at t m) given ≡ Ok (record { values = h.values; map = map_at t n; left = left })) entered h.does (λ m n k e q. e ∙ q);
           }
       loop_found before after left (Err k) h =
-          does_then w0 w2 w3 (λ m n. item_listed s (loop_item ys variable limits) (map_at t m) given ≡ all_trips (map_at t n) room) (λ m n. all_trips (map_at t m) room ≡ Err k) (λ m n. item_listed s (loop_item ys variable limits) (map_at t m) given ≡ Err k) entered h (λ m n j e q. e ∙ q)
+          does_then w0 w2 w3 (λ m n. item_listed s (loop_item ys variable limits) (map_at t m) given ≡ all_trips (map_at t n) room) (λ m n. all_trips (map_at t m) room ≡ faulted k (map_at t n)) (λ m n. item_listed s (loop_item ys variable limits) (map_at t m) given ≡ faulted k (map_at t n)) entered h (λ m n j e q. e ∙ q)
 
 -- ---- trips
 
 stepped-goes : (n : List ℕ) (by : ℤ) (m new : Map) (go : Map → Listed) → Sums n by m new → stepped n by m go ≡ go new
-unfolding and_then
+unfolding with_value
 stepped-goes n by m new go h = rw h.is (ap go (sym h.after))
 
-stepped-fails : (n : List ℕ) (by : ℤ) (m : Map) (k : FaultKind) (go : Map → Listed) → integer (m n [] +ℤ by) ≡ Err k → stepped n by m go ≡ Err k
-unfolding and_then
+stepped-fails : (n : List ℕ) (by : ℤ) (m : Map) (k : FaultKind) (go : Map → Listed) → integer (m n [] +ℤ by) ≡ Err k → stepped n by m go ≡ faulted k m
+unfolding with_value
 stepped-fails n by m k go h = rw h refl
 
 -- the values of the trips so far, before those of what is left, are those of all
 pub record Listing_so_far (t : Tree) (items : Items) (n : List ℕ) (first last by : ℤ) (u v : World) (before now : List Value) (given room : ℕ) (i : ℕ) : Type 0 where
   pub values : List Value
-  pub behind : now ≡ before ++ values
-  pub does : Does u v (λ m k. trips_listed items n by (trips first last by) (map_at t m) given ≡ behind_all values (trips_listed items n by (drop i (trips first last by)) (map_at t k) room))
+  pub follow : now ≡ before ++ values
+  pub does : Does u v (λ m k. trips_listed items n by (trips first last by) (map_at t m) given ≡ behind values (trips_listed items n by (drop i (trips first last by)) (map_at t k) room))
 
 module _ (t : Tree) (items : Items) (n : List ℕ) (first last by : ℤ) where
   abbrev left_at : ℕ → Items
@@ -181,8 +180,8 @@ module _ (t : Tree) (items : Items) (n : List ℕ) (first last by : ℤ) where
   trips_start w before given =
       record {
         values = [];
-        behind = sym (append-nil before);
-        does = does_nothing w (λ m k. trips_listed items n by (trips first last by) (map_at t m) given ≡ behind_all [] (left_at 0 (map_at t k) given)) (λ m. behind-none (left_at 0 (map_at t m) given));
+        follow = sym (append-nil before);
+        does = does_nothing w (λ m k. trips_listed items n by (trips first last by) (map_at t m) given ≡ behind [] (left_at 0 (map_at t k) given)) (λ m. behind-none (left_at 0 (map_at t m) given));
       }
 
   module _ (u v : World) (before now : List Value) (given room i : ℕ) (s : Listing_so_far t items n first last by u v before now given room i) where
@@ -190,39 +189,40 @@ module _ (t : Tree) (items : Items) (n : List ℕ) (first last by : ℤ) where
     Whole m = trips_listed items n by (trips first last by) m given
 
     pub trips_end : trip_count first last by ≤ i → Finds t u v (trips_listed items n by (trips first last by)) before now given room
+    unfolding behind
     trips_end le =
         record {
           values = s.values;
-          behind = s.behind;
-          does = does_so u v (λ m k. Whole (map_at t m) ≡ behind_all s.values (left_at i (map_at t k) room)) (λ m k. Whole (map_at t m) ≡ Ok (record { values = s.values; map = map_at t k; left = room })) s.does (λ m k h. h ∙ ap (behind_all s.values) (no_trip i (map_at t k) room le) ∙ ap (λ vs. Ok (record { values = vs; map = map_at t k; left = room })) (append-nil s.values));
+          behind = s.follow;
+          does = does_so u v (λ m k. Whole (map_at t m) ≡ behind s.values (left_at i (map_at t k) room)) (λ m k. Whole (map_at t m) ≡ Ok (record { values = s.values; map = map_at t k; left = room })) s.does (λ m k h. h ∙ ap (behind s.values) (no_trip i (map_at t k) room le) ∙ ap (λ vs. Ok (record { values = vs; map = map_at t k; left = room })) (append-nil s.values));
         }
 
     module _ (w : World) (lt : i < trip_count first last by) where
       -- the items fault
-      pub items_fail : (k : FaultKind) → Does v w (λ m j. items (map_at t m) room ≡ Err k) → Does u w (λ m j. Whole (map_at t m) ≡ Err k)
+      pub items_fail : (k : FaultKind) → Does v w (λ m j. items (map_at t m) room ≡ faulted k (map_at t j)) → Does u w (λ m j. Whole (map_at t m) ≡ faulted k (map_at t j))
       items_fail k h =
-          does_then u v w (λ m j. Whole (map_at t m) ≡ behind_all s.values (left_at i (map_at t j) room)) (λ m j. items (map_at t m) room ≡ Err k) (λ m j. Whole (map_at t m) ≡ Err k) s.does h (λ m j x e q. e ∙ ap (behind_all s.values) (one_trip i (map_at t j) room lt ∙ followed-err (items (map_at t j) room) k (behind_items i) q))
+          does_then u v w (λ m j. Whole (map_at t m) ≡ behind s.values (left_at i (map_at t j) room)) (λ m j. items (map_at t m) room ≡ faulted k (map_at t j)) (λ m j. Whole (map_at t m) ≡ faulted k (map_at t j)) s.does h (λ m j x e q. e ∙ behind-fault s.values (left_at i (map_at t j) room) k (map_at t x) (one_trip i (map_at t j) room lt ∙ followed-err (items (map_at t j) room) k (map_at t x) (behind_items i) q))
 
       module _ (mid : List Value) (rest : ℕ) (found : Finds t v w items now mid room rest) where
         -- the items of a trip, and then the addition and the others
-        through : Does u w (λ m j. Whole (map_at t m) ≡ behind_all (s.values ++ found.values) (behind_items i (map_at t j) rest))
+        through : Does u w (λ m j. Whole (map_at t m) ≡ behind (s.values ++ found.values) (behind_items i (map_at t j) rest))
         through =
-            does_then u v w (λ m j. Whole (map_at t m) ≡ behind_all s.values (left_at i (map_at t j) room)) (λ m j. items (map_at t m) room ≡ Ok (record { values = found.values; map = map_at t j; left = rest })) (λ m j. Whole (map_at t m) ≡ behind_all (s.values ++ found.values) (behind_items i (map_at t j) rest)) s.does found.does (λ m j x e q. e ∙ ap (behind_all s.values) (one_trip i (map_at t j) room lt ∙ followed-ok (items (map_at t j) room) found.values (map_at t x) rest (behind_items i) q) ∙ behind-behind s.values found.values (behind_items i (map_at t x) rest))
+            does_then u v w (λ m j. Whole (map_at t m) ≡ behind s.values (left_at i (map_at t j) room)) (λ m j. items (map_at t m) room ≡ Ok (record { values = found.values; map = map_at t j; left = rest })) (λ m j. Whole (map_at t m) ≡ behind (s.values ++ found.values) (behind_items i (map_at t j) rest)) s.does found.does (λ m j x e q. e ∙ ap (behind s.values) (one_trip i (map_at t j) room lt ∙ followed-ok (items (map_at t j) room) found.values (map_at t x) rest (behind_items i) q) ∙ behind-behind s.values found.values (behind_items i (map_at t x) rest))
 
         together : mid ≡ before ++ (s.values ++ found.values)
-        together = found.behind ∙ ap (λ vs. vs ++ found.values) s.behind ∙ append_assoc before s.values found.values
+        together = found.behind ∙ ap (λ vs. vs ++ found.values) s.follow ∙ append_assoc before s.values found.values
 
         module _ (x : World) where
-          pub addition_fails : (k : FaultKind) → Does w x (λ m j. Adds n by (map_at t m) (map_at t j) (Err k)) → Does u x (λ m j. Whole (map_at t m) ≡ Err k)
+          pub addition_fails : (k : FaultKind) → Does w x (λ m j. Adds n by (map_at t m) (map_at t j) (Err k)) → Does u x (λ m j. Whole (map_at t m) ≡ faulted k (map_at t j))
           addition_fails k h =
-              does_then u w x (λ m j. Whole (map_at t m) ≡ behind_all (s.values ++ found.values) (behind_items i (map_at t j) rest)) (λ m j. Adds n by (map_at t m) (map_at t j) (Err k)) (λ m j. Whole (map_at t m) ≡ Err k) through h (λ m j y e q. e ∙ ap (behind_all (s.values ++ found.values)) (stepped-fails n by (map_at t j) k (λ z. left_at (i + 1) z rest) q.0))
+              does_then u w x (λ m j. Whole (map_at t m) ≡ behind (s.values ++ found.values) (behind_items i (map_at t j) rest)) (λ m j. Adds n by (map_at t m) (map_at t j) (Err k)) (λ m j. Whole (map_at t m) ≡ faulted k (map_at t j)) through h (λ m j y e q. e ∙ behind-fault (s.values ++ found.values) (behind_items i (map_at t j) rest) k (map_at t y) (stepped-fails n by (map_at t j) k (λ z. left_at (i + 1) z rest) q.0 ∙ ap (faulted k) (sym q.1)))
 
           pub trip_found : Does w x (λ m j. Adds n by (map_at t m) (map_at t j) (Ok tt)) → Listing_so_far t items n first last by u x before mid given rest (i + 1)
           trip_found h =
               record {
                 values = s.values ++ found.values;
-                behind = together;
-                does = does_then u w x (λ m j. Whole (map_at t m) ≡ behind_all (s.values ++ found.values) (behind_items i (map_at t j) rest)) (λ m j. Adds n by (map_at t m) (map_at t j) (Ok tt)) (λ m j. Whole (map_at t m) ≡ behind_all (s.values ++ found.values) (left_at (i + 1) (map_at t j) rest)) through h (λ m j y e q. e ∙ ap (behind_all (s.values ++ found.values)) (stepped-goes n by (map_at t j) (map_at t y) (λ z. left_at (i + 1) z rest) q));
+                follow = together;
+                does = does_then u w x (λ m j. Whole (map_at t m) ≡ behind (s.values ++ found.values) (behind_items i (map_at t j) rest)) (λ m j. Adds n by (map_at t m) (map_at t j) (Ok tt)) (λ m j. Whole (map_at t m) ≡ behind (s.values ++ found.values) (left_at (i + 1) (map_at t j) rest)) through h (λ m j y e q. e ∙ ap (behind (s.values ++ found.values)) (stepped-goes n by (map_at t j) (map_at t y) (λ z. left_at (i + 1) z rest) q));
               }
 
 -- ---- a whole list

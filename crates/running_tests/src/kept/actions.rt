@@ -15,7 +15,7 @@ fn word_for(action: Option<&Action>) -> &'static str {
         Some(Action::GoTo(_)) => "go to",
         Some(Action::ComputedGoTo(_, _)) => "computed go to",
         Some(Action::ArithmeticIf(_, _, _, _)) => "arithmetic if",
-        Some(Action::Stop) => "stop",
+        Some(Action::Stop(_)) => "stop",
         Some(Action::Output(_)) => "output",
         Some(Action::If(_, _)) => "if",
         Some(Action::Test(_)) => "test",

@@ -9,10 +9,10 @@ use Rattle.checker.proofs.entries.add_stored.Goals as goal
 pub returns-clause-next : goal.returns-clause-next
 returns-clause-next c =
     let first = c.args.storing.now.next in
-    c.in_ok-next.ensures ∙ ap (λ k. first + k) (c.in_ok-cells.ensures ∙ ap (λ ds. size (map dimension ds)) c.deref.ensures.value ∙ ap size c.in_ok-dimensions.ensures)
+    c.in_ok-next.ensures ∙ ap (λ k. first + k) (c.in_ok-cells.ensures ∙ ap (λ ds. size (map dimension ds)) c.deref.ensures ∙ ap size c.in_ok-dimensions.ensures.are)
 
 pub returns-clause-entries : goal.returns-clause-entries
 returns-clause-entries c = λ n.
     let first = c.args.storing.now.next in
     c.in_ok-add_entry.ensures n
-    ∙ ap (λ s. option_or (said_at c.args.storing.now.entries n) (if_name c.args.name.now s n)) (with_same first _ _ _ _ _ _ c.constant_named.ensures c.type_of_name.ensures c.in_ok-dimensions.ensures)
+    ∙ ap (λ s. option_or (said_at c.args.storing.now.entries n) (if_name c.args.name.now s n)) (with_same first _ _ _ _ _ _ c.constant_named.ensures c.type_of_name.ensures c.in_ok-dimensions.ensures.are)

@@ -17,7 +17,7 @@ returns-in_ok-size-in-Some-clause-filled c =
     let n = c.args.name.now in
     let ds = map dimension c.in-Some.dimensions.now.items in
     let array = sym (c.requires n) ∙ ap (option_map dimensions_of) (sym c.in-Some.ensures.value) in
-    let sized = c.in_ok-size-in-Some.ensures ∙ ap (λ xs. size (map dimension xs)) c.deref.ensures.value in
+    let sized = c.in_ok-size-in-Some.ensures ∙ ap (λ xs. size (map dimension xs)) c.deref.ensures in
     same_given c.give_places.result _
     (ap (λ a. filled r.names (whole_target a (is_other r n) n) (stage_of g)) array
     ∙ filled_whole r.names n ds (stage_of g) array

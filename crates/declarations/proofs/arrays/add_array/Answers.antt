@@ -15,7 +15,7 @@ returns-in_ok-insert c =
     let m = c.args.arrays.now in
     let d = c.args.declarator.now in
     let unknown = ap (λ x. is_some (kept_at m x)) (sym c.as_slice-name.ensures.value) ∙ sym c.contains_key.ensures ∙ c.if-not-contains_key.true in
-    let valued = c.in_ok-dimensions.ensures ∙ ap (λ bs. map (dimension_of types known) (map bounds_tree bs)) c.deref.ensures.value in
+    let valued = c.in_ok-dimensions.ensures.are ∙ ap (λ bs. map (dimension_of types known) (map bounds_tree bs)) c.deref.ensures.value in
     λ n. kept_first types known m d c.len.result n (c.len.ensures ∙ d.bounds.ok.0) c.insert.new.self c.in_ok-own.own c.in_ok-dimensions.dimensions (c.in_ok-own.ensures.items ∙ c.as_slice-name.ensures.value) unknown c.if-len-gt0.true valued c.in_ok-insert.ensures.entries
 
 pub returns-else-len-gt0 : goal.returns-else-len-gt0

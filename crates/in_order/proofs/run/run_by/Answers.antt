@@ -9,4 +9,4 @@ returns-in-Err-Rule-clause-promise g c =
 
 pub returns-clause-promise : goal.returns-clause-promise
 returns-clause-promise g c =
-    keeps_spelled c.args.turns (tree_of c.in-Ok.program) (g.S.Sink.told c.args.sink.now) (g.S.Sink.told c.run_program-report.new.sink) c.args.source.now c.run_program-report.result c.in-Ok.ensures c.run_program-report.ensures.promise
+    keeps_spelled c.args.turns (tree_of c.in-Ok.program) (g.S.Sink.told c.args.sink.now) (g.S.Sink.told c.run_program.new.sink) c.args.source.now c.run_program.result c.in-Ok.ensures c.run_program.ensures.promise

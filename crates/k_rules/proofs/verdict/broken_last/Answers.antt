@@ -16,6 +16,6 @@ returns c =
     let r = roles_at c.args.roles.now in
     let all = map tree_at c.args.roles.now.items.now in
     let ms = members_tree c.args.members.now in
-    c.lesser.ensures ∙ ap₂ merge c.in_ok-output.ensures
+    c.lesser.ensures ∙ ap₂ merge c.requires
     (c.lesser-last.ensures ∙ ap₂ merge c.in_ok-missed.ensures c.in_ok-misused.ensures)
     ∙ sym (three (told (has_bad_output r all) K11 [] all) (told_in (breaks_transfers r all) K2 (in_body ms) ms) (told_in (breaks_loops r) K9 (in_body ms) ms))
