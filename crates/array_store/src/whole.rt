@@ -1,7 +1,7 @@
 //! A store that holds the value of each cell.
 
-ghost use Rattle.std.specs.Prelude.{◌≡◌, ◌<◌, Some, IfOk, length, slice_get, slice_set};
-ghost use Rattle.array_store.specs.Whole.{world_of};
+ghost use Rattle.std.specs.Prelude.{◌≡◌, ◌<◌, ◌≤◌, ◌+◌, Some, IfOk, length, slice_get, slice_set};
+ghost use Rattle.array_store.specs.Whole.{ArePut, world_of};
 
 use crate::store::Store;
 use meaning::cell::Cell;
@@ -45,6 +45,15 @@ impl Whole {
         ensures { self.new ≡ slice_set self.old cell.0 value }
     {
         self.cells[cell.0] = value;
+    }
+
+    /// Writes values to consecutive cells, from one on. It takes no memory, and is never refused.
+    pub fn put(&mut self, from: Cell, values: &[i32])
+        requires { from.0 + length values.now ≤ length self.old }
+        ensures len { length self.new ≡ length self.old }
+        ensures values { ArePut from.0 values.now self.old self.new }
+    {
+        self.cells[from.0..from.0 + values.len()].copy_from_slice(values);
     }
 
     /// The values, in the order of the cells' numbers.
