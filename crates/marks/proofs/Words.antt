@@ -6,7 +6,7 @@ use Rattle.std.specs.List.{list_any, filter, range_with_len}
 use Rattle.std.specs.Int.{bit_at}
 use Rattle.std.specs.Ordering.{nat_cmp, is_eq}
 use Rattle.std.specs.Cmp.{nat_cmp_total, Equal-is, unsigned_tied}
-use Rattle.std.specs.FinSet.{FinSet, contains, insert, contains-from_list, contains-insert, same_set, nat_cmp-IsAntisymmetric}
+use Rattle.std.specs.FinSet.{FinSet, contains, empty, contains-empty, insert, contains-from_list, contains-insert, same_set, nat_cmp-IsAntisymmetric}
 use Rattle.std.proofs.lemmas.Bool.{true≢false, cases_lt, eqb-true}
 use Rattle.std.proofs.lemmas.List.{get_or_past}
 use Rattle.std.proofs.lemmas.Simd.{get_or-chunk}
@@ -28,7 +28,7 @@ use Rattle.std.specs.Int.{trailing_zeros}
 use Rattle.std.proofs.lemmas.Nat.{and_le_l}
 use Rattle.std.proofs.lemmas.Nat.Bits.{bit_at_and, bit_at-trailing_zeros, bit_at-lt}
 use Rattle.marks.specs.Cells.{Share}
-use Rattle.marks.specs.Words.{word_at, tells, set_of, MeetIn, MeetTold, SomeMeet, IsSummed}
+use Rattle.marks.specs.Words.{word_at, tells, set_of, MeetIn, MeetTold, SomeMeet, AreBehind, IsSummed}
 
 zero_plus : (c : ℕ) → 0 + c ≡ c
 zero_plus c = omega arith
@@ -355,3 +355,24 @@ module _ (a b mine others : List ℕ) where
       by (inl less) = none m.0 less m.1
       by (inr over) =
           told_none a b (bit_and (word_at mine m.0) (word_at others m.0)) (64 * m.0) 64 (meet_past mine others m.0 (past over end)) m.1
+
+-- ---- groups taken out
+
+zero_tells : (ws : List ℕ) (c : ℕ) → word_at ws (c / 64) ≡ 0 → tells ws c ≡ true → ⊥
+zero_tells ws c none told =
+    true≢false (sym told ∙ ap (λ w. bit_at w (c % 64) == 1) none ∙ ap (λ b. b == 1) (bit_at-zero (c % 64)))
+
+-- nothing is told behind all groups
+pub none_left : (old new groups : List ℕ) → IsSummed old groups → AreBehind old new groups (length groups) → (c : ℕ) → tells new c ≡ true → ⊥
+none_left old new groups summed behind c told =
+    let was = behind c told in
+    let t = summed.told c was.0 in
+    zero_tells groups (c / 512) (get_or_past groups (c / 512 / 64) 0 (was.1 t)) t
+
+pub set_of_none : (ws : List ℕ) → ((c : ℕ) → tells ws c ≡ true → ⊥) → set_of ws ≡ empty
+set_of_none ws none =
+    same_set nat_cmp_total nat_cmp-IsAntisymmetric (set_of ws) empty (λ q. contains_is ws q ∙ by q (tells ws q) refl ∙ sym (contains-empty nat_cmp q))
+  where
+    by : (q : ℕ) (b : Bool) → tells ws q ≡ b → tells ws q ≡ false
+    by q true e = absurd (none q e)
+    by q false e = e

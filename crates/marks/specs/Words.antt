@@ -30,6 +30,16 @@ abbrev pub SomeMeet : List ℕ → List ℕ → List ℕ → List ℕ → Type 0
 SomeMeet a b mine others =
     (k : ℕ) × MeetTold a b (bit_and (word_at mine k) (word_at others k)) (64 * k) 64
 
+-- of the cells that words told, those are left that are in none of the first n groups of a mask, from the first one on
+abbrev pub AreLeft : List ℕ → List ℕ → ℕ → ℕ → ℕ → Type 0
+AreLeft old new mask first n =
+    (c : ℕ) → tells new c ≡ true → (tells old c ≡ true) × ((j : ℕ) → j < n → bit_at mask j ≡ 1 → c / 512 ≢ first + j)
+
+-- those are left whose group isn't one of those that the first n masks have
+abbrev pub AreBehind : List ℕ → List ℕ → List ℕ → ℕ → Type 0
+AreBehind old new groups n =
+    (c : ℕ) → tells new c ≡ true → (tells old c ≡ true) × (tells groups (c / 512) ≡ true → n ≤ c / 512 / 64)
+
 -- a mask of groups of eight words has each group in which a cell is told, and no words of its own past them
 pub record IsSummed (words groups : List ℕ) : Type 0 where
   pub told : (c : ℕ) → tells words c ≡ true → tells groups (c / 512) ≡ true

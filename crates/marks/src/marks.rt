@@ -6,7 +6,7 @@ ghost use Rattle.std.specs.FinSet as set;
 ghost use Rattle.std.specs.Coded.{coded_ℕ};
 ghost use Rattle.std.specs.Int.{bit_at};
 ghost use Rattle.marks.specs.Cells.{Share};
-ghost use Rattle.marks.specs.Words.{IsSummed, MeetIn, MeetTold, SomeMeet, tells, set_of, word_at};
+ghost use Rattle.marks.specs.Words.{AreBehind, AreLeft, IsSummed, MeetIn, MeetTold, SomeMeet, tells, set_of, word_at};
 
 use meaning::cell::Cell;
 use std::alloc::{AllocError, Global};
@@ -156,6 +156,46 @@ fn meet_by(a: &[u64], b: &[u64], mine: &[u64], others: &[u64]) -> bool
     false
 }
 
+// Makes the eight words of a group 0; past its last word a set has none.
+fn clear_group(words: &mut Vec<u64>, group: usize)
+    requires { group < 2 ^ 58 }
+    ensures len { length words.new.items ≡ length words.old.items }
+    ensures none { (k : ℕ) → k / 8 ≡ group → word_at words.new.items k ≡ 0 }
+    ensures others { (k : ℕ) → k / 8 ≢ group → word_at words.new.items k ≡ word_at words.old.items k }
+{
+    let to = words.len().min(8 * group + 8);
+    for at in 8 * group..to {
+        words[at] = 0;
+    }
+}
+
+// Makes the words of those of 64 groups 0 that a mask has, from the first one on.
+fn clear_groups(words: &mut Vec<u64>, mask: u64, first: usize)
+    requires { first + 64 ≤ 2 ^ 58 }
+    ensures len { length words.new.items ≡ length words.old.items }
+    ensures left { AreLeft words.old.items words.new.items mask first 64 }
+{
+    if mask == 0 {
+        return;
+    }
+    for bit in 0..64usize {
+        if has_bit(mask, bit) {
+            clear_group(words, first + bit);
+        }
+    }
+}
+
+// Makes the words of the groups 0 that masks have.
+fn clear_by(words: &mut Vec<u64>, groups: &[u64])
+    requires { length groups.now ≤ 2 ^ 50 }
+    ensures len { length words.new.items ≡ length words.old.items }
+    ensures left { AreBehind words.old.items words.new.items groups.now (length groups.now) }
+{
+    for at in 0..groups.len() {
+        clear_groups(words, groups[at], 64 * at);
+    }
+}
+
 impl Marks {
     /// No cells. It takes no memory.
     pub fn new(alloc: Global) -> Marks
@@ -177,6 +217,14 @@ impl Marks {
         put(&mut self.groups, cell.0 / 512);
         put(&mut self.words, cell.0);
         Ok(())
+    }
+
+    /// Takes all cells out. It takes no memory, and its time is that of the groups that are set, not of the cells.
+    pub fn clear(&mut self)
+        ensures { self.new ≡ set.empty }
+    {
+        clear_by(&mut self.words, &self.groups);
+        self.groups.fill(0);
     }
 
     /// Whether a cell is in the set.
