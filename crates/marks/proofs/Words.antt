@@ -62,6 +62,14 @@ pub insert_by : (ws vs : List ℕ) (c : ℕ) → ((q : ℕ) → tells vs q ≡ (
 insert_by ws vs c more =
     same_set nat_cmp_total nat_cmp-IsAntisymmetric (set_of vs) (insert (set_of ws) c) (λ q. contains_is vs q ∙ more q ∙ ap (λ b. b || tells ws q) (sym (unsigned_tied q c)) ∙ ap (λ b. is_eq (nat_cmp q c) || b) (sym (contains_is ws q)) ∙ sym (contains-insert nat_cmp_total (set_of ws) c q))
 
+-- a cell that is told, put in once more
+pub told_again : (ws : List ℕ) (c : ℕ) → tells ws c ≡ true → (q : ℕ) → tells ws q ≡ (q == c || tells ws q)
+told_again ws c told q = by_test (q == c) refl
+  where
+    by_test : (b : Bool) → (q == c) ≡ b → tells ws q ≡ (b || tells ws q)
+    by_test true e = ap (tells ws) (eqb-true q c e) ∙ told
+    by_test false e = refl
+
 -- ---- the same of the set that contracts see
 
 pub has_by : (ws : List ℕ) (s : FinSet nat_cmp) → set_of ws ≡ s → (c : ℕ) → contains s c ≡ tells ws c

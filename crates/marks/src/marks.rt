@@ -212,6 +212,9 @@ impl Marks {
         ensures ok { OnOk result (self.new ≡ set.insert self.old cell.0) }
         ensures err { OnErr result (self.new ≡ self.old) }
     {
+        if is_told(&self.words, cell.0) {
+            return Ok(());
+        }
         grow_to(&mut self.words, cell.0 / 64)?;
         grow_to(&mut self.groups, cell.0 / 512 / 64)?;
         put(&mut self.groups, cell.0 / 512);

@@ -1,6 +1,7 @@
-use Rattle.std.proofs.Common.{rules, arith, ap, sym, ◌∙◌, ◌||◌, ◌==◌, ◌/◌, ◌+◌, ◌^◌, length}
+use Rattle.std.proofs.Common.{◌≡◌, rules, arith, ap, sym, subst, ◌∙◌, ◌||◌, ◌==◌, ◌/◌, ◌+◌, ◌^◌, length}
 use Rattle.std.specs.FinSet as set
-use Rattle.marks.proofs.Words.{same_by, insert_by, told_put}
+use Rattle.marks.specs.Words.{tells}
+use Rattle.marks.proofs.Words.{same_by, insert_by, told_again, told_put}
 use Rattle.marks.proofs.marks.Marks.set.Goals as goal
 
 pub invariant_of-self : goal.invariant_of-self
@@ -51,3 +52,10 @@ invariant_of-self-2 c =
 pub returns-clause-ok : goal.returns-clause-ok
 returns-clause-ok c =
     insert_by c.self.inside.words.items c.put-2.new.words.items c.args.cell.0 (λ q. c.put-2.ensures.told q ∙ ap (λ b. q == c.args.cell.0 || b) (c.grow_to.ensures.same q)) ∙ ap (λ s. set.insert s c.args.cell.0) c.self.view_is
+
+-- the cell was told already
+pub returns-then-is_told-clause-ok : goal.returns-then-is_told-clause-ok
+returns-then-is_told-clause-ok c =
+    let ws = c.self.inside.words.items in
+    let told = ap (λ w. tells w c.args.cell.0) (sym c.deref.ensures.value) ∙ sym c.is_told.ensures ∙ c.if-is_told.true in
+    subst (λ s. s ≡ set.insert s c.args.cell.0) c.self.view_is (insert_by ws ws c.args.cell.0 (told_again ws c.args.cell.0 told))
