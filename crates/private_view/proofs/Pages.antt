@@ -119,10 +119,13 @@ module _ (slots grown numbers : List ℕ) (page : ℕ) (within : page < length g
 
 pub none_kept : (base : List ℤ) (s : set.FinSet nat_cmp) (slots numbers : List ℕ) (values : List ℤ) → s ≡ set.empty → numbers ≡ [] → values ≡ [] → IsKept base s slots numbers values
 none_kept base s slots numbers values empty no_numbers no_values = record {
-  within = λ c h. absurd (none c h);
-  copied = λ c h. absurd (none c h);
+  paged = record {
+    within = λ c h. absurd (none c h);
+    copied = λ c h. absurd (none c h);
+    placed = λ i lt. absurd (let e = ap length no_numbers in omega arith);
+    long = ap length no_values ∙ sym (ap (λ n. 64 * n) (ap length no_numbers));
+  };
   based = λ c lt copied h. absurd (let w = copied.within in let e = ap length no_numbers in omega arith);
-  long = ap length no_values ∙ sym (ap (λ n. 64 * n) (ap length no_numbers));
 }
   where
     none : (c : ℕ) → set.contains s c ≡ true → ⊥

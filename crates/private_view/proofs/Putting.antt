@@ -11,7 +11,7 @@ use Rattle.std.specs.FinSet as set
 use Rattle.std.specs.FinSet.{nat_cmp-IsAntisymmetric}
 use Rattle.std.specs.FinMap as map
 use Rattle.meaning.specs.Stores.{after_write, known}
-use Rattle.private_view.specs.Views.{IsCopied, IsKept, Seen, slot_at, value_at, world_seen, written_by}
+use Rattle.private_view.specs.Views.{ArePlaced, IsCopied, IsKept, Seen, slot_at, value_at, world_seen, written_by}
 use Rattle.private_view.proofs.Looking.{written_is, has_value, has_none, known_written, known_base}
 
 pub itself : (n : ℕ) → (n == n) ≡ true
@@ -95,13 +95,11 @@ module _ (slots numbers : List ℕ) where
 
 -- when pages were held
 module _ (base : List ℤ) (s : set.FinSet nat_cmp) (slots numbers : List ℕ) (values : List ℤ) (kept : IsKept base s slots numbers values) where
-  module _ (slots' numbers' : List ℕ) (values' : List ℤ) (copied : (k : ℕ) → IsCopied slots numbers k → IsCopied slots' numbers' k) (same : (c : ℕ) → IsCopied slots numbers (c / 64) → value_at slots' values' c ≡ value_at slots values c) (based : (c : ℕ) → c < length base → IsCopied slots' numbers' (c / 64) → IsCopied slots numbers (c / 64) ⊎ (Some (value_at slots' values' c) ≡ slice_get base c)) (long : length values' ≡ 64 * length numbers') where
+  module _ (slots' numbers' : List ℕ) (values' : List ℤ) (copied : (k : ℕ) → IsCopied slots numbers k → IsCopied slots' numbers' k) (same : (c : ℕ) → IsCopied slots numbers (c / 64) → value_at slots' values' c ≡ value_at slots values c) (based : (c : ℕ) → c < length base → IsCopied slots' numbers' (c / 64) → IsCopied slots numbers (c / 64) ⊎ (Some (value_at slots' values' c) ≡ slice_get base c)) (placed : ArePlaced slots' numbers') (long : length values' ≡ 64 * length numbers') where
     pub kept_held : IsKept base s slots' numbers' values'
     kept_held = record {
-      within = kept.within;
-      copied = λ c m. copied (c / 64) (kept.copied c m);
+      paged = record { within = kept.paged.within; copied = λ c m. copied (c / 64) (kept.paged.copied c m); placed = placed; long = long };
       based = λ c lt there m. by c lt m (based c lt there);
-      long = long;
     }
       where
         by : (c : ℕ) → c < length base → set.contains s c ≡ false → IsCopied slots numbers (c / 64) ⊎ (Some (value_at slots' values' c) ≡ slice_get base c) → Some (value_at slots' values' c) ≡ slice_get base c
@@ -109,7 +107,7 @@ module _ (base : List ℤ) (s : set.FinSet nat_cmp) (slots numbers : List ℕ) (
         by c lt m (inr e) = e
 
     pub written_held : written_by s (value_at slots' values') ≡ written_by s (value_at slots values)
-    written_held = written_same s (value_at slots values) (value_at slots' values') (λ q m. same q (kept.copied q m))
+    written_held = written_same s (value_at slots values) (value_at slots' values') (λ q m. same q (kept.paged.copied q m))
 
   -- when a cell of a page that was copied gets a value
   module _ (k : ℕ) (v : ℤ) (lt : k < length base) (here : IsCopied slots numbers (k / 64)) (t : set.FinSet nat_cmp) (marks : (q : ℕ) → set.contains t q ≡ (q == k || set.contains s q)) where
@@ -126,23 +124,26 @@ module _ (base : List ℤ) (s : set.FinSet nat_cmp) (slots numbers : List ℕ) (
 
     pub kept_put : IsKept base t slots numbers put
     kept_put = record {
-      within = λ c m. inside c (is_or c (c == k) (set.contains s c) (sym (marks c) ∙ m));
-      copied = λ c m. there c (is_or c (c == k) (set.contains s c) (sym (marks c) ∙ m));
+      paged = record {
+        within = λ c m. inside c (is_or c (c == k) (set.contains s c) (sym (marks c) ∙ m));
+        copied = λ c m. there c (is_or c (c == k) (set.contains s c) (sym (marks c) ∙ m));
+        placed = kept.paged.placed;
+        long = length-set values (index slots numbers k) v ∙ kept.paged.long;
+      };
       based = λ c less copied m. (let none = neither (c == k) (set.contains s c) (sym (marks c) ∙ m) in ap Some (put_other slots numbers values k c v here copied (differs c k none.0)) ∙ kept.based c less copied none.1);
-      long = length-set values (index slots numbers k) v ∙ kept.long;
     }
       where
         inside : (c : ℕ) → ((c == k) ≡ true) ⊎ (set.contains s c ≡ true) → c < length base
         inside c (inl e) = subst (λ n. n < length base) (sym (eqb-true c k e)) lt
-        inside c (inr m) = kept.within c m
+        inside c (inr m) = kept.paged.within c m
 
         there : (c : ℕ) → ((c == k) ≡ true) ⊎ (set.contains s c ≡ true) → IsCopied slots numbers (c / 64)
         there c (inl e) = subst (λ n. IsCopied slots numbers (n / 64)) (sym (eqb-true c k e)) here
-        there c (inr m) = kept.copied c m
+        there c (inr m) = kept.paged.copied c m
 
     pub puts_more : (seen : Seen) → written_by s (value_at slots values) ≡ seen.written → world_seen (record seen { written = written_by t (value_at slots put) }) ≡ after_write k v (world_seen seen)
     puts_more seen is =
-        writes_more s t (value_at slots values) (value_at slots put) k v marks (put_same slots numbers values k v here kept.long) (λ q other m. put_other slots numbers values k q v here (kept.copied q m) other) seen is
+        writes_more s t (value_at slots values) (value_at slots put) k v marks (put_same slots numbers values k v here kept.paged.long) (λ q other m. put_other slots numbers values k q v here (kept.paged.copied q m) other) seen is
 
 -- ---- what is known of a page that was copied
 

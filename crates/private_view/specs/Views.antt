@@ -1,6 +1,5 @@
 -- What a view of a whole store is among stores (own).
-use Rattle.std.specs.Prelude.{◌≡◌, true, pos, Some, map as list_map, slice_get, slice_index_or, ◌*◌, ◌/◌, ◌%◌, ◌+◌, ◌-◌, min, ℕ, ℤ, ◌<◌, ◌==◌, ◌||◌, ◌&&◌, if◌then◌else◌, Bool, false, List, length, is_some, IsSome, refl}
-use Rattle.std.specs.List.{list_any}
+use Rattle.std.specs.Prelude.{◌≡◌, true, pos, Some, map as list_map, slice_get, slice_index_or, ◌*◌, ◌/◌, ◌%◌, ◌+◌, ◌-◌, min, ℕ, ℤ, ◌<◌, ◌==◌, ◌&&◌, if◌then◌else◌, Bool, false, List, length, IsSome, refl}
 use Rattle.std.specs.Ordering.{nat_cmp}
 use Rattle.std.specs.FinSet as set
 use Rattle.std.specs.FinMap as map
@@ -39,13 +38,11 @@ world_seen s = record {
   sure = false;
 }
 
--- a number is one of these
-abbrev pub is_among : ℕ → List ℕ → Bool
-is_among c numbers = list_any (λ d. c == d) numbers
-
--- the cells that were written, put behind others
-abbrev pub AddsWritten : Seen → List ℕ → List ℕ → Type 0
-AddsWritten s old new = (c : ℕ) → is_among c new ≡ (is_among c old || is_some (map.get s.written c))
+-- what contracts see of what a view wrote, without the whole store
+pub record Wrote : Type 0 where
+  -- how many cells the whole store had
+  pub cells : ℕ
+  pub written : Written
 
 -- ---- how a view is kept
 
@@ -66,12 +63,21 @@ pub record IsCopied (slots numbers : List ℕ) (k : ℕ) : Type 0 where
   pub within : slot_at slots k < length numbers
   pub there : slice_index_or numbers (slot_at slots k) 0 ≡ k
 
--- each cell that was written is in a page that was copied, whose other cells have the base's values; 64 values for each page
-pub record IsKept (base : List ℤ) (marks : set.FinSet nat_cmp) (slots numbers : List ℕ) (values : List ℤ) : Type 0 where
-  pub within : (c : ℕ) → set.contains marks c ≡ true → c < length base
+-- each of the pages that were copied has its place noted
+abbrev pub ArePlaced : List ℕ → List ℕ → Type 0
+ArePlaced slots numbers = (i : ℕ) → i < length numbers → slot_at slots (slice_index_or numbers i 0) ≡ i
+
+-- each cell that was written is in a page that was copied; 64 values for each page
+pub record ArePaged (cells : ℕ) (marks : set.FinSet nat_cmp) (slots numbers : List ℕ) (values : List ℤ) : Type 0 where
+  pub within : (c : ℕ) → set.contains marks c ≡ true → c < cells
   pub copied : (c : ℕ) → set.contains marks c ≡ true → IsCopied slots numbers (c / 64)
-  pub based : (c : ℕ) → c < length base → IsCopied slots numbers (c / 64) → set.contains marks c ≡ false → Some (value_at slots values c) ≡ slice_get base c
+  pub placed : ArePlaced slots numbers
   pub long : length values ≡ 64 * length numbers
+
+-- and each other cell of these pages has the base's value
+pub record IsKept (base : List ℤ) (marks : set.FinSet nat_cmp) (slots numbers : List ℕ) (values : List ℤ) : Type 0 where
+  pub paged : ArePaged (length base) marks slots numbers values
+  pub based : (c : ℕ) → c < length base → IsCopied slots numbers (c / 64) → set.contains marks c ≡ false → Some (value_at slots values c) ≡ slice_get base c
 
 -- a cell of a page was written
 abbrev pub WroteIn : Seen → ℕ → Type 0
@@ -88,6 +94,10 @@ HasSome words k = (b : ℕ) × ((b < 64) × (tells words (64 * k + b) ≡ true))
 -- the mask word of a page has a cell
 abbrev pub is_in : ℕ → ℕ → ℕ → Bool
 is_in word page c = (c / 64 == page) && (bit_at word (c % 64) == 1)
+
+-- the value of a cell among those of its page
+abbrev pub of_page : List ℤ → ℕ → ℤ
+of_page part c = slice_index_or part (c % 64) (pos 0)
 
 -- cells that are in it have their values there, and all others what they had
 abbrev pub TakesPage : List ℤ → List ℤ → ℕ → ℕ → (ℕ → ℤ) → Type 0
@@ -116,3 +126,6 @@ of_parts p = record { base = p.0; exposed = p.1.0; written = p.1.1.0; lost = p.1
 
 abbrev pub coded_seen : Coded Seen
 coded_seen = code_by Parts coded_parts parts_of of_parts (λ _. refl)
+
+abbrev pub coded_wrote : Coded Wrote
+coded_wrote = code_by (ℕ × Written) (coded× coded_ℕ (map.code coded_ℕ coded_ℤ)) (λ w. (w.cells, w.written)) (λ p. record { cells = p.0; written = p.1 }) (λ _. refl)

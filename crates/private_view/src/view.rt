@@ -3,13 +3,14 @@
 ghost use Rattle.std.specs.Prelude.{◌≢◌, ◌||◌, true, ◌-◌, min, ◌↔◌, IsTrue, OnErr, [], ◌∷◌, ◌⊎◌, vec_len, vec_capacity, slice_set, slice_get, ◌≡◌, ◌<◌, ◌≤◌, ◌+◌, ◌*◌, ◌/◌, ◌%◌, ◌++◌, ◌^◌, ℕ, ℤ, pos, Some, length, is_some, IfOk, IfSome, OnOk, slice_index_or};
 ghost use Rattle.std.specs.FinSet as set;
 ghost use Rattle.std.specs.FinMap as map;
-ghost use Rattle.marks.specs.Words.{tells};
+ghost use Rattle.marks.specs.Words.{tells, word_at};
+ghost use Rattle.std.specs.Int.{bit_at};
 ghost use Rattle.meaning.specs.Stores.{known, overlay};
 ghost use Rattle.array_store.specs.Whole.{world_of};
-ghost use Rattle.private_view.specs.Views.{AddsWritten, HasSome, TakesAll, TakesPage, is_among, is_in, IsCopied, IsKept, Seen, ShowsPage, WroteIn, coded_seen, new_view, slot_at, value_at, world_seen, written_by};
+ghost use Rattle.private_view.specs.Views.{ArePaged, ArePlaced, HasSome, TakesAll, TakesPage, Wrote, coded_wrote, is_in, of_page, IsCopied, IsKept, Seen, ShowsPage, WroteIn, coded_seen, new_view, slot_at, value_at, world_seen, written_by};
 
 use array_store::{Store, Whole};
-use marks::{Marks, has_bit};
+use marks::Marks;
 use meaning::cell::Cell;
 use std::alloc::{AllocError, Global};
 use std::marker::Model;
@@ -44,20 +45,58 @@ impl<'a> Model for View<'a> {
     ghost invariant = { λ v. IsKept v.base.now v.written v.slots.items v.numbers.items v.values.items };
 }
 
+/// What a view wrote, without the loan of the whole store that it stood on. Another view can be kept in its place.
+#[derive(Drop)]
+pub struct Changes {
+    cells: usize,
+    written: Marks,
+    exposed: Marks,
+    slots: Vec<usize>,
+    numbers: Vec<usize>,
+    values: Vec<i32>,
+}
+
+impl Model for Changes {
+    ghost Value = { Wrote };
+
+    ghost coded = { coded_wrote };
+
+    ghost view = { λ h. record { cells = h.cells; written = written_by h.written (value_at h.slots.items h.values.items) } };
+
+    ghost invariant = { λ h. ArePaged h.cells h.written h.slots.items h.numbers.items h.values.items };
+}
+
 impl<'a> View<'a> {
     /// A view in which nothing was read or written. It takes no memory, and no time for each cell.
     pub fn new(alloc: Global, base: &'a Whole) -> View<'a>
         ensures { result ≡ new_view base.entry.now }
     {
-        View {
+        let written = Marks::new(alloc);
+        let exposed = Marks::new(alloc);
+        let slots = Vec::new(alloc);
+        unused(
             base,
-            written: Marks::new(alloc),
-            exposed: Marks::new(alloc),
-            slots: Vec::new(alloc),
-            numbers: Vec::new(alloc),
-            values: Vec::new(alloc),
-            lost: false,
-        }
+            written,
+            exposed,
+            slots,
+            Vec::new(alloc),
+            Vec::new(alloc),
+        )
+    }
+
+    /// A view in which nothing was read or written, kept where another one was. It takes no memory, and no time for each cell.
+    pub fn again(changes: Changes, base: &'a Whole) -> View<'a>
+        ensures { result ≡ new_view base.entry.now }
+    {
+        let mut written = changes.written;
+        let mut exposed = changes.exposed;
+        let mut numbers = changes.numbers;
+        let mut values = changes.values;
+        written.clear();
+        exposed.clear();
+        numbers.clear();
+        values.clear();
+        unused(base, written, exposed, changes.slots, numbers, values)
     }
 
     /// The cells that were read before they were written.
@@ -94,17 +133,35 @@ impl<'a> View<'a> {
         self.lost
     }
 
-    /// Puts the numbers of the cells that were written behind others. The `AllocError` comes where memory was refused; some of
-    /// them may have been put there then.
-    pub fn add_written(&self, numbers: &mut Vec<usize>) -> Result<(), AllocError>
-        ensures { IfOk result (λ _. AddsWritten self.now numbers.old.items numbers.new.items) }
+    /// Lets the whole store go, and keeps what was written. It takes no memory.
+    pub fn into_changes(self) -> Changes
+        ensures { result ≡ record { cells = length self.entry.base; written = self.entry.written } }
     {
-        add_marked(self.written.words(), numbers)
+        Changes {
+            cells: self.base.cells().len(),
+            written: self.written,
+            exposed: self.exposed,
+            slots: self.slots,
+            numbers: self.numbers,
+            values: self.values,
+        }
     }
 
+    /// Puts what was written into a whole store of as many cells, and lets the view go. It takes no memory.
+    pub fn apply(self, target: &mut Whole)
+        requires { length target.old ≡ length self.base }
+        ensures values { known (world_of target.new) ≡
+            overlay (known (world_of target.old)) (map.get self.entry.written) }
+        ensures len { length target.new ≡ length target.old }
+    {
+        self.into_changes().apply_to(target);
+    }
+}
+
+impl Changes {
     /// Puts what was written into a whole store of as many cells. It takes no memory.
     pub fn apply_to(&self, target: &mut Whole)
-        requires { length target.old ≡ length self.now.base }
+        requires { length target.old ≡ self.now.cells }
         ensures values { known (world_of target.new) ≡
             overlay (known (world_of target.old)) (map.get self.now.written) }
         ensures len { length target.new ≡ length target.old }
@@ -117,15 +174,31 @@ impl<'a> View<'a> {
             target,
         );
     }
+}
 
-    /// Puts what was written into a whole store of as many cells, and lets the view go. It takes no memory.
-    pub fn apply(self, target: &mut Whole)
-        requires { length target.old ≡ length self.base }
-        ensures values { known (world_of target.new) ≡
-            overlay (known (world_of target.old)) (map.get self.entry.written) }
-        ensures len { length target.new ≡ length target.old }
-    {
-        self.apply_to(target);
+// A view in which nothing was read or written, of what is new or was emptied.
+fn unused<'a>(
+    base: &'a Whole,
+    written: Marks,
+    exposed: Marks,
+    slots: Vec<usize>,
+    numbers: Vec<usize>,
+    values: Vec<i32>,
+) -> View<'a>
+    requires written { written ≡ set.empty }
+    requires exposed { exposed ≡ set.empty }
+    requires numbers { numbers.items ≡ [] }
+    requires values { values.items ≡ [] }
+    ensures { result ≡ new_view base.entry.now }
+{
+    View {
+        base,
+        written,
+        exposed,
+        slots,
+        numbers,
+        values,
+        lost: false,
     }
 }
 
@@ -162,74 +235,84 @@ fn copied_page<'a>(
     &values[from..from + count]
 }
 
-// Puts the numbers of the cells of a page that its mask word has behind others.
-fn add_page_marks(word: u64, page: usize, numbers: &mut Vec<usize>) -> Result<(), AllocError>
-    requires { page < 2 ^ 58 }
-    ensures { IfOk result (λ _. (c : ℕ) → is_among c numbers.new.items ≡
-        (is_among c numbers.old.items || is_in word page c)) }
+// The lowest bit of a mask word that isn't 0.
+fn lowest_bit(word: u64) -> usize
+    requires { word ≢ 0 }
+    ensures small { result < 64 }
+    ensures has { bit_at word result ≡ 1 }
 {
-    for bit in 0..64usize {
-        if has_bit(word, bit) {
-            numbers.push(64 * page + bit)?;
-        }
-    }
-    Ok(())
+    word.trailing_zeros() as usize
 }
 
-// Puts the numbers of marked cells behind others.
-fn add_marked(words: &[u64], numbers: &mut Vec<usize>) -> Result<(), AllocError>
-    requires { length words.now ≤ 2 ^ 58 }
-    ensures { IfOk result (λ _. (c : ℕ) → is_among c numbers.new.items ≡
-        (is_among c numbers.old.items || tells words.now c)) }
+// A mask word without a bit that it has.
+fn without_bit(word: u64, bit: usize) -> u64
+    requires small { bit < 64 }
+    requires has { bit_at word bit ≡ 1 }
+    ensures gone { bit_at result bit ≡ 0 }
+    ensures others { (i : ℕ) → i < 64 → i ≢ bit → bit_at result i ≡ bit_at word i }
+    ensures less { result < word }
 {
-    for page in 0..words.len() {
-        let word = words[page];
-        if word != 0 {
-            add_page_marks(word, page, numbers)?;
-        }
-    }
-    Ok(())
+    word & !(1 << bit)
 }
 
-// Puts the values of the cells of a page that its mask word has into a whole store.
-fn put_page(
-    word: u64,
-    page: usize,
-    slots: &[usize],
-    numbers: &[usize],
-    values: &[i32],
-    target: &mut Whole,
-)
+// Puts the values of those cells of a page that its mask word has into a whole store, one by one.
+fn put_bits(word: u64, page: usize, part: &[i32], target: &mut Whole)
     requires small { page < 2 ^ 58 }
-    requires copied { word ≢ 0 → IsCopied slots.now numbers.now page }
-    requires long { length values.now ≡ 64 * length numbers.now }
+    requires len { length part.now ≡ 64 }
     requires within { (c : ℕ) → is_in word page c ≡ true → c < length target.old }
-    ensures takes { TakesPage target.old target.new word page (value_at slots.now values.now) }
+    ensures takes { TakesPage target.old target.new word page (of_page part.now) }
     ensures len { length target.new ≡ length target.old }
 {
-    for bit in 0..64usize {
-        let is_written = has_bit(word, bit);
-        if is_written {
-            let cell = 64 * page + bit;
-            target.write(Cell(cell), value_of(slots, numbers, values, cell));
-        }
+    let mut left = word;
+    'bits: while left != 0 {
+        let bit = lowest_bit(left);
+        target.write(Cell(64 * page + bit), part[bit]);
+        left = without_bit(left, bit);
     }
 }
 
-// Puts the values of marked cells into a whole store.
+// The same, and all at once where the word has each cell of the page.
+fn put_page(word: u64, page: usize, part: &[i32], target: &mut Whole)
+    requires small { page < 2 ^ 58 }
+    requires len { length part.now ≡ 64 }
+    requires within { (c : ℕ) → is_in word page c ≡ true → c < length target.old }
+    ensures takes { TakesPage target.old target.new word page (of_page part.now) }
+    ensures len { length target.new ≡ length target.old }
+{
+    if word == u64::MAX {
+        target.put(Cell(64 * page), part);
+    } else {
+        put_bits(word, page, part, target);
+    }
+}
+
+// The same by the mask words of all pages.
+fn put_marked(words: &[u64], page: usize, part: &[i32], target: &mut Whole)
+    requires few { length words.now ≤ 2 ^ 58 }
+    requires len { length part.now ≡ 64 }
+    requires within { (c : ℕ) → tells words.now c ≡ true → c < length target.old }
+    ensures takes { TakesPage target.old target.new (word_at words.now page) page (of_page part.now) }
+    ensures len { length target.new ≡ length target.old }
+{
+    if let Some(word) = words.get(page) {
+        put_page(*word, page, part, target);
+    }
+}
+
+// Puts the values of marked cells into a whole store, page by page of those that were copied.
 fn put_all(words: &[u64], slots: &[usize], numbers: &[usize], values: &[i32], target: &mut Whole)
     requires few { length words.now ≤ 2 ^ 58 }
     requires copied { (c : ℕ) → tells words.now c ≡ true → IsCopied slots.now numbers.now (c / 64) }
+    requires placed { ArePlaced slots.now numbers.now }
     requires long { length values.now ≡ 64 * length numbers.now }
     requires within { (c : ℕ) → tells words.now c ≡ true → c < length target.old }
     ensures takes { TakesAll target.old target.new words.now (value_at slots.now values.now) }
     ensures len { length target.new ≡ length target.old }
 {
-    for page in 0..words.len() {
-        let word = words[page];
-        if word != 0 {
-            put_page(word, page, slots, numbers, values, target);
-        }
+    for at in 0..numbers.len() {
+        let page = numbers[at];
+        let part = copied_page(slots, numbers, values, page, 64);
+        put_marked(words, page, part, target);
     }
 }
 
@@ -345,7 +428,9 @@ fn hold(
     page: usize,
 ) -> Result<(), AllocError>
     requires within { 64 * page < length base.now }
+    requires placed { ArePlaced slots.old.items numbers.old.items }
     requires long { length values.old.items ≡ 64 * length numbers.old.items }
+    ensures placed { ArePlaced slots.new.items numbers.new.items }
     ensures copied { OnOk result (IsCopied slots.new.items numbers.new.items page) }
     ensures kept { (k : ℕ) → IsCopied slots.old.items numbers.old.items k → IsCopied slots.new.items numbers.new.items k }
     ensures same { (c : ℕ) → IsCopied slots.old.items numbers.old.items (c / 64) → value_at slots.new.items values.new.items c ≡ value_at slots.old.items values.old.items c }
