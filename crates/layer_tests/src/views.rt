@@ -1,4 +1,5 @@
 //! Sets of cells, and private views of a whole store.
 
+mod changes;
 mod sets;
 mod views;

@@ -24,6 +24,20 @@ fn reads_and_writes(rt: HostRuntime) -> Result<(), Fail> {
     Ok(())
 }
 
+// Values are put into consecutive cells; the ones before and behind stay.
+#[test]
+fn puts(rt: HostRuntime) -> Result<(), Fail> {
+    let mut whole = Whole::new(rt.alloc(), &[10, 11, 12, 13, 14])?;
+    whole.put(Cell(1), &[-1, -2, -3]);
+    assert!(rt; whole.cells() == [10, -1, -2, -3, 14].as_slice());
+    whole.put(Cell(3), &[30, 40]);
+    assert!(rt; whole.cells() == [10, -1, -2, 30, 40].as_slice());
+    whole.put(Cell(5), &[]);
+    whole.put(Cell(0), &[1, 2, 3, 4, 5]);
+    assert!(rt; whole.cells() == [1, 2, 3, 4, 5].as_slice());
+    Ok(())
+}
+
 #[test]
 fn no_cells(rt: HostRuntime) -> Result<(), Fail> {
     let whole = Whole::new(rt.alloc(), &[])?;

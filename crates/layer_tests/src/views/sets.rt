@@ -92,6 +92,30 @@ fn words(rt: HostRuntime) -> Result<(), Fail> {
     Ok(())
 }
 
+/// The last cell of the first eight words, the first one behind them, and the last of 16,777,216.
+const GROUPS: &[usize] = &[511, 512, 16_777_215];
+
+// A set that was cleared has no cell and meets none, its words stay and are 0, and cells can be set again.
+#[test]
+fn clear(rt: HostRuntime) -> Result<(), Fail> {
+    let mut marks = set_of(rt.alloc(), GROUPS)?;
+    let others = set_of(rt.alloc(), GROUPS)?;
+    assert!(rt; marks.meets(&others));
+    marks.clear();
+    check_has(&rt, &marks, GROUPS, false);
+    assert!(rt; !marks.meets(&others));
+    assert!(rt; marks.words().len() == 262_144);
+    assert!(rt; marks.words().iter().all(|word| *word == 0));
+    marks.set(Cell(512))?;
+    check_has(&rt, &marks, &[512], true);
+    check_has(&rt, &marks, &[511, 513, 16_777_215], false);
+    assert!(rt; marks.meets(&others));
+    marks.clear();
+    marks.clear();
+    check_has(&rt, &marks, GROUPS, false);
+    Ok(())
+}
+
 /// So many cells that words have to grow several times.
 const MANY: usize = 200;
 

@@ -156,19 +156,6 @@ fn look(rt: &impl Abort, view: &View<'_>, count: usize, exposed: &[usize], writt
     assert!(rt; !view.is_lost());
 }
 
-/// That a view lists these cells as written, in order.
-fn list(
-    rt: &impl Abort,
-    alloc: Global,
-    view: &View<'_>,
-    written: &[usize],
-) -> Result<(), AllocError> {
-    let mut numbers = Vec::new(alloc);
-    view.add_written(&mut numbers)?;
-    assert!(rt; numbers.as_slice() == written, "{written:?}");
-    Ok(())
-}
-
 /// Takes a course's steps with a view, looks at the view before and behind them, and applies it.
 fn tell(
     rt: &impl Abort,
@@ -184,7 +171,6 @@ fn tell(
     look(rt, &view, count, &[], &[]);
     play(rt, &mut view, count, course.steps)?;
     look(rt, &view, count, course.exposed, course.written);
-    list(rt, alloc, &view, course.written)?;
     view.apply(target);
     Ok(())
 }
