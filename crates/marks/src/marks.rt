@@ -161,7 +161,8 @@ fn clear_group(words: &mut Vec<u64>, group: usize)
     requires { group < 2 ^ 58 }
     ensures len { length words.new.items ≡ length words.old.items }
     ensures none { (k : ℕ) → k / 8 ≡ group → word_at words.new.items k ≡ 0 }
-    ensures others { (k : ℕ) → k / 8 ≢ group → word_at words.new.items k ≡ word_at words.old.items k }
+    ensures others { (k : ℕ) → k / 8 ≢ group →
+        word_at words.new.items k ≡ word_at words.old.items k }
 {
     let to = words.len().min(8 * group + 8);
     for at in 8 * group..to {

@@ -61,7 +61,10 @@ impl Model for Changes {
 
     ghost coded = { coded_wrote };
 
-    ghost view = { λ h. record { cells = h.cells; written = written_by h.written (value_at h.slots.items h.values.items) } };
+    ghost view = { λ h. record {
+      cells = h.cells;
+      written = written_by h.written (value_at h.slots.items h.values.items);
+    } };
 
     ghost invariant = { λ h. ArePaged h.cells h.written h.slots.items h.numbers.items h.values.items };
 }
@@ -291,7 +294,8 @@ fn put_marked(words: &[u64], page: usize, part: &[i32], target: &mut Whole)
     requires few { length words.now ≤ 2 ^ 58 }
     requires len { length part.now ≡ 64 }
     requires within { (c : ℕ) → tells words.now c ≡ true → c < length target.old }
-    ensures takes { TakesPage target.old target.new (word_at words.now page) page (of_page part.now) }
+    ensures takes { TakesPage target.old target.new
+        (word_at words.now page) page (of_page part.now) }
     ensures len { length target.new ≡ length target.old }
 {
     if let Some(word) = words.get(page) {
