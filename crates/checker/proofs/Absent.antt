@@ -13,14 +13,14 @@ use Rattle.meaning.specs.Arrays.{Dimension}
 use Rattle.meaning.specs.Scopes.{arrays_from, arrays_of, constant_value, constants_in, declarators_in, dimension_of, dimensions_in as bounds_in, known_behind, known_of, nothing_known, or_dimensions, with_constant}
 use Rattle.meaning.specs.Syntax.{BoundsTree, ConstantTree, DeclaratorTree, ItemTree, ShapeTree, typing, logical_typing}
 use Rattle.meaning.specs.Types.{Types, types_of, declared_by, typed_as, typed_in}
-use Rattle.meaning.specs.Uses.{Roles, is_other, roles_of, uses_at}
+use Rattle.meaning.specs.Uses.{Roles, is_array, is_other, roles_of, uses_at}
 use Rattle.meaning.specs.Values.{Known, dimensions_in}
 use Rattle.roles.specs.TypedNames.{typed_names}
 use Rattle.roles.proofs.Firsts.{declared_append}
 use Rattle.roles.proofs.NameSets.{any_with_names}
 use Rattle.checker.specs.Entries.{names_given}
 use Rattle.numbering.specs.Kept.{array_of}
-use Rattle.numbering.specs.Numbered.{is_variable, names_at, names_from, variables_of}
+use Rattle.numbering.specs.Numbered.{appearing_by, is_variable, names_at, names_from, variables_of, with_those}
 
 or_parts : (a b : Bool) → (a || b) ≡ false → (a ≡ false) × (b ≡ false)
 or_parts true b h = absurd (true≢false h)
@@ -101,14 +101,19 @@ kept_absent test n (y ∷ ys) passes h = by_test (bytes_eq n y) refl (kept_absen
 pub no_array : (all : List ItemTree) (n : List ℕ) → IsAbsent n (variables_of all) → arrays_of all n ≡ None
 no_array all n h = by (arrays_of all n) refl
   where
-    filtered : IsAbsent n (filter (is_variable (roles_of all)) (names_from (roles_of all) [] all))
-    filtered = sym (any_with_names [] (filter (is_variable (roles_of all)) (names_from (roles_of all) [] all)) n) ∙ h
-
     by : (o : Option (List Dimension)) → arrays_of all n ≡ o → arrays_of all n ≡ None
     by None is = is
     by (Some ds) is =
-        let variable : is_variable (roles_of all) n ≡ true = ap (λ p. is_some p || is_other (roles_of all) n) is in
-        not_array (types_of all) (roles_of all) nothing_known [] all n (kept_absent (is_variable (roles_of all)) n (names_from (roles_of all) [] all) variable filtered)
+        let r = roles_of all in
+        let named = names_from r [] all in
+        let names = appearing_by r all in
+        let front = with_those (is_other r) [] names in
+        let arrays = filter (is_array r) names in
+        let array : is_array r n ≡ true = ap is_some is in
+        let not_last = (or_parts (list_any (bytes_eq n) front) (list_any (bytes_eq n) arrays) (sym (any_with_names front arrays n) ∙ h)).1 in
+        let not_there = kept_absent (is_array r) n names array not_last in
+        let filtered = sym (any_with_names [] (filter (is_variable r) named) n) ∙ not_there in
+        not_array (types_of all) r nothing_known [] all n (kept_absent (is_variable r) n named (ap (λ b. b || is_other r n) array) filtered)
 
 -- ---- constants
 

@@ -13,7 +13,7 @@ use Rattle.roles.specs.NameSets.{texts}
 use Rattle.roles.specs.RolesAt.{roles_at}
 use Rattle.roles.specs.Stages.{IsBehind}
 use Rattle.name_uses.specs.UsesAt.{uses_at}
-use Rattle.numbering.specs.Numbered.{names_at, variables_by, with_variables}
+use Rattle.numbering.specs.Numbered.{appearing_by, names_at, variables_by, variables_first, with_variables}
 
 abbrev pub Puts : Roles → List (Vec ℕ) → List (Vec ℕ) → List (List ℕ) → Type 0
 Puts r old new names = texts new ≡ with_variables (roles_at r) (texts old) names
@@ -30,5 +30,12 @@ abbrev pub PutsNames : Roles → Stage → Item → List (Vec ℕ) → List (Vec
 PutsNames r s x old new = (before : List ItemTree) → IsBehind r s before → Puts r old new (names_at (roles_at r) before (item_tree x))
 
 -- the variables and arrays of the statements, in the order of their first appearance
+abbrev pub appearing_at : Roles → List (List ℕ)
+appearing_at r = appearing_by (roles_at r) (trees_at r.items.now)
+
+-- the variables, and then the arrays
+abbrev pub variables_first_at : Roles → List (List ℕ) → List (List ℕ)
+variables_first_at r names = variables_first (roles_at r) names
+
 abbrev pub variables_at : Roles → List (List ℕ)
 variables_at r = variables_by (roles_at r) (trees_at r.items.now)

@@ -18,7 +18,7 @@ tree_of t = nested t
 abbrev pub items_in : Tree → List ItemTree
 items_in t = flatten (nested t)
 
--- its variables and arrays, in the order of their first appearance, with their dimensions
+-- its variables and then its arrays, each in the order of their first appearance, with their dimensions
 abbrev pub named_of_program : Tree → List Named
 named_of_program t = named_of (items_in t)
 

@@ -1,5 +1,5 @@
--- The variables and arrays of a program unit in the order of their first appearance, and their cells (ANSI X3.9-1978, 2.5,
--- 5.4, chapters 8, 9 and 17).
+-- The variables of a program unit and then its arrays, each in the order of their first appearance, and their cells (ANSI
+-- X3.9-1978, 2.5, 5.4, chapters 8, 9 and 17).
 use Rattle.std.specs.Prelude.{ℕ, Bool, ◌||◌, List, [], ◌∷◌, ◌++◌, map}
 use Rattle.std.specs.List.{filter}
 use Rattle.meaning.specs.Syntax.{ItemTree}
@@ -22,12 +22,23 @@ names_from r before (x ∷ xs) = names_at r before x ++ names_from r (before ++ 
 abbrev pub is_variable : Roles → List ℕ → Bool
 is_variable r n = is_array r n || is_other r n
 
--- those of the names that are variables or arrays behind others, in the order of their first appearance
+-- those of the names that pass a test behind others, in the order of their first appearance
+abbrev pub with_those : (List ℕ → Bool) → List (List ℕ) → List (List ℕ) → List (List ℕ)
+with_those test names more = with_names names (filter test more)
+
 abbrev pub with_variables : Roles → List (List ℕ) → List (List ℕ) → List (List ℕ)
-with_variables r names more = with_names names (filter (is_variable r) more)
+with_variables r names more = with_those (is_variable r) names more
+
+-- the variables and arrays as they appear first
+abbrev pub appearing_by : Roles → List ItemTree → List (List ℕ)
+appearing_by r all = with_variables r [] (names_from r [] all)
+
+-- the variables of such names, and then their arrays
+abbrev pub variables_first : Roles → List (List ℕ) → List (List ℕ)
+variables_first r names = with_those (is_array r) (with_those (is_other r) [] names) names
 
 abbrev pub variables_by : Roles → List ItemTree → List (List ℕ)
-variables_by r all = with_variables r [] (names_from r [] all)
+variables_by r all = variables_first r (appearing_by r all)
 
 abbrev pub variables_of : List ItemTree → List (List ℕ)
 variables_of all = variables_by (roles_of all) all

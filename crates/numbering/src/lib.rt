@@ -1,5 +1,5 @@
-//! Variables and arrays in the order of their first appearance, and programs that keep the rules, numbered, which tell of names, labels
-//! and formats (ANSI X3.9-1978, 2.5, 2.12, 5.4, 8.6 and 15.4).
+//! Variables and then arrays, each in the order of their first appearance, and programs that keep the rules, numbered, which tell of
+//! names, labels and formats (ANSI X3.9-1978, 2.5, 2.12, 5.4, 8.6 and 15.4).
 #![tactic(auto)]
 
 mod functions;

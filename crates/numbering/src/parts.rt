@@ -41,7 +41,8 @@ pub struct FunctionAt {
 #[derive(Drop)]
 pub struct Parts {
     pub tree: Tree,
-    /// The names of constants, variables and arrays, and those in type statements, in the order of their first appearance.
+    /// The names of variables and then of arrays, in the order of their cells, and behind them those of constants and those in type
+    /// statements.
     pub entries: IndexMap<Vec<u8>, Entry>,
     /// The types of the names that begin with each letter, by its code.
     pub letters: Vec<Option<DataType>>,

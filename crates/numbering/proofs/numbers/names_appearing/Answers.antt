@@ -4,7 +4,7 @@ use Rattle.roles.specs.NameSets.{texts}
 use Rattle.roles.specs.RolesAt.{roles_at}
 use Rattle.roles.specs.Stages.{IsBehind}
 use Rattle.numbering.proofs.Appearance.{names_none, statement_more, trees_more}
-use Rattle.numbering.proofs.numbers.variables_in_order.Goals as goal
+use Rattle.numbering.proofs.numbers.names_appearing.Goals as goal
 
 pub loop-item-init : goal.loop-item-init
 loop-item-init c = (ap texts c.new-names.ensures.empty ∙ sym (names_none (roles_at c.args.roles.now)), c.new-stage.ensures c.args.roles.now)

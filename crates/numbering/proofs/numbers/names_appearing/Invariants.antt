@@ -4,7 +4,7 @@ use Rattle.roles.specs.NameSets.{texts}
 use Rattle.roles.specs.RolesAt.{roles_at}
 use Rattle.roles.specs.Stages.{IsBehind}
 use Rattle.numbering.specs.Numbered.{names_from, with_variables}
-use Rattle.numbering.proofs.numbers.variables_in_order.Given as goal
+use Rattle.numbering.proofs.numbers.names_appearing.Given as goal
 
 abbrev pub invariant-loop-item : goal.invariant-loop-item
 invariant-loop-item l =
