@@ -1,5 +1,5 @@
 -- Lists of statements, the trips of a DO statement, and the arms of a block IF.
-use Rattle.std.proofs.Common.{◌≡◌, append_assoc, Bool, true, false, Result, Ok, ℕ, ℤ, pos, zero, suc, ◌+◌, ◌-◌, ◌<◌, ◌≤◌, List, [], ◌∷◌, ◌++◌, length, get_or, drop, if◌then◌else◌, Option, Some, None, Err, refl, sym, ap, ◌∙◌, arith, subst}
+use Rattle.std.proofs.Common.{◌≡◌, append_assoc, Bool, true, false, Result, Ok, ℕ, ℤ, pos, zero, suc, ◌+◌, ◌<◌, ◌≤◌, List, [], ◌∷◌, ◌++◌, length, get_or, drop, if◌then◌else◌, Option, Some, None, Err, refl, sym, ap, ◌∙◌, arith, subst}
 use Rattle.std.specs.Prelude.{IsTrue, not}
 use Rattle.std.specs.List.{AllByRecursion}
 use mathlib.Core.Path.{fun_ext}
@@ -34,8 +34,8 @@ use Rattle.evaluator.specs.Quiet.{variable_of}
 use Rattle.evaluator.specs.Member.{member_does}
 use Rattle.evaluator.specs.Over.{condition_tested, loop_as, values_by, trips_as, repeated_as, while_as}
 use Rattle.evaluator.specs.Passed.{PassesBy, passed_behind}
-use Rattle.evaluator.specs.Statements.{ran_by, Leaves, Passes, Moves, Reaches, Comes, Picks, Adds, GoesAgain}
-use Rattle.evaluator.proofs.Composed.{add_turns, leaves_runs, leaves_behind, reaches_end, reaches_more, leaves_on, leaves_along, IsEnd, ends_there, moves_behind, comes_then, reads_and_does}
+use Rattle.evaluator.specs.Statements.{Leaves, Passes, Moves, Reaches, Comes, Picks, Adds, GoesAgain}
+use Rattle.evaluator.proofs.Composed.{add_turns, leaves_behind, reaches_end, reaches_more, leaves_on, leaves_along, IsEnd, ends_there, moves_behind, comes_then, reads_and_does}
 use Rattle.evaluator.proofs.Executed.{added_goes, added_fails, fault_at, one_less, turn_none, turn_fails, turn_goes}
 
 -- ---- what holds of each statement
@@ -313,10 +313,10 @@ module _ (all : List ItemTree) (l : LoopOf) where
       ap (λ o. loop_by o (scope_of all) (exec all) (item_tree (out-Loop l).head) (members_tree (out-Loop l).range.items) again m t go) is
 
 -- a range by itself, when the variable has its first value
-pub repeated_runs : (all : List ItemTree) (l : LoopOf) (first by : ℤ) (count : ℕ) (m n k : Map) (t left : ℕ) (o : Outcome) (used : ℕ) → used ≡ t - left → n ≡ put m (variable_of (shape_tree (out-Loop l).head.form.shape.value)) [] first → Leaves (trips_as all l (variable_of (shape_tree (out-Loop l).head.form.shape.value)) first by count n t) t k left o → repeated_as all l first by count m t ≡ ran_by (record { outcome = o; turns_used = used }) k
-repeated_runs all l first by count m n k t left o used same set x =
+pub repeated_runs : (all : List ItemTree) (l : LoopOf) (first by : ℤ) (count : ℕ) (m n : Map) (t : ℕ) (r : Ran) → n ≡ put m (variable_of (shape_tree (out-Loop l).head.form.shape.value)) [] first → trips_as all l (variable_of (shape_tree (out-Loop l).head.form.shape.value)) first by count n t ≡ r → repeated_as all l first by count m t ≡ r
+repeated_runs all l first by count m n t r set runs =
     let variable = variable_of (shape_tree (out-Loop l).head.form.shape.value) in
-    ap (λ y. trips_as all l variable first by count y t) (sym set) ∙ leaves_runs (trips_as all l variable first by count n t) t k left o used same x
+    ap (λ y. trips_as all l variable first by count y t) (sym set) ∙ runs
 
 -- ---- over any store
 

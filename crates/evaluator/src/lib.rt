@@ -15,6 +15,6 @@ pub use control::{run_item, take_turn, test_arm, test_condition};
 pub use limits::{Span, count_of, values_of_codes};
 pub use passed::{Passed, behind_range, ended};
 pub use places::place_of;
-pub use quiet::{repeat_in, run_list, run_loop, run_trips, while_in};
+pub use quiet::{repeat_in, run_further_trips, run_list, run_loop, run_trips, while_in};
 pub use shapes::{do_of, logical_if_of};
 pub use slices::body_members;
