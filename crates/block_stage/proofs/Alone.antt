@@ -1,11 +1,11 @@
 -- The run of a block on a view of its own is faithful.
-use Rattle.std.proofs.Common.{◌≡◌, ℕ, ◌<◌, ◌≤◌, ℤ, false, [], unwrap_or, sym, ap, ◌∙◌, subst}
+use Rattle.std.proofs.Common.{◌≡◌, ℕ, ◌<◌, ◌≤◌, ℤ, false, unwrap_or, sym, ap, ◌∙◌, subst}
 use Rattle.std.proofs.Math.Path.{fun_ext}
 use Rattle.std.specs.Ordering.{nat_cmp}
 use Rattle.std.specs.FinMap as map
 use Rattle.meaning.specs.declared.ending.Run.{Run}
 use Rattle.meaning.specs.Execution.{Ran}
-use Rattle.meaning.specs.Maps.{Map, put}
+use Rattle.meaning.specs.Maps.{Map}
 use Rattle.meaning.specs.Stores.{Cells, overlay}
 use Rattle.meaning.proofs.Stores.{does_then}
 use Rattle.numbering.specs.Checked.{items_in}
@@ -15,7 +15,6 @@ use Rattle.evaluator.specs.Over.{RunsOver, SetsOver, repeated_as, trips_as}
 use Rattle.evaluator.specs.Statements.{ran_by}
 use Rattle.block_stage.specs.Jobs.{JobParts, data_of, variable_in, start_of, count_of}
 use Rattle.block_stage.specs.Faithful.{IsFaithful}
-use Rattle.block_stage.proofs.Putting.{put_twice}
 
 -- nothing was written
 overlay-empty : (m : Cells) → overlay m (map.get {X = ℤ} {R = nat_cmp} map.empty) ≡ m
@@ -30,15 +29,18 @@ module _ (j : JobParts) (s : Seen) (r : Run) (first step : ℤ) (trips : ℕ) wh
   abbrev pub Done : Seen → Seen → Type 0
   Done before after = RunsOver j.program (world_seen before) (world_seen after) rest j.turns r
 
+  abbrev pub Runs : Seen → Seen → Type 0
+  Runs before after = RunsOver j.program (world_seen before) (world_seen after) (trips_as (items_in j.program) j.repeated (variable_in j.repeated) first step trips) j.turns r
+
   abbrev pub Set : Seen → Seen → Type 0
   Set before after = SetsOver j.program (world_seen before) (world_seen after) (variable_in j.repeated) first
 
-  -- the variable is set, and then once more
-  both : (before between : Seen) → Set before between → Done between s → Done before s
-  both before between sets done =
-      does_then (world_seen before) (world_seen between) (world_seen s) _ _ _ sets done (λ m k n e x. sym (ap (λ q. trips_as (items_in j.program) j.repeated (variable_in j.repeated) first step trips q j.turns) (ap (λ q. put q (variable_in j.repeated) [] first) e ∙ put_twice (map_at j.program m) (variable_in j.repeated) first)) ∙ x)
+  -- the variable is set, and then the trips are run
+  both : (before between : Seen) → Set before between → Runs between s → Done before s
+  both before between sets does =
+      does_then (world_seen before) (world_seen between) (world_seen s) _ _ _ sets does (λ m k n e x. ap (λ q. trips_as (items_in j.program) j.repeated (variable_in j.repeated) first step trips q j.turns) (sym e) ∙ x)
 
-  module _ (before between : Seen) (fresh : before ≡ new_view j.base) (sets : Set before between) (does : Done between s) (kept : s.lost ≡ false) where
+  module _ (before between : Seen) (fresh : before ≡ new_view j.base) (sets : Set before between) (does : Runs between s) (kept : s.lost ≡ false) where
     done : Done (new_view j.base) s
     done = subst (λ t. Done t s) fresh (both before between sets does)
 

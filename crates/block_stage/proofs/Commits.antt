@@ -1,5 +1,5 @@
 -- The trips before the cut, one after another from the base, are the base with the written cells of the blocks put in.
-use Rattle.std.proofs.Common.{◌≡◌, ℕ, zero, suc, ℤ, pos, ◌+ℤ◌, ◌*ℤ◌, ◌+◌, ◌*◌, ◌-◌, ◌<◌, ◌≤◌, ◌==◌, ◌&&◌, ◌||◌, Bool, true, false, IsTrue, List, [], ◌∷◌, ◌++◌, length, refl, ap, sym, ◌∙◌, subst, arith, rules, take, Option, Some, None, is_some, is_none, unwrap_or, slice_get, get_or, length-take, get_or-take, inl, inr}
+use Rattle.std.proofs.Common.{◌≡◌, ℕ, zero, suc, ℤ, pos, ◌+ℤ◌, ◌*ℤ◌, ◌+◌, ◌*◌, ◌-◌, ◌<◌, ◌≤◌, ◌==◌, ◌&&◌, ◌||◌, Bool, true, false, IsTrue, List, [], ◌∷◌, ◌++◌, length, refl, ap, sym, ◌∙◌, subst, arith, rules, take, Option, Some, None, is_some, is_none, unwrap_or, slice_get, inl, inr}
 use Rattle.std.specs.Prelude.{nat_lt, sum_by}
 use Rattle.std.specs.List.{list_any}
 use Rattle.std.specs.Ordering.{nat_cmp, is_eq, eq_by_cmp}
@@ -7,7 +7,7 @@ use Rattle.std.specs.Cmp.{Equal-is}
 use Rattle.std.specs.FinSet as set
 use Rattle.std.specs.FinMap as map
 use Rattle.std.proofs.Math.Nat.{mul-le-mul_right}
-use Rattle.std.proofs.lemmas.Option.{slice_get_within, get_or_from_slice_get, slice_get-get_or}
+use Rattle.std.proofs.lemmas.Option.{slice_get_within, get_or_from_slice_get}
 use Rattle.std.proofs.lemmas.List.Sums.{sum_by_push}
 use Rattle.std.proofs.lemmas.List.{take_more, length-map, length-append}
 use Rattle.std.proofs.lemmas.List.FromFn.{length-range_with_len}
@@ -225,10 +225,3 @@ cut_within t places c h =
       | inr le ↦ le
       | inl past ↦ (let e = h.least (length places) past in let p = or_parts ((length places == length places) || is_none (place_at places (length places))) (nat_lt 0 (length places) && stops_later t places (length places)) e in let q = or_parts (length places == length places) (is_none (place_at places (length places))) p.0 in absurd (eqb-false (length places) (length places) q.0 refl))
     ]
-
--- what stands at the next place, as a loop reads it
-pub item_at : (places : Places) (cut i : ℕ) (p : Option RunData) → i < length (take cut places) → p ≡ get_or (take cut places) i p → slice_get places i ≡ Some p
-item_at places cut i p lt is =
-    let a : length (take cut places) ≤ length places = omega (arith, length-take cut places) in
-    let b : i < cut = omega (arith, length-take cut places) in
-    slice_get-get_or places i p (omega arith) ∙ ap Some (sym (is ∙ get_or-take cut places i p b))

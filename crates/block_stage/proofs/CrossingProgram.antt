@@ -61,7 +61,7 @@ Code_field = search (crosses, Operation_field, sendable) depth 60 fits 20000
 Target_field : IsSync Target.the_field.row
 Target_field = search (Code_field, sendable) depth 60 fits 20000
 
-Repeat_field : IsSync Repeat.the_field.row
+pub Repeat_field : IsSync Repeat.the_field.row
 Repeat_field = search (Code_field, sendable) depth 60 fits 20000
 
 ListCodes_field : IsSync ListCodes.the_field.row

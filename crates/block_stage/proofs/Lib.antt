@@ -5,7 +5,7 @@ pub mod Commits
 pub mod Meeting
 pub mod Cutting
 pub mod Staging
-pub mod Written
+pub mod Taking
 pub mod Boards
 pub mod Crossing
 pub mod CrossingStores

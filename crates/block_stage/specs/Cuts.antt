@@ -1,5 +1,5 @@
 -- Where a stage is cut, and what stands before the cut (own; after Dang, Yu and Rauchwerger).
-use Rattle.std.specs.Prelude.{◌≡◌, ℕ, ◌+◌, ◌*◌, ◌-◌, ◌<◌, ◌==◌, ◌&&◌, ◌||◌, Bool, true, false, List, [], ◌∷◌, length, nat_lt, min, take, sum_by, slice_get, is_some, is_none, Option, Some, None}
+use Rattle.std.specs.Prelude.{◌≡◌, ℕ, ◌+◌, ◌*◌, ◌-◌, ◌<◌, ◌^◌, ◌==◌, ◌&&◌, ◌||◌, Bool, true, false, List, [], ◌∷◌, length, nat_lt, min, take, sum_by, slice_get, is_some, is_none, Option, Some, None}
 use Rattle.std.specs.List.{list_any}
 use Rattle.std.specs.FinSet as set
 use Rattle.std.specs.FinMap as map
@@ -8,7 +8,6 @@ use Rattle.meaning.specs.declared.ending.Outcome.TheVariants.{Normal, Left, Stop
 use Rattle.meaning.specs.Stores.{Cells, overlay}
 use Rattle.meaning.specs.Turns.{met_limit}
 use Rattle.evaluator.specs.Statements.{outcome_of}
-use Rattle.private_view.specs.Views.{is_among}
 use Rattle.block_stage.specs.Jobs.{JobData}
 use Rattle.block_stage.specs.Faithful.{RunData}
 
@@ -50,6 +49,10 @@ turns_in (Some r) = r.used
 abbrev pub outcome_in : Option RunData → Outcome
 outcome_in None = Normal
 outcome_in (Some r) = r.outcome
+
+-- the turns of all blocks that have a run, but no more than the greatest number
+abbrev pub turns_posted : Places → ℕ
+turns_posted places = min (sum_by turns_in places) (2 ^ 64 - 1)
 
 -- the turns of the blocks below n
 abbrev pub turns_to : Places → ℕ → ℕ
@@ -101,28 +104,3 @@ trips_before d c = min (c * d.block) d.trips
 -- how the last block before the cut ended
 abbrev pub outcome_to : Places → ℕ → Outcome
 outcome_to places c = outcome_in (place_at places (c - 1))
-
--- a run stands on so many cells
-abbrev pub IsSized : ℕ → Option RunData → Type 0
-IsSized n None = Unit {0}
-IsSized n (Some r) = length r.seen.base ≡ n
-
-abbrev pub AllSized : ℕ → Places → Type 0
-AllSized n places = (i : ℕ) (p : Option RunData) → slice_get places i ≡ Some p → IsSized n p
-
--- ---- what blocks wrote
-
-abbrev pub wrote : ℕ → Option RunData → Bool
-wrote c None = false
-wrote c (Some r) = is_some (map.get r.seen.written c)
-
--- the cells that one block wrote, or some of several, put behind others
-abbrev pub AddsWrittenBy : Option RunData → List ℕ → List ℕ → Type 0
-AddsWrittenBy p old new = (c : ℕ) → is_among c new ≡ (is_among c old || wrote c p)
-
-abbrev pub AddsWrittenIn : Places → List ℕ → List ℕ → Type 0
-AddsWrittenIn places old new = (c : ℕ) → is_among c new ≡ (is_among c old || list_any (wrote c) places)
-
--- just the cells that some of the blocks wrote
-abbrev pub AreWritten : List ℕ → Places → Type 0
-AreWritten numbers places = (c : ℕ) → is_among c numbers ≡ list_any (wrote c) places

@@ -1,4 +1,5 @@
 pub mod Jobs
 pub mod Faithful
 pub mod Cuts
+pub mod Taken
 pub mod Stages

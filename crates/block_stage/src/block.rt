@@ -1,26 +1,17 @@
 //! The run of a block by itself.
 
-ghost use Rattle.std.specs.Prelude.{◌≡◌, ◌<◌, ◌≤◌, IfOk, IsTrue, [], OnOk, length};
-ghost use Rattle.meaning.specs.Syntax.{shape_tree};
-ghost use Rattle.meaning.specs.Trees.{item_tree};
-ghost use Rattle.meaning.specs.declared.syntax.Loop.{out-Loop};
-ghost use Rattle.numbering.specs.Checked.{count_in};
-ghost use Rattle.programs.specs.Asked.{is_doing};
-ghost use Rattle.programs.specs.Programs.{IsStatement};
-ghost use Rattle.private_view.specs.Views.{world_seen};
-ghost use Rattle.evaluator.specs.Over.{SetsOver};
-ghost use Rattle.block_stage.specs.Jobs.{data_of, shape_in, variable_in};
+ghost use Rattle.std.specs.Prelude.{◌≡◌, ◌<◌, IfOk};
+ghost use Rattle.private_view.specs.Views.{new_view};
+ghost use Rattle.block_stage.specs.Jobs.{data_of};
 ghost use Rattle.block_stage.specs.Faithful.{IsFaithful};
 
 use crate::gate::Gate;
 use crate::job::{Job, JobKey, Parts};
 use crate::place::{place_of, value_at};
 use crate::trace::Trace;
-use evaluator::{repeat_in, run_trips, set_variable};
+use evaluator::{run_further_trips, set_variable};
 use meaning::ending::Run;
-use meaning::syntax::Loop;
 use private_view::View;
-use programs::Program;
 use std::alloc::Global;
 use std::marker::{Model, PhantomData};
 
@@ -83,38 +74,15 @@ impl<'a, J: JobKey> BlockRun<'a, J> {
 #[derive(Clone, Copy, PartialEq, Eq, Debug)]
 pub struct Lost;
 
-// Gives the variable of the DO statement its value in the first trip of a block.
-fn set_first(
-    program: &Program,
-    repeated: &Loop,
-    first: i32,
-    view: &mut View<'_>,
-) -> Result<(), Lost>
-    requires doing { IsTrue (is_doing (shape_in repeated.now)) }
-    requires head { IsStatement program.now (item_tree (out-Loop repeated.now).head) }
-    requires sized { length view.old.base ≡ count_in program.now }
-    ensures sets { OnOk result (SetsOver program.now (world_seen view.old) (world_seen view.new)
-        (variable_in repeated.now) first) }
-    ensures cells { length view.new.base ≡ length view.old.base }
-{
-    match repeat_in(program, &repeated.head) {
-        Some(repeat) => match set_variable(program, repeat.variable, first, view) {
-            Ok(()) => Ok(()),
-            Err(_) => Err(Lost),
-        },
-        // It is a DO statement.
-        None => Err(Lost),
-    }
-}
-
-// Runs a block of a job on a view of its own.
+// Runs a block of a job on a view in which nothing was read or written.
 fn run_alone<'a, G: Gate>(
-    alloc: Global,
     job: &Job<'a>,
     block: u32,
     gate: &G,
+    view: View<'a>,
 ) -> Result<Trace<'a>, Lost>
-    requires { block < job.now.blocks }
+    requires below { block < job.now.blocks }
+    requires fresh { view ≡ new_view job.now.base }
     ensures block { IfOk result (λ t. t.block ≡ block) }
     ensures faithful { IfOk result (λ t. IsFaithful (data_of job.now) t) }
 {
@@ -122,17 +90,16 @@ fn run_alone<'a, G: Gate>(
     let place = place_of(block, parts.block, parts.blocks, parts.trips);
     let first = value_at(parts.first, parts.step, place);
     let trips = parts.block.min(parts.trips - place);
-    let mut view = View::new(alloc, parts.base);
-    match set_first(parts.program, parts.repeated, first, &mut view) {
+    let mut view = view;
+    match set_variable(parts.program, parts.repeat.variable, first, &mut view) {
         Ok(()) => {}
-        Err(lost) => return Err(lost),
+        Err(_) => return Err(Lost),
     }
     gate.enter(block);
-    // The trips begin by setting the variable, once more to the same value.
-    match run_trips(
+    match run_further_trips(
         parts.program,
         parts.repeated,
-        first,
+        parts.repeat,
         parts.step,
         trips,
         &mut view,
@@ -160,7 +127,22 @@ pub fn run_block<'a, J: JobKey, G: Gate>(
     requires below { block < J.job.blocks }
     ensures { IfOk result (λ r. r.block ≡ block) }
 {
-    match run_alone(alloc, job, block, gate) {
+    run_block_in(job, block, gate, job.fresh_view(alloc, None))
+}
+
+/// The same on a view that is handed in, in which nothing was read or written.
+pub fn run_block_in<'a, J: JobKey, G: Gate>(
+    job: &Job<'a>,
+    block: u32,
+    gate: &G,
+    view: View<'a>,
+) -> Result<BlockRun<'a, J>, Lost>
+    requires key { data_of job.now ≡ J.job }
+    requires below { block < J.job.blocks }
+    requires fresh { view ≡ new_view job.now.base }
+    ensures { IfOk result (λ r. r.block ≡ block) }
+{
+    match run_alone(job, block, gate, view) {
         Ok(trace) => Ok(BlockRun {
             trace,
             of: PhantomData,

@@ -12,6 +12,7 @@ use crate::block::BlockRun;
 use crate::job::{Job, JobKey, Parts};
 use crate::posted::Posted;
 use crate::trace::Trace;
+use private_view::Changes;
 use schedules::{Closed, Numbered, Place, Ticket};
 use std::alloc::{AllocError, Global};
 use std::marker::Model;
@@ -29,8 +30,9 @@ impl<'a, J: JobKey> Numbered for BlockRun<'a, J> {
 pub struct Board<'a, J: JobKey> {
     pub(crate) job: Job<'a>,
     pub(crate) blocks: schedules::Board<BlockRun<'a, J>>,
-    // Room for the runs when it is closed.
+    // Room for the runs when it is closed, and for what they wrote when they let the cells go.
     pub(crate) room: Vec<Option<Trace<'a>>>,
+    pub(crate) changes: Vec<Changes>,
 }
 
 impl<'a, J: JobKey> Model for Board<'a, J> {
@@ -49,7 +51,7 @@ impl<'a, J: JobKey> Model for Board<'a, J> {
 
     ghost view = { λ b. record { job = b.job; stage = b.blocks } };
 
-    ghost invariant = { λ b. (data_of b.job ≡ J.job) × (b.room.items ≡ []) × (b.job.blocks ≤ vec_capacity b.room) };
+    ghost invariant = { λ b. (data_of b.job ≡ J.job) × (b.room.items ≡ []) × (b.job.blocks ≤ vec_capacity b.room) × (b.changes.items ≡ []) × (b.job.blocks ≤ vec_capacity b.changes) };
 }
 
 // Takes the run that a board has for a block, and leaves the block as given up.
@@ -110,10 +112,12 @@ impl<'a, J: JobKey> Board<'a, J> {
         let parts: Parts<'a> = job.parts();
         let blocks = schedules::Board::new(alloc, parts.blocks, workers)?;
         let room = Vec::with_capacity(alloc, parts.blocks as usize)?;
+        let changes = Vec::with_capacity(alloc, parts.blocks as usize)?;
         Ok(Board {
             job: job.again(),
             blocks,
             room,
+            changes,
         })
     }
 
@@ -160,10 +164,26 @@ impl<'a, J: JobKey> Board<'a, J> {
         ensures events { result.events ≡ self.entry.stage.events }
         ensures lead { LeadTo result.events result.places }
     {
-        let Board { job, blocks, room } = self;
+        let alloc = *self.room.allocator();
+        self.close_with(Vec::new(alloc))
+    }
+
+    // The same, with the spares that no block was handed.
+    pub(crate) fn close_with(self, spares: Vec<Changes>) -> Posted<'a>
+        ensures job { result.job ≡ self.entry.job }
+        ensures places { result.places ≡ map run_in self.entry.stage.places }
+        ensures events { result.events ≡ self.entry.stage.events }
+        ensures lead { LeadTo result.events result.places }
+    {
+        let Board {
+            job,
+            blocks,
+            room,
+            changes,
+        } = self;
         let _parts: Parts<'a> = job.parts();
         let Closed { places, events } = blocks.close();
         let runs = runs_of::<J>(places, room);
-        Posted::new(job, runs, events)
+        Posted::new(job, runs, events, changes, spares)
     }
 }

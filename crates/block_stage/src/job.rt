@@ -1,11 +1,16 @@
 //! One stage of a loop.
 
 ghost use Rattle.std.specs.Prelude.{◌≡◌};
-ghost use Rattle.block_stage.specs.Jobs.{JobParts, IsJob};
+ghost use Rattle.private_view.specs.Views.{new_view};
+ghost use Rattle.programs.specs.Acts.{Repeats};
+ghost use Rattle.block_stage.specs.Jobs.{JobParts, IsJob, shape_in};
 
 use array_store::Whole;
+use evaluator::repeat_in;
 use meaning::syntax::Loop;
-use programs::Program;
+use private_view::{Changes, View};
+use programs::{Program, Repeat};
+use std::alloc::Global;
 use std::marker::{Brand, Model};
 
 /// One stage of a DO statement over a whole store: its next trips in blocks, and the turns that are left. Contracts see its parts.
@@ -13,6 +18,8 @@ use std::marker::{Brand, Model};
 pub struct Job<'a> {
     program: &'a Program,
     repeated: &'a Loop,
+    // What the DO statement needs, found once for all blocks.
+    repeat: &'a Repeat,
     base: &'a Whole,
     first: i32,
     step: i32,
@@ -23,7 +30,8 @@ pub struct Job<'a> {
 }
 
 impl<'a> Model for Job<'a> {
-    ghost use Rattle.block_stage.specs.Jobs.{JobParts, IsJob};
+    ghost use Rattle.block_stage.specs.Jobs.{JobParts, IsJob, shape_in};
+    ghost use Rattle.programs.specs.Acts.{Repeats};
     ghost use Rattle.std.specs.Coded.{codes};
     ghost use Rattle.meaning.specs.contracts.syntax.Tree as trees;
     ghost use Rattle.meaning.specs.contracts.syntax.Loop as loops;
@@ -54,7 +62,7 @@ impl<'a> Model for Job<'a> {
       block = j.block;
       blocks = j.blocks;
       turns = j.turns;
-    }) };
+    }) × Repeats j.program.now j.repeat.now (shape_in j.repeated.now) };
 }
 
 /// The parts of a job.
@@ -62,6 +70,7 @@ impl<'a> Model for Job<'a> {
 pub(crate) struct Parts<'a> {
     pub program: &'a Program,
     pub repeated: &'a Loop,
+    pub repeat: &'a Repeat,
     pub base: &'a Whole,
     pub first: i32,
     pub step: i32,
@@ -86,7 +95,7 @@ impl JobKey for Brand {
 
 impl<'a> Job<'a> {
     /// The next trips of a DO statement in blocks, the last of which may be shorter, from a value of its variable on, with the
-    /// turns that are left.
+    /// turns that are left. What the statement needs is looked up.
     pub fn new(
         program: &'a Program,
         repeated: &'a Loop,
@@ -101,9 +110,35 @@ impl<'a> Job<'a> {
         requires { IsJob (record { program = program.now; repeated = repeated.now; base = base.now; first = first; step = step; trips = trips; block = block; blocks = blocks; turns = turns }) }
         ensures { result ≡ record { program = program.entry.now; repeated = repeated.entry.now; base = base.entry.now; first = first; step = step; trips = trips; block = block; blocks = blocks; turns = turns } }
     {
+        match repeat_in(program, &repeated.head) {
+            Some(repeat) => Job::over(
+                program, repeated, repeat, base, first, step, trips, block, blocks, turns,
+            ),
+            None => unreachable!(),
+        }
+    }
+
+    /// The same of a DO statement that was looked up.
+    pub fn over(
+        program: &'a Program,
+        repeated: &'a Loop,
+        repeat: &'a Repeat,
+        base: &'a Whole,
+        first: i32,
+        step: i32,
+        trips: u64,
+        block: u64,
+        blocks: u32,
+        turns: u64,
+    ) -> Job<'a>
+        requires job { IsJob (record { program = program.now; repeated = repeated.now; base = base.now; first = first; step = step; trips = trips; block = block; blocks = blocks; turns = turns }) }
+        requires repeats { Repeats program.now repeat.now (shape_in repeated.now) }
+        ensures { result ≡ record { program = program.entry.now; repeated = repeated.entry.now; base = base.entry.now; first = first; step = step; trips = trips; block = block; blocks = blocks; turns = turns } }
+    {
         Job {
             program,
             repeated,
+            repeat,
             base,
             first,
             step,
@@ -114,14 +149,26 @@ impl<'a> Job<'a> {
         }
     }
 
+    // A view of the cells in which nothing was read or written, in a spare if there is one.
+    pub(crate) fn fresh_view(&self, alloc: Global, spare: Option<Changes>) -> View<'a>
+        ensures { result ≡ new_view self.now.base }
+    {
+        match spare {
+            Some(changes) => View::again(changes, self.base),
+            None => View::new(alloc, self.base),
+        }
+    }
+
     // Its parts, and what is true of them.
     pub(crate) fn parts(&self) -> Parts<'a>
         ensures parts { self.now ≡ record { program = result.program.now; repeated = result.repeated.now; base = result.base.now; first = result.first; step = result.step; trips = result.trips; block = result.block; blocks = result.blocks; turns = result.turns } }
         ensures job { IsJob self.now }
+        ensures repeats { Repeats result.program.now result.repeat.now (shape_in result.repeated.now) }
     {
         Parts {
             program: self.program,
             repeated: self.repeated,
+            repeat: self.repeat,
             base: self.base,
             first: self.first,
             step: self.step,
@@ -139,6 +186,7 @@ impl<'a> Job<'a> {
         Job {
             program: self.program,
             repeated: self.repeated,
+            repeat: self.repeat,
             base: self.base,
             first: self.first,
             step: self.step,

@@ -10,13 +10,16 @@ mod job;
 mod place;
 mod posted;
 mod stage;
+mod taken;
 mod trace;
 
-pub use block::{BlockRun, Lost, run_block};
+pub use block::{BlockRun, Lost, run_block, run_block_in};
 pub use board::Board;
 pub use gate::{Gate, Open};
 pub use job::{Job, JobKey};
 pub use place::value_at;
 pub use posted::{Posted, cut};
+pub use private_view::Changes;
 pub use schedules::{Event, Ticket};
-pub use stage::run_stage;
+pub use stage::{run_stage, run_stage_in, run_stage_without};
+pub use taken::Taken;

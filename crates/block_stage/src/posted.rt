@@ -1,21 +1,24 @@
 //! What the workers of a stage posted, and how much of it is committed.
 
-ghost use Rattle.std.specs.Prelude.{IfOk, ◌≡◌, ℕ, ◌+◌, ◌-◌, ◌^◌, ◌<◌, ◌≤◌, take, length};
+ghost use Rattle.std.specs.Prelude.{◌≡◌, ◌+◌, ◌-◌, ◌^◌, ◌<◌, ◌≤◌, ◌++◌, [], ◌∷◌, ℕ, Some, slice_get, take, length, vec_len, vec_capacity};
 ghost use Rattle.meaning.specs.Stores.{Cells, known};
 ghost use Rattle.array_store.specs.Whole.{world_of};
-ghost use Rattle.evaluator.specs.Statements.{outcome_of};
-ghost use Rattle.block_stage.specs.Jobs.{data_of};
+ghost use Rattle.block_stage.specs.Jobs.{JobParts, IsJob, data_of};
 ghost use Rattle.block_stage.specs.Faithful.{base_of, trips_of, ran};
-ghost use Rattle.block_stage.specs.Cuts.{AddsWrittenBy, AddsWrittenIn, AreWritten, IsCut, turns_to, turns_in, overlay_by, overlay_all, trips_before, outcome_in, outcome_to, IsSized, AllSized};
+ghost use Rattle.block_stage.specs.Stages.{ArePosted};
+ghost use Rattle.block_stage.specs.Cuts.{Places, IsCut, turns_to, turns_in, turns_posted, overlay_all, trips_before, outcome_in, outcome_to};
+ghost use Rattle.block_stage.specs.Taken.{overlay_each, wrote_in};
 
 use crate::cuts::cut_of;
 use crate::job::{Job, Parts};
+use crate::taken::Taken;
 use crate::trace::Trace;
 use array_store::Whole;
 use meaning::ending::{Outcome, Run};
+use private_view::Changes;
 use schedules::Event;
-use std::alloc::{AllocError, Global};
 use std::marker::Model;
+use std::mem::replace;
 
 /// The runs that the workers of a stage posted, at the places of their blocks; none where a block is missing. It keeps what happened
 /// on the board. Its type keeps that each run is of its block, and faithful to the job, and that what happened is a schedule by which
@@ -25,9 +28,13 @@ pub struct Posted<'a> {
     job: Job<'a>,
     places: Vec<Option<Trace<'a>>>,
     events: Vec<Event>,
+    // Room for what each block wrote, and the spares that no block was handed.
+    room: Vec<Changes>,
+    spares: Vec<Changes>,
 }
 
 impl<'a> Model for Posted<'a> {
+    ghost use Rattle.std.specs.Prelude.{◌≡◌, ◌≤◌, [], length, vec_capacity};
     ghost use Rattle.block_stage.specs.Stages.{PostedParts, ArePosted};
     ghost use Rattle.std.specs.Coded.{codes};
     ghost use Rattle.meaning.specs.contracts.syntax.Tree as trees;
@@ -41,7 +48,7 @@ impl<'a> Model for Posted<'a> {
 
     ghost view = { λ p. record { job = p.job; places = p.places.items; events = p.events.items } };
 
-    ghost invariant = { λ p. ArePosted (record { job = p.job; places = p.places.items; events = p.events.items }) };
+    ghost invariant = { λ p. ArePosted (record { job = p.job; places = p.places.items; events = p.events.items }) × (p.room.items ≡ []) × (length p.places.items ≤ vec_capacity p.room) };
 }
 
 /// How many blocks may be committed.
@@ -55,19 +62,25 @@ pub fn cut(posted: &Posted) -> usize
 impl<'a> Posted<'a> {
     ghost use Rattle.block_stage.specs.Stages.{ArePosted};
 
-    // Runs at the places of their blocks, and what happened.
+    // Runs at the places of their blocks, what happened, room for what each block wrote, and spares.
     pub(crate) fn new(
         job: Job<'a>,
         places: Vec<Option<Trace<'a>>>,
         events: Vec<Event>,
+        room: Vec<Changes>,
+        spares: Vec<Changes>,
     ) -> Posted<'a>
-        requires { ArePosted (record { job = job; places = places.items; events = events.items }) }
+        requires posted { ArePosted (record { job = job; places = places.items; events = events.items }) }
+        requires empty { room.items ≡ [] }
+        requires room { length places.items ≤ vec_capacity room }
         ensures { result ≡ record { job = job.entry; places = places.entry.items; events = events.items } }
     {
         Posted {
             job,
             places,
             events,
+            room,
+            spares,
         }
     }
 
@@ -85,15 +98,55 @@ impl<'a> Posted<'a> {
         &self.events
     }
 
-    /// The cells that the first so many blocks wrote, in any order, and maybe more than once. The `AllocError` comes where a growth
-    /// was refused.
-    pub fn changed(&self, alloc: Global, count: usize) -> Result<Vec<usize>, AllocError>
-        requires { count ≤ length self.now.places }
-        ensures { IfOk result (λ v. AreWritten v.items (take count self.now.places)) }
+    /// How many turns the blocks that were posted used, all together; the greatest number where they are more.
+    pub fn turns(&self) -> u64
+        ensures { result ≡ turns_posted self.now.places }
     {
-        let mut numbers = Vec::new(alloc);
-        add_written(&self.places[..count], &mut numbers)?;
-        Ok(numbers)
+        turns_of(&self.places)
+    }
+
+    /// What the blocks before the cut wrote, in their order, how the last of them ended, and their turns. It lets the base go, and
+    /// takes no memory.
+    pub fn taken(self, cut: usize) -> Taken
+        requires cut { IsCut self.job.turns self.places cut }
+        requires some { 0 < cut }
+        // The trips before the cut, one after another from the base, end and leave this.
+        ensures fold { let d = data_of self.entry.job in
+            trips_of d d.first (trips_before d cut) (base_of d) d.turns ≡ ran d result.outcome (overlay_each (base_of d) result.written) result.used }
+        // What they wrote, put in in their order.
+        ensures map { (m : Cells) → overlay_each m result.written ≡ overlay_all m (take cut self.entry.places) }
+        ensures turns { result.used ≡ turns_to self.entry.places cut }
+        ensures within { result.used ≤ self.entry.job.turns }
+        ensures outcome { result.outcome ≡ outcome_to self.entry.places cut }
+        ensures cells { result.cells ≡ length self.entry.job.base }
+    {
+        let Posted {
+            job,
+            places,
+            events,
+            room,
+            spares,
+        } = self;
+        let parts: Parts = job.parts();
+        let run = run_before(&places, cut);
+        let changes = changes_of(places, room);
+        drop(events);
+        Taken::new(parts.base.cells().len(), cut, run, changes, spares)
+    }
+
+    /// What the runs were kept in, for the blocks of further stages. It takes no memory but for the list of those that no block was
+    /// handed; where that is refused some of them are let go.
+    pub fn into_spares(self) -> Vec<Changes> {
+        let Posted {
+            job,
+            places,
+            events,
+            room,
+            spares,
+        } = self;
+        drop(job);
+        drop(events);
+        joined(changes_of(places, room), spares)
     }
 
     /// Applies the blocks before the cut, in their order, to a store equal to the base.
@@ -111,75 +164,106 @@ impl<'a> Posted<'a> {
         ensures outcome { result.outcome ≡ outcome_to self.entry.places cut }
         ensures len { length target.new ≡ length target.old }
     {
-        let _parts: Parts = self.job.parts();
-        apply_all(&self.places, cut, target)
+        self.taken(cut).apply(target)
     }
 }
 
-// Puts the cells that some of the blocks wrote behind others.
-fn add_written(places: &[Option<Trace<'_>>], numbers: &mut Vec<usize>) -> Result<(), AllocError>
-    ensures { IfOk result (λ _. AddsWrittenIn places.now numbers.old.items numbers.new.items) }
+// The turns of all runs, no more than the greatest number.
+fn turns_of(places: &[Option<Trace<'_>>]) -> u64
+    ensures { result ≡ turns_posted places.now }
 {
+    let mut sum: u64 = 0;
     for place in places {
-        add_written_by(place, numbers)?;
+        sum = sum.saturating_add(turns_in(place));
     }
-    Ok(())
+    sum
 }
 
-// Puts the cells that a block wrote behind others.
-fn add_written_by(place: &Option<Trace<'_>>, numbers: &mut Vec<usize>) -> Result<(), AllocError>
-    ensures { IfOk result (λ _. AddsWrittenBy place.now numbers.old.items numbers.new.items) }
+// The turns of a run, which may be missing.
+fn turns_in(place: &Option<Trace<'_>>) -> u64
+    ensures { result ≡ turns_in place.now }
 {
     match place {
-        Some(trace) => {
-            trace.add_written(numbers)?;
-            Ok(())
-        }
-        None => Ok(()),
+        Some(trace) => trace.used(),
+        None => 0,
     }
 }
 
-// Applies the first so many blocks, in their order.
-fn apply_all(places: &[Option<Trace<'_>>], cut: usize, target: &mut Whole) -> Run
+// How a run ended, which may be missing.
+fn outcome_in(place: &Option<Trace<'_>>) -> Outcome
+    ensures { result ≡ outcome_in place.now }
+{
+    match place {
+        Some(trace) => trace.outcome(),
+        None => Outcome::Normal,
+    }
+}
+
+// How the last of the first so many blocks ended, and the turns of all of these.
+fn run_before(places: &[Option<Trace<'_>>], cut: usize) -> Run
     requires some { 0 < cut }
     requires within { cut ≤ length places.now }
     requires fits { turns_to places.now cut < 2 ^ 64 }
-    requires sized { AllSized (length target.old) places.now }
-    ensures map { known (world_of target.new) ≡ overlay_all (known (world_of target.old)) (take cut places.now) }
     ensures turns { result.turns_used ≡ turns_to places.now cut }
     ensures outcome { result.outcome ≡ outcome_to places.now cut }
-    ensures len { length target.new ≡ length target.old }
 {
-    let mut run = Run {
-        outcome: Outcome::Normal,
-        turns_used: 0,
-    };
-    for place in &places[..cut] {
-        run = apply_one(place, run.turns_used, target);
+    let mut turns_used: u64 = 0;
+    for at in 0..cut {
+        turns_used += turns_in(&places[at]);
     }
-    run
+    Run {
+        outcome: outcome_in(&places[cut - 1]),
+        turns_used,
+    }
 }
 
-// Applies a block to what those before it left, with the turns that they used.
-fn apply_one(place: &Option<Trace<'_>>, before: u64, target: &mut Whole) -> Run
-    requires fits { before + turns_in place.now < 2 ^ 64 }
-    requires sized { IsSized (length target.old) place.now }
-    ensures map { known (world_of target.new) ≡ overlay_by (known (world_of target.old)) place.now }
-    ensures turns { result.turns_used ≡ before + turns_in place.now }
-    ensures outcome { result.outcome ≡ outcome_in place.now }
-    ensures len { length target.new ≡ length target.old }
+// Puts what a run wrote behind others, where there is a run; there is room.
+fn put<'a>(changes: &mut Vec<Changes>, place: Option<Trace<'a>>)
+    requires room { vec_len changes.old < vec_capacity changes.old }
+    ensures items { changes.new.items ≡ changes.old.items ++ wrote_in (place.entry ∷ []) }
+    ensures capacity { vec_capacity changes.old ≤ vec_capacity changes.new }
+    ensures len { vec_len changes.new ≤ vec_len changes.old + 1 }
 {
-    match place {
-        Some(trace) => {
-            trace.apply_to(target);
-            Run {
-                outcome: trace.outcome(),
-                turns_used: before + trace.used(),
-            }
+    if let Some(trace) = place {
+        if changes.push(trace.into_changes()).is_err() {
+            unreachable!()
         }
-        None => Run {
-            outcome: Outcome::Normal,
-            turns_used: before,
-        },
     }
+}
+
+// Takes what stands at a place, and leaves it missing.
+fn take_place<'a>(places: &mut Vec<Option<Trace<'a>>>, at: usize) -> Option<Trace<'a>>
+    requires { at < length places.old.items }
+    ensures run { slice_get places.old.items at ≡ Some result }
+    ensures others { (k : ℕ) → at < k → slice_get places.new.items k ≡ slice_get places.old.items k }
+    ensures len { length places.new.items ≡ length places.old.items }
+{
+    replace(&mut places[at], None)
+}
+
+// What the blocks that have a run wrote, in the room for it.
+fn changes_of<'a>(places: Vec<Option<Trace<'a>>>, room: Vec<Changes>) -> Vec<Changes>
+    requires empty { room.items ≡ [] }
+    requires room { length places.items ≤ vec_capacity room }
+    ensures { result.items ≡ wrote_in places.entry.items }
+{
+    let mut places = places;
+    let mut changes = room;
+    for at in 0..places.len() {
+        let place = take_place(&mut places, at);
+        put(&mut changes, place);
+    }
+    drop(places);
+    changes
+}
+
+// Some spares and others; where there is no memory for their list some are let go.
+pub(crate) fn joined(changes: Vec<Changes>, spares: Vec<Changes>) -> Vec<Changes> {
+    let mut all = changes;
+    for spare in spares {
+        if all.push(spare).is_err() {
+            return all;
+        }
+    }
+    all
 }

@@ -5,16 +5,17 @@ ghost use Rattle.schedules.specs.Schedules.{SettledOnce};
 ghost use Rattle.block_stage.specs.Jobs.{data_of};
 ghost use Rattle.block_stage.specs.Stages.{LeadTo};
 
-use crate::block::{BlockRun, run_block};
+use crate::block::{BlockRun, run_block_in};
 use crate::board::Board;
 use crate::gate::Gate;
 use crate::job::{Job, JobKey, Parts};
 use crate::posted::Posted;
+use private_view::Changes;
 use std::alloc::{AllocError, Global};
 use std::marker::{Brand, Model, PhantomData};
 use std::sync::Wait;
 use std::thread::Threads;
-use workers::{Work, run_all};
+use workers::{Desk, Work, run_all};
 
 /// How the blocks of J's job are run: each on a view of its own, through a gate.
 #[derive(Drop)]
@@ -41,9 +42,13 @@ impl<'a, J: JobKey, G: Gate> Model for BlockWork<'a, J, G> {
     ghost invariant = { λ w. data_of w.job ≡ J.job };
 }
 
-impl<'a, J: JobKey, G: Gate> Work<BlockRun<'a, J>> for BlockWork<'a, J, G> {
-    fn run(&self, block: u32) -> Option<BlockRun<'a, J>> {
-        match run_block::<J, G>(self.alloc, &self.job, block, self.gate) {
+impl<'a, J: JobKey, G: Gate> Work<BlockRun<'a, J>, Changes> for BlockWork<'a, J, G> {
+    fn run(&self, block: u32, spare: Option<Changes>) -> Option<BlockRun<'a, J>>
+        requires { block < J.job.blocks }
+        ensures { IfSome result (λ r. r.block ≡ block) }
+    {
+        let view = self.job.fresh_view(self.alloc, spare);
+        match run_block_in::<J, G>(&self.job, block, self.gate, view) {
             Ok(run) => Some(run),
             Err(_) => None,
         }
@@ -56,7 +61,9 @@ fn stage_of<'a, J: JobKey + Send + Sync, R: Threads + Wait + Sync, G: Gate + Syn
     alloc: Global,
     job: &Job<'a>,
     workers: u32,
+    missing: u64,
     gate: &'a G,
+    spares: Vec<Changes>,
 ) -> Result<Posted<'a>, AllocError>
     requires key { data_of job.now ≡ J.job }
     requires some { 0 < workers }
@@ -66,16 +73,33 @@ fn stage_of<'a, J: JobKey + Send + Sync, R: Threads + Wait + Sync, G: Gate + Syn
 {
     let parts: Parts<'a> = job.parts();
     let board: Board<'a, J> = Board::new(alloc, job, workers)?;
-    let Board { job, blocks, room } = board;
+    let Board {
+        job,
+        blocks,
+        room,
+        changes,
+    } = board;
     let work: BlockWork<'a, J, G> = BlockWork {
         job: job.again(),
         gate,
         alloc,
         of: PhantomData,
     };
-    let blocks = run_all(rt, blocks, &work, parts.blocks, workers);
-    let board: Board<'a, J> = Board { job, blocks, room };
-    Ok(board.close())
+    let desk = Desk {
+        board: blocks,
+        spares,
+    };
+    let Desk {
+        board: blocks,
+        spares,
+    } = run_all(rt, desk, &work, parts.blocks, workers, missing);
+    let board: Board<'a, J> = Board {
+        job,
+        blocks,
+        room,
+        changes,
+    };
+    Ok(board.close_with(spares))
 }
 
 /// Runs the blocks of a job by so many workers, of which the calling thread is one and each other has a thread where one can be
@@ -93,7 +117,46 @@ pub fn run_stage<'a, R: Threads + Wait + Sync, G: Gate + Sync>(
     ensures once { IfSome result (λ p. SettledOnce job.now.blocks p.events) }
     ensures lead { IfSome result (λ p. LeadTo p.events p.places) }
 {
-    match stage_of::<Brand, R, G>(rt, alloc, job, workers, gate) {
+    run_stage_without(rt, alloc, job, workers, 0, gate)
+}
+
+/// The same where some of the workers aren't started, as if their start had been refused: worker k, for k from 1 to 63, where bit k of
+/// `missing` is set. The calling thread is worker 0, and always works.
+pub fn run_stage_without<'a, R: Threads + Wait + Sync, G: Gate + Sync>(
+    rt: &R,
+    alloc: Global,
+    job: &Job<'a>,
+    workers: u32,
+    missing: u64,
+    gate: &'a G,
+) -> Option<Posted<'a>>
+    requires some { 0 < workers }
+    ensures job { IfSome result (λ p. p.job ≡ job.now) }
+    ensures once { IfSome result (λ p. SettledOnce job.now.blocks p.events) }
+    ensures lead { IfSome result (λ p. LeadTo p.events p.places) }
+{
+    match stage_of::<Brand, R, G>(rt, alloc, job, workers, missing, gate, Vec::new(alloc)) {
+        Ok(posted) => Some(posted),
+        Err(_) => None,
+    }
+}
+
+/// The same as `run_stage`, the views of the blocks being kept in spares while there are any: what views of earlier stages were kept
+/// in. They come back by what is posted.
+pub fn run_stage_in<'a, R: Threads + Wait + Sync, G: Gate + Sync>(
+    rt: &R,
+    alloc: Global,
+    job: &Job<'a>,
+    workers: u32,
+    gate: &'a G,
+    spares: Vec<Changes>,
+) -> Option<Posted<'a>>
+    requires some { 0 < workers }
+    ensures job { IfSome result (λ p. p.job ≡ job.now) }
+    ensures once { IfSome result (λ p. SettledOnce job.now.blocks p.events) }
+    ensures lead { IfSome result (λ p. LeadTo p.events p.places) }
+{
+    match stage_of::<Brand, R, G>(rt, alloc, job, workers, 0, gate, spares) {
         Ok(posted) => Some(posted),
         Err(_) => None,
     }

@@ -1,17 +1,12 @@
 //! What a block did, by itself.
 
-ghost use Rattle.std.specs.Prelude.{◌≡◌, IfOk, is_some, length};
-ghost use Rattle.private_view.specs.Views.{AddsWritten};
-ghost use Rattle.std.specs.FinMap as map;
-ghost use Rattle.meaning.specs.Stores.{known, overlay};
+ghost use Rattle.std.specs.Prelude.{◌≡◌};
 ghost use Rattle.meaning.specs.Turns.{is_turn_limit as limits};
-ghost use Rattle.array_store.specs.Whole.{world_of};
 ghost use Rattle.block_stage.specs.Cuts.{is_limit, reads_of};
+ghost use Rattle.block_stage.specs.Taken.{wrote_by};
 
-use array_store::Whole;
 use meaning::ending::{FaultKind, Outcome};
-use private_view::View;
-use std::alloc::AllocError;
+use private_view::{Changes, View};
 use std::marker::Model;
 
 /// What a block did, by itself. Contracts see the block, its outcome, its turns and what its view saw.
@@ -93,21 +88,17 @@ impl<'a> Trace<'a> {
         &self.view
     }
 
-    // Puts the numbers of the cells that it wrote behind others.
-    pub(crate) fn add_written(&self, numbers: &mut Vec<usize>) -> Result<(), AllocError>
-        ensures { IfOk result (λ _. AddsWritten self.now.seen numbers.old.items numbers.new.items) }
+    // What it wrote, without the loan of the cells.
+    pub(crate) fn into_changes(self) -> Changes
+        ensures { result ≡ wrote_by self.entry }
     {
-        self.view.add_written(numbers)?;
-        Ok(())
-    }
-
-    // Puts what it wrote into a whole store of as many cells.
-    pub(crate) fn apply_to(&self, target: &mut Whole)
-        requires { length target.old ≡ length self.now.seen.base }
-        ensures values { known (world_of target.new) ≡ overlay (known (world_of target.old)) (map.get self.now.seen.written) }
-        ensures len { length target.new ≡ length target.old }
-    {
-        self.view.apply_to(target);
+        let Trace {
+            block: _,
+            outcome: _,
+            used: _,
+            view,
+        } = self;
+        view.into_changes()
     }
 }
 

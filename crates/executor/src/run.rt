@@ -13,8 +13,9 @@ use meaning::plan::Plan;
 use meaning::syntax::Loop;
 use programs::Program;
 use record_sinks::Sink;
-use stage_loop::{Gate, run_loop};
+use stage_loop::{Gate, Kept, run_loop_with};
 use std::alloc::Global;
+use std::cell::Cell;
 use std::sync::Wait;
 use std::thread::Threads;
 
@@ -37,12 +38,18 @@ pub fn run<R: Threads + Wait + Sync, S: Sink, G: Gate + Sync>(
     if plan.workers() < 2 {
         return run_in_order(alloc, source, plan, sink);
     }
+    // What one DO statement leaves for those behind it.
+    let kept = Cell::new(Kept::new(alloc));
     let staged = Staged {
         call: |program: &Program, repeated: &Loop, cells: &mut Whole, turns: &mut u64| -> Outcome
             requires { IsAsked program.now repeated.now cells.now }
             ensures { IsGiven program.now repeated.now cells.old cells.new turns.old turns.new result }
         {
-            let run = run_loop(rt, alloc, program, repeated, cells, *turns, plan, gate);
+            let mut own = kept.replace(Kept::new(alloc));
+            let run = run_loop_with(
+                rt, alloc, program, repeated, cells, *turns, plan, &mut own, gate,
+            );
+            kept.set(own);
             *turns -= run.turns_used;
             run.outcome
         },

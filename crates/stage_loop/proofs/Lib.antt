@@ -1,4 +1,3 @@
-pub mod Copying
 pub mod Values
 pub mod Advances
 pub mod QuietLoop

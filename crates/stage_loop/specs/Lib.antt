@@ -1,3 +1,3 @@
 pub mod Crews
 pub mod Loops
-pub mod Changes
+pub mod Fronts

@@ -15,6 +15,7 @@ ghost use Rattle.block_stage.specs.Jobs.{range_in, shape_in};
 ghost use Rattle.evaluator.specs.Unset.{LeavesItsVariable};
 
 use crate::course::Course;
+use crate::kept::Kept;
 use crate::stages::run_stages;
 use array_store::Whole;
 use block_stage::Gate;
@@ -36,6 +37,7 @@ fn run_do<R: Threads + Wait + Sync, G: Gate + Sync>(
     repeated: &Loop,
     repeat: &Repeat,
     plan: &Plan,
+    kept: &mut Kept,
     cells: &mut Whole,
     turns: &mut u64,
     gate: &G,
@@ -69,7 +71,7 @@ fn run_do<R: Threads + Wait + Sync, G: Gate + Sync>(
                 trips: count_of(span),
             };
             run_stages(
-                rt, alloc, program, repeated, course, plan, cells, turns, gate,
+                rt, alloc, program, repeated, repeat, course, plan, kept, cells, turns, gate,
             )
         }
         Err(kind) => Outcome::Fault(Fault { kind, line }),
@@ -83,6 +85,7 @@ fn run_any<R: Threads + Wait + Sync, G: Gate + Sync>(
     program: &Program,
     repeated: &Loop,
     plan: &Plan,
+    kept: &mut Kept,
     cells: &mut Whole,
     turns: &mut u64,
     gate: &G,
@@ -101,7 +104,7 @@ fn run_any<R: Threads + Wait + Sync, G: Gate + Sync>(
 {
     match repeat_in(program, &repeated.head) {
         Some(repeat) => run_do(
-            rt, alloc, program, repeated, repeat, plan, cells, turns, gate,
+            rt, alloc, program, repeated, repeat, plan, kept, cells, turns, gate,
         ),
         None => Outcome::Normal,
     }
@@ -133,8 +136,42 @@ pub fn run_loop<R: Threads + Wait + Sync, G: Gate + Sync>(
     ensures within { result.turns_used ≤ turns }
     ensures len { length cells.new ≡ length cells.old }
 {
+    let mut kept = Kept::new(alloc);
+    run_loop_with(
+        rt, alloc, program, repeated, cells, turns, plan, &mut kept, gate,
+    )
+}
+
+/// The same with what is kept of DO statements that were run by stages before, and for those that are run later. What is kept is never
+/// seen in the answer: it saves time and memory, and says how many workers the first stage is worth.
+pub fn run_loop_with<R: Threads + Wait + Sync, G: Gate + Sync>(
+    rt: &R,
+    alloc: Global,
+    program: &Program,
+    repeated: &Loop,
+    cells: &mut Whole,
+    turns: u64,
+    plan: &Plan,
+    kept: &mut Kept,
+    gate: &G,
+) -> Run
+    requires named { AreStatements program.now (flat (range_in repeated.now)) }
+    requires kept { IsKept program.now (range_in repeated.now) }
+    requires quiet { WritesNothing (range_in repeated.now) }
+    requires leaves { LeavesItsVariable repeated.now }
+    requires head { IsStatement program.now (item_tree (out-Loop repeated.now).head) }
+    requires sized { length cells.old ≡ count_in program.now }
+    ensures moves { MovesIn program.now cells.old cells.new
+        (loop_as (items_in program.now) (shape_in repeated.now) repeated.now)
+        turns (turns - result.turns_used) result.outcome }
+    ensures spends { Spends result.outcome turns (turns - result.turns_used) }
+    ensures within { result.turns_used ≤ turns }
+    ensures len { length cells.new ≡ length cells.old }
+{
     let mut left = turns;
-    let outcome = run_any(rt, alloc, program, repeated, plan, cells, &mut left, gate);
+    let outcome = run_any(
+        rt, alloc, program, repeated, plan, kept, cells, &mut left, gate,
+    );
     let turns_used = turns - left;
     Run {
         outcome,

@@ -2,11 +2,12 @@
 //! (after Rauchwerger and Padua, and Dang, Yu and Rauchwerger).
 #![tactic(auto)]
 
-mod copies;
 mod course;
 mod do_statement;
+mod kept;
 mod size;
 mod stages;
 
 pub use block_stage::{Gate, Open};
-pub use do_statement::run_loop;
+pub use do_statement::{run_loop, run_loop_with};
+pub use kept::Kept;

@@ -18,15 +18,15 @@ pub(crate) fn blocks_of(left: u64, block: u64, window: u32) -> u32
     window
 }
 
-/// How many workers a stage has: no more than blocks, and where a stage went before, as many as the turns that it committed pay for,
-/// since to start a thread costs what some 2,000 turns do. The calling thread is one of them.
-pub(crate) fn workers_of(most: u32, blocks: u32, committed: Option<u64>) -> u32
+/// How many workers a stage has: no more than blocks, and where it is known what the blocks of a stage before used, as many as these
+/// turns pay for, since to start a thread costs what some 2,000 turns do. The calling thread is one of them.
+pub(crate) fn workers_of(most: u32, blocks: u32, last: Option<u64>) -> u32
     requires most { 0 < most }
     requires blocks { 0 < blocks }
-    ensures { result ≡ paid_by committed (min most blocks) }
+    ensures { result ≡ paid_by last (min most blocks) }
 {
     let all = most.min(blocks);
-    match committed {
+    match last {
         Some(turns) => {
             let paid = turns / 2048 + 1;
             if paid < u64::from(all) {

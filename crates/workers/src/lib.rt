@@ -4,5 +4,5 @@
 mod crew;
 mod work;
 
-pub use crew::run_all;
+pub use crew::{Desk, run_all};
 pub use work::Work;

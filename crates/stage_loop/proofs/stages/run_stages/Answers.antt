@@ -11,7 +11,7 @@ use Rattle.stage_loop.proofs.stages.run_stages.Goals as goal
 
 pub loop-rest-init : goal.loop-rest-init
 loop-rest-init g c =
-    record { so_far = reaches_none _ c.args.turns.now; step = refl; has = λ some. c.requires.has; fits = c.requires.fits; alike = tt; len = refl }
+    record { so_far = reaches_none _ c.args.turns.now; step = refl; has = λ some. c.requires.has; fits = c.requires.fits; len = refl }
 
 pub run_next-done-requires-clause-moves : goal.run_next-done-requires-clause-moves
 run_next-done-requires-clause-moves g c = λ κs h none. c.requires.moves (sym c.loop-rest.invariant.step ∙ none)
@@ -22,9 +22,6 @@ run_next-done-requires-clause-fits g c = λ κs h.
 
 pub run_next-done-requires-clause-sized : goal.run_next-done-requires-clause-sized
 run_next-done-requires-clause-sized g c = λ κs h. c.loop-rest.invariant.len ∙ c.requires.sized
-
-pub run_next-done-requires-clause-alike : goal.run_next-done-requires-clause-alike
-run_next-done-requires-clause-alike g c = λ κs h. c.loop-rest.invariant.alike
 
 pub returns-in-Left-clause-leaves : goal.returns-in-Left-clause-leaves
 returns-in-Left-clause-leaves g c =
@@ -183,7 +180,6 @@ loop-rest-preserved g c =
       step = c.behind-rest.ensures.step ∙ inv.step;
       has = λ h. next_value all l step c.requires.quiet.unset rest.value done m new t left (inv.has c.loop-rest-test.true) told ∙ sym (value h);
       fits = λ k lt. integers_further rest.value next.value step done rest.trips inv.fits (value (omega arith)) k (omega arith);
-      alike = y.ensures.alike;
       len = y.ensures.len ∙ inv.len;
     }
 

@@ -1,5 +1,4 @@
 use Rattle.std.proofs.Common.{◌≡◌, ◌<◌, [], length}
-use Rattle.std.specs.Prelude.{IfSome}
 use Rattle.numbering.specs.Checked.{items_in}
 use Rattle.numbering.specs.Starts.{map_of}
 use Rattle.evaluator.specs.Statements.{Reaches}
@@ -17,7 +16,6 @@ invariant-loop-rest g l = record {
   step : l.rest.step ≡ l.fn.course.step;
   has : 0 < l.rest.trips → map_of l.program l.cells (variable_in l.repeated) [] ≡ l.rest.value;
   fits : AreIntegers l.rest.value l.fn.course.step l.rest.trips;
-  alike : IfSome l.copy (λ c. c ≡ l.cells);
   len : length l.cells ≡ length l.initial.cells;
 }
 

@@ -3,10 +3,10 @@ use Rattle.std.proofs.lemmas.List.{length-map}
 use Rattle.block_stage.specs.Jobs.{JobData}
 use Rattle.block_stage.specs.Stages.{AreRunsOf, run_in}
 use Rattle.block_stage.proofs.Boards.{leads_on}
-use Rattle.block_stage.proofs.board.Board.close.Goals as goal
+use Rattle.block_stage.proofs.board.Board.close_with.Goals as goal
 
-pub new-requires : goal.new-requires
-new-requires g c =
+pub new-requires-clause-posted : goal.new-requires-clause-posted
+new-requires-clause-posted g c =
     let places = c.close-places.result.places.items in
     let key = c.self.invariant.0 in
     record {
