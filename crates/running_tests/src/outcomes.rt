@@ -12,20 +12,24 @@ use std::sync::Wait;
 use std::thread::Threads;
 
 /// A writer in memory that takes at most `step` bytes a call and `room` bytes in all; past that it answers 0, or an
-/// error.
+/// error, and counts such calls.
 #[derive(Drop)]
 pub struct Meter {
     pub bytes: Vec<u8>,
     pub step: usize,
     pub room: usize,
+    pub refusals: u64,
     errs: bool,
 }
 
 impl Write for Meter {
     fn write(&mut self, buf: &[u8]) -> io::Result<usize> {
         let count = buf.len().min(self.step).min(self.room);
-        if count == 0 && self.errs && !buf.is_empty() {
-            return Err(io::Error::from(ErrorKind::BrokenPipe));
+        if count == 0 && !buf.is_empty() {
+            self.refusals = self.refusals.saturating_add(1);
+            if self.errs {
+                return Err(io::Error::from(ErrorKind::BrokenPipe));
+            }
         }
         self.bytes.extend_from_slice(&buf[..count])?;
         self.room -= count;
@@ -46,6 +50,7 @@ pub fn make_meter(alloc: Global, step: usize, room: usize, errs: bool) -> Meter 
         bytes: Vec::new(alloc),
         step,
         room,
+        refusals: 0,
         errs,
     }
 }

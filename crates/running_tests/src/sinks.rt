@@ -1,65 +1,131 @@
 //! Sinks over writers that take all, some or nothing of what they are given.
 
-use crate::outcomes::{MANY, Meter, make_meter, plan_with, stopped_with};
-use executor::run::run_in_order;
-use executor::{Out, Refused, Sink, put_all};
-use meaning::ending::Ending;
+use crate::outcomes::{MANY, Meter, make_meter, stopped_with};
+use executor::run::run;
+use executor::{Open, Out, Refused, Sink, put_all};
+use meaning::ending::{Ending, Fault, FaultKind};
+use meaning::plan::Plan;
 use std::alloc::{AllocError, Global};
 use std::process::Abort;
+use std::sync::Wait;
 use std::test::*;
+use std::thread::Threads;
 
-/// Two WRITEs, of 7 and 8 bytes.
-const TWO_WRITES: &str =
-    "      WRITE (6,10) 123\n      WRITE (6,20) 45\n   10 FORMAT (I6)\n   20 FORMAT (I7)\n      END\n";
+/// A source; what it writes; and the line at which it divides by zero behind that, if it doesn't end.
+type Written = (&'static str, &'static str, Option<u32>);
 
-const BOTH: &str = "   123\n     45\n";
+/// Two WRITEs of a record each; three records of one WRITE, by a format that is gone back to; these behind a DO statement whose trips are
+/// tried by stages; and a fault behind them.
+const WRITTEN: &[Written] = &[
+    (
+        "      WRITE (6,10) 123\n      WRITE (6,20) 45\n   10 FORMAT (I6)\n   20 FORMAT (I7)\n      END\n",
+        "   123\n     45\n",
+        None,
+    ),
+    (
+        "      WRITE (6,10) 1,2,3,4,5,6\n   10 FORMAT (I2,2(I3))\n      END\n",
+        " 1  2  3\n  4  5\n  6\n",
+        None,
+    ),
+    (
+        "      INTEGER A(6)\n      DO 10 I=1,6\n   10 A(I)=I\n      WRITE (6,20) A\n   20 FORMAT (I2,2(I3))\n      END\n",
+        " 1  2  3\n  4  5\n  6\n",
+        None,
+    ),
+    (
+        "      INTEGER A(6)\n      DO 10 I=1,6\n   10 A(I)=I\n      WRITE (6,20) A\n   20 FORMAT (I2,2(I3))\n      I=1/(J-J)\n      WRITE (6,20) 7\n      END\n",
+        " 1  2  3\n  4  5\n  6\n",
+        Some(6),
+    ),
+];
 
 /// How many bytes a writer takes at most of a piece: a byte, a few, all.
 const STEPS: &[usize] = &[1, 3, usize::MAX];
 
-/// Runs a source over a writer: its ending, whether the sink has refused, and the bytes that were taken.
-fn run_over(rt: &impl Abort, alloc: Global, source: &str, meter: Meter) -> (Ending, bool, Vec<u8>) {
-    let mut sink = Out::new(meter);
-    let plan = plan_with(rt, MANY);
-    let report = run_in_order(alloc, source.as_bytes(), &plan, &mut sink);
-    let refused = sink.refused();
-    let Meter { bytes, .. } = sink.into_inner();
-    (report.ending, refused, bytes)
-}
+/// How many workers run a source: one, in order, and four.
+const WORKERS: &[u64] = &[1, 4];
 
-/// Whether a source over a writer comes to this ending, refused or not, and these bytes are taken.
-fn agrees_over(
-    rt: &impl Abort,
+/// Runs a source over a writer by so many workers, in blocks of two trips: its ending, whether the sink has refused, and the writer.
+fn run_over<R: Abort + Threads + Wait + Sync>(
+    rt: &R,
     alloc: Global,
     source: &str,
+    workers: u64,
+    meter: Meter,
+) -> (Ending, bool, Meter) {
+    let mut sink = Out::new(meter);
+    let plan = Plan::new(workers, 2, 8, MANY).expect(rt, "a plan");
+    let report = run(rt, alloc, source.as_bytes(), &plan, &mut sink, &Open);
+    let refused = sink.refused();
+    (report.ending, refused, sink.into_inner())
+}
+
+/// Whether a source over a writer comes to this ending, refused or not, these bytes are taken, and the writer isn't called again once it
+/// has refused.
+fn agrees_over<R: Abort + Threads + Wait + Sync>(
+    rt: &R,
+    alloc: Global,
+    source: &str,
+    workers: u64,
     meter: Meter,
     want: &Ending,
     taken: &[u8],
 ) -> bool {
-    let (ending, refused, bytes) = run_over(rt, alloc, source, meter);
-    ending == *want && refused == (*want == Ending::WriteRefused) && bytes.as_slice() == taken
+    let (ending, refused, meter) = run_over(rt, alloc, source, workers, meter);
+    let Meter {
+        bytes,
+        refusals,
+        ..
+    } = meter;
+    let broken = *want == Ending::WriteRefused;
+    let told = ending == *want && refused == broken;
+    told && refusals == u64::from(broken) && bytes.as_slice() == taken
 }
 
-/// Runs the two WRITEs over a writer with so much room.
-fn runs(rt: &impl Abort, alloc: Global, step: usize, room: usize, errs: bool) {
-    let want = if room >= 15 {
-        Ending::Ended
-    } else {
+/// How a source ends that divides by zero at a line, or doesn't.
+fn ending_at(line: Option<u32>) -> Ending {
+    match line {
+        Some(line) => Ending::Fault(Fault {
+            kind: FaultKind::F1,
+            line,
+        }),
+        None => Ending::Ended,
+    }
+}
+
+/// Runs a source over a writer with so much room, by each number of workers.
+fn runs<R: Abort + Threads + Wait + Sync>(
+    rt: &R,
+    alloc: Global,
+    written: Written,
+    step: usize,
+    room: usize,
+    errs: bool,
+) {
+    let (source, records, line) = written;
+    let whole = records.as_bytes();
+    let taken = whole.get(..room).unwrap_or(whole);
+    let want = if taken.len() < whole.len() {
         Ending::WriteRefused
+    } else {
+        ending_at(line)
     };
-    let meter = make_meter(alloc, step, room, errs);
-    let both = BOTH.as_bytes();
-    let taken = both.get(..room).unwrap_or(both);
-    let same = agrees_over(rt, alloc, TWO_WRITES, meter, &want, taken);
-    assert!(rt; same);
+    for &workers in WORKERS {
+        let meter = make_meter(alloc, step, room, errs);
+        let same = agrees_over(rt, alloc, source, workers, meter, &want, taken);
+        assert!(rt; same, "{workers} {step} {room} {errs}: {source}");
+    }
 }
 
+/// A writer that takes so many bytes and no more has exactly these, whether it answers 0 then or an error.
 #[test]
 fn refused_writes(rt: HostRuntime) {
-    for &step in STEPS {
-        for room in 0..17usize {
-            runs(&rt, rt.alloc(), step, room, false);
-            runs(&rt, rt.alloc(), step, room, true);
+    for &written in WRITTEN {
+        for &step in STEPS {
+            for room in 0..22usize {
+                runs(&rt, rt.alloc(), written, step, room, false);
+                runs(&rt, rt.alloc(), written, step, room, true);
+            }
         }
     }
 }
@@ -71,18 +137,20 @@ const ONE_RECORD: &str = "      WRITE (6,10)\n   10 FORMAT ('ABCDEFGHIJ')\n     
 const THREE_RECORDS: &str =
     "      DO 10 I=1,3\n   10 WRITE (6,20) I\n   20 FORMAT (I6)\n      STOP 'LATER'\n      END\n";
 
-/// Runs a source over a writer with so much room.
-fn records_in(
-    rt: &impl Abort,
+/// Runs a source over a writer with so much room, by each number of workers.
+fn records_in<R: Abort + Threads + Wait + Sync>(
+    rt: &R,
     alloc: Global,
     source: &str,
     room: usize,
     want: &Ending,
     taken: &str,
 ) {
-    let meter = make_meter(alloc, usize::MAX, room, true);
-    let same = agrees_over(rt, alloc, source, meter, want, taken.as_bytes());
-    assert!(rt; same);
+    for &workers in WORKERS {
+        let meter = make_meter(alloc, usize::MAX, room, true);
+        let same = agrees_over(rt, alloc, source, workers, meter, want, taken.as_bytes());
+        assert!(rt; same, "{workers}: {source}");
+    }
 }
 
 /// Room for a part of a record, for all records but one byte, and for all: what stands behind a refused write isn't executed.

@@ -7,28 +7,40 @@ use meaning::refusal::Rule;
 use std::alloc::{AllocError, Global};
 use std::process::Abort;
 
+/// A comment line ends where the place of a byte has all bits of a mask: behind 64 bytes, or at once.
+const LONG: usize = 63;
+
+const BLANK: usize = 0;
+
 /// A source with comment lines up to so many bytes.
-fn long_source(alloc: Global, length: usize) -> Result<Vec<u8>, AllocError> {
+fn long_source(alloc: Global, length: usize, mask: usize) -> Result<Vec<u8>, AllocError> {
     let mut source = Vec::from_slice(alloc, ANSWER.as_bytes())?;
     for place in source.len()..length {
-        source.push(if place % 64 == 63 { b'\n' } else { b'*' })?;
+        source.push(if place & mask == mask { b'\n' } else { b'*' })?;
     }
     Ok(source)
 }
 
-/// Whether a source with comment lines up to so many bytes comes to this.
-fn is_read(rt: &impl Abort, alloc: Global, length: usize, want: &Ending, records: &str) -> bool {
-    let source = long_source(alloc, length).expect(rt, "memory");
-    agrees(rt, alloc, &source, MANY, want, records.as_bytes())
+/// Whether a source with comment lines up to so many bytes is answered as it is without, or refused by C7.
+fn is_read(rt: &impl Abort, alloc: Global, length: usize, mask: usize, refused: bool) -> bool {
+    let source = long_source(alloc, length, mask).expect(rt, "memory");
+    let (want, records) = if refused {
+        (Ending::Refused(Rule::C7, 1), "")
+    } else {
+        (Ending::Ended, FORTY_TWO)
+    };
+    agrees(rt, alloc, &source, MANY, &want, records.as_bytes())
 }
 
+/// Comment lines behind the answer's three lines: 1,048,576 bytes are read, and so are 65,535 lines; one byte more and one line more are not.
 #[test]
 fn long_sources(rt: HostRuntime) {
-    // comment lines up to 1,048,576 bytes are read, one byte more is not
-    let read = is_read(&rt, rt.alloc(), 1_048_576, &Ending::Ended, FORTY_TWO);
-    let too_long = Ending::Refused(Rule::C7, 1);
-    let refused = is_read(&rt, rt.alloc(), 1_048_577, &too_long, "");
-    assert!(rt; read && refused);
+    let lines = ANSWER.len().saturating_add(65_532);
+    for &(length, mask) in [(1_048_576usize, LONG), (lines, BLANK)].as_slice() {
+        let longer = length.saturating_add(1);
+        assert!(rt; is_read(&rt, rt.alloc(), length, mask, false), "{length}");
+        assert!(rt; is_read(&rt, rt.alloc(), longer, mask, true), "{longer}");
+    }
 }
 
 /// What comes of the first bytes of a source.

@@ -1,6 +1,6 @@
 //! What views wrote, when their whole store is let go, and views that are used again.
 
-ghost use Rattle.std.specs.Prelude.{◌≡◌, ◌<◌, ◌≤◌, length};
+ghost use Rattle.std.specs.Prelude.{◌≡◌, ◌<◌, ◌≤◌, IfOk, length};
 
 use array_store::{Store, Whole};
 use meaning::cell::Cell;
@@ -64,6 +64,7 @@ fn write_page(view: &mut View<'_>) -> Result<(), AllocError>
 /// What a view wrote that read cell 65, and wrote cell 64 and all of the first page. It shows both pages.
 fn first_changes(rt: &impl Abort, alloc: Global, base: &Whole) -> Result<Changes, AllocError>
     requires { length base.now ≡ 130 }
+    ensures { IfOk result (λ c. c.cells ≡ 130) }
 {
     let mut view = View::new(alloc, base);
     reads(rt, &mut view, 65, 65);
@@ -192,7 +193,8 @@ fn all_cells_written(rt: HostRuntime) -> Result<(), Fail> {
         assert!(rt; target.cells().len() == count);
         all_applied(rt.alloc(), &base, &mut target)?;
         for (number, &value) in target.cells().iter().enumerate() {
-            assert!(rt; value == number as i32 * 2, "{number} of {count}");
+            let want = i32::try_from(number).unwrap_or(0).wrapping_mul(2);
+            assert!(rt; value == want, "{number} of {count}");
         }
     }
     Ok(())

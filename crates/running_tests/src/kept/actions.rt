@@ -54,7 +54,7 @@ fn kept_by_line(rt: HostRuntime) {
     drop(program);
 }
 
-/// A name is found in its cell: variables and arrays are numbered in the order of their first appearance.
+/// A name is found in its cell: variables are numbered in the order of their first appearance, and then arrays.
 #[test]
 fn cells_by_name(rt: HostRuntime) {
     let program = program_of(&rt, rt.alloc(), STATEMENTS);
@@ -66,7 +66,7 @@ fn cells_by_name(rt: HostRuntime) {
     drop(program);
 }
 
-/// A cells stand in 0 to 2, L's in 3 to 6, I's is 7.
+/// I's cell is 0, A's are 1 to 3, L's 4 to 7.
 const LISTED: &[&[u8]] = &[
     b"INTEGER A(3)",
     b"LOGICAL L(2,2)",
@@ -92,10 +92,10 @@ fn item_told(item: &ListCode) -> (&'static str, usize, usize) {
 }
 
 const ITEMS: &[(&str, usize, usize)] = &[
-    ("numbers", 0, 3),
+    ("numbers", 1, 3),
     ("value", 2, 0),
-    ("truths", 3, 4),
-    ("loop", 7, 0),
+    ("truths", 4, 4),
+    ("loop", 0, 0),
     ("value", 6, 0),
 ];
 

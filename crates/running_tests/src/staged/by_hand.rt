@@ -16,7 +16,7 @@ use std::sync::Wait;
 use std::thread::Threads;
 
 /// What a worker does at the board.
-#[derive(Clone, Copy, Debug)]
+#[derive(Clone, Copy, Debug, PartialEq, Eq)]
 pub enum Step {
     /// Asks for a block, and is given this one, or none.
     Claims(u32, Option<u32>),
@@ -82,7 +82,7 @@ fn take_step<'a, J: JobKey, R: Abort>(
     }
 }
 
-// What is posted on the board of three workers behind these steps.
+// What is posted on the board of four workers behind these steps.
 fn posted_in<'a, J: JobKey, R: Abort>(
     rt: &R,
     alloc: Global,
@@ -94,15 +94,15 @@ fn posted_in<'a, J: JobKey, R: Abort>(
     requires blocks { blocks ≡ job.now.blocks }
     ensures { result.job ≡ job.now }
 {
-    let mut board: Board<'a, J> = Board::new(alloc, job, 3).expect(rt, "memory");
+    let mut board: Board<'a, J> = Board::new(alloc, job, 4).expect(rt, "memory");
     for &step in steps {
         take_step(rt, alloc, job, blocks, &mut board, step);
     }
     board.close()
 }
 
-// What is posted behind these steps.
-fn posted_by<'a, R: Abort>(
+/// What is posted behind these steps on the board of four workers.
+pub fn posted_by<'a, R: Abort>(
     rt: &R,
     alloc: Global,
     job: &Job<'a>,
@@ -142,7 +142,7 @@ pub fn see_by_hand<R: Abort + Threads + Wait + Sync>(
     assert!(rt; place == by_hand.cut, "{place}");
 }
 
-/// Four blocks of two trips: A has cells 0 to 7, I 8, and each trip uses a turn.
+/// Four blocks of two trips: I has cell 0, A 1 to 8, and each trip uses a turn.
 const SOURCE: &str = "      INTEGER A(8)\n      DO 10 I=1,8\n   10 A(I)=I\n      END\n";
 
 /// The cells at the beginning and behind the first block. Nothing further may be committed.
@@ -152,7 +152,7 @@ const STATES: &[State] = &[
         turns: 0,
     },
     State {
-        cells: &[1, 2, 0, 0, 0, 0, 0, 0, 3],
+        cells: &[3, 1, 2, 0, 0, 0, 0, 0, 0],
         turns: 2,
     },
 ];

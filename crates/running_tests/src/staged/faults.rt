@@ -40,134 +40,134 @@ const NO_TURN_5: Fault = Fault {
     line: 5,
 };
 
-/// A has cells 0 to 2, I 3. The first trip misses A by its I, which is 0, and ends its block; trips 3 and 4 set A(2) and A(3).
+/// I has cell 0, A 1 to 3. The first trip misses A by its I, which is 0, and ends its block; trips 3 and 4 set A(2) and A(3).
 const FIRST_TRIP: &[Seen] = &[
     Seen {
         exposed: &[],
-        written: &[(3, 0)],
+        written: &[(0, 0)],
         outcome: Outcome::Fault(OUTSIDE_BOUNDS_3),
         turns: 1,
     },
     Seen {
         exposed: &[],
-        written: &[(3, 4), (1, 2), (2, 3)],
+        written: &[(0, 4), (2, 2), (3, 3)],
         outcome: Outcome::Normal,
         turns: 2,
     },
 ];
 
-/// A has cells 0 to 3, B 4 to 7, Z 8, I 9. Each block faults in its first trip, with B(I) and Z read, and A(I) not written.
+/// Z has cell 0, I 1, A 2 to 5, B 6 to 9. Each block faults in its first trip, with B(I) and Z read, and A(I) not written.
 const BOTH_FIRST_TRIPS: &[Seen] = &[
     Seen {
-        exposed: &[4, 8],
-        written: &[(9, 1)],
+        exposed: &[0, 6],
+        written: &[(1, 1)],
         outcome: Outcome::Fault(ZERO_DIVISOR_3),
         turns: 1,
     },
     Seen {
-        exposed: &[6, 8],
-        written: &[(9, 3)],
+        exposed: &[0, 8],
+        written: &[(1, 3)],
         outcome: Outcome::Fault(ZERO_DIVISOR_3),
         turns: 1,
     },
 ];
 
-/// A has cells 0 to 3, B 4 to 7, I 8. Trip 4 divides by B(4), which is 0; what trip 3 wrote stays.
+/// I has cell 0, A 1 to 4, B 5 to 8. Trip 4 divides by B(4), which is 0; what trip 3 wrote stays.
 const LAST_TRIP: &[Seen] = &[
     Seen {
-        exposed: &[4, 5],
-        written: &[(8, 3), (0, 12), (1, 6)],
+        exposed: &[5, 6],
+        written: &[(0, 3), (1, 12), (2, 6)],
         outcome: Outcome::Normal,
         turns: 2,
     },
     Seen {
-        exposed: &[6, 7],
-        written: &[(8, 4), (2, 4)],
+        exposed: &[7, 8],
+        written: &[(0, 4), (3, 4)],
         outcome: Outcome::Fault(ZERO_DIVISOR_4),
         turns: 2,
     },
 ];
 
-/// A has cells 0 to 2, I 3. The trips have I = -2147483646, -2147483647 and -2147483648, so the addition behind the third, which
+/// I has cell 0, A 1 to 3. The trips have I = -2147483646, -2147483647 and -2147483648, so the addition behind the third, which
 /// is the last block's only one, leaves INTEGER, and I stays.
 const LAST_ADDITION: &[Seen] = &[
     Seen {
         exposed: &[],
-        written: &[(3, -2_147_483_648), (0, 1), (1, 1)],
+        written: &[(0, -2_147_483_648), (1, 1), (2, 1)],
         outcome: Outcome::Normal,
         turns: 2,
     },
     Seen {
         exposed: &[],
-        written: &[(3, -2_147_483_648), (2, 1)],
+        written: &[(0, -2_147_483_648), (3, 1)],
         outcome: Outcome::Fault(OUTSIDE_INTEGER_2),
         turns: 1,
     },
 ];
 
-/// K has cells 0 to 99, I 100. The DO statement takes one of 6 turns, so each block has 5 for 7 trips: five of these are whole, and
+/// I has cell 0, K 1 to 100. The DO statement takes one of 6 turns, so each block has 5 for 7 trips: five of these are whole, and
 /// the sixth has its I and no turn.
 const FIVE_OF_SEVEN: &[Seen] = &[
     Seen {
         exposed: &[],
-        written: &[(100, 6), (0, 1), (1, 2), (2, 3), (3, 4), (4, 5)],
+        written: &[(0, 6), (1, 1), (2, 2), (3, 3), (4, 4), (5, 5)],
         outcome: Outcome::Fault(NO_TURN_3),
         turns: 5,
     },
     Seen {
         exposed: &[],
-        written: &[(100, 13), (7, 8), (8, 9), (9, 10), (10, 11), (11, 12)],
+        written: &[(0, 13), (8, 8), (9, 9), (10, 10), (11, 11), (12, 12)],
         outcome: Outcome::Fault(NO_TURN_3),
         turns: 5,
     },
     Seen {
         exposed: &[],
-        written: &[(100, 20), (14, 15), (15, 16), (16, 17), (17, 18), (18, 19)],
+        written: &[(0, 20), (15, 15), (16, 16), (17, 17), (18, 18), (19, 19)],
         outcome: Outcome::Fault(NO_TURN_3),
         turns: 5,
     },
 ];
 
-/// K has cells 0 to 99, I 100. The DO statement takes the only turn.
+/// I has cell 0, K 1 to 100. The DO statement takes the only turn.
 const ONLY_TURN: &[Seen] = &[
     Seen {
         exposed: &[],
-        written: &[(100, 1)],
+        written: &[(0, 1)],
         outcome: Outcome::Fault(NO_TURN_3),
         turns: 0,
     },
     Seen {
         exposed: &[],
-        written: &[(100, 3)],
+        written: &[(0, 3)],
         outcome: Outcome::Fault(NO_TURN_3),
         turns: 0,
     },
 ];
 
-/// K has cells 0 to 3, I 4, J 5. Trip I takes a turn for the inner DO statement, I turns for its range and one for CONTINUE, so 3, 4, 5
+/// I has cell 0, J 1, K 2 to 5. Trip I takes a turn for the inner DO statement, I turns for its range and one for CONTINUE, so 3, 4, 5
 /// and 6, and each block has 5: they are just enough for the third trip, and the fourth misses the last of its own.
 const UNEVEN: &[Seen] = &[
     Seen {
         exposed: &[],
-        written: &[(4, 2), (5, 2), (0, 1)],
+        written: &[(0, 2), (1, 2), (2, 1)],
         outcome: Outcome::Normal,
         turns: 3,
     },
     Seen {
         exposed: &[],
-        written: &[(4, 3), (5, 3), (1, 2)],
+        written: &[(0, 3), (1, 3), (3, 2)],
         outcome: Outcome::Normal,
         turns: 4,
     },
     Seen {
         exposed: &[],
-        written: &[(4, 4), (5, 4), (2, 3)],
+        written: &[(0, 4), (1, 4), (4, 3)],
         outcome: Outcome::Normal,
         turns: 5,
     },
     Seen {
         exposed: &[],
-        written: &[(4, 4), (5, 5), (3, 4)],
+        written: &[(0, 4), (1, 5), (5, 4)],
         outcome: Outcome::Fault(NO_TURN_5),
         turns: 5,
     },

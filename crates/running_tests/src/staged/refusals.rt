@@ -1,5 +1,5 @@
 //! Want of memory: blocks and stages of which one allocation at most is refused, as `rt try --test --fail-alloc N` refuses the Nth, and
-//! as `bench/refused-stages` refuses each in turn. What comes of them with ample memory, `blocks` and `meeting` look at.
+//! as `bench/hostile` refuses each in turn. What comes of them with ample memory, `blocks` and `meeting` look at.
 
 ghost use Rattle.std.specs.Prelude.{◌≡◌};
 
@@ -144,27 +144,27 @@ fn refused_by_stage<R: Abort + Threads + Wait + Sync>(
     refused
 }
 
-/// One block with so many cells that trees of them have inner nodes: A has cells 0 to 15, I 16.
+/// One block with so many cells that trees of them have inner nodes: I has cell 0, A 1 to 16.
 const SIXTEEN: &[Seen] = &[Seen {
-    exposed: &[0, 1, 2, 3, 4, 5, 6, 7, 8, 9, 10, 11, 12, 13, 14, 15],
+    exposed: &[1, 2, 3, 4, 5, 6, 7, 8, 9, 10, 11, 12, 13, 14, 15, 16],
     written: &[
-        (0, 1),
-        (1, 2),
-        (2, 3),
-        (3, 4),
-        (4, 5),
-        (5, 6),
-        (6, 7),
-        (7, 8),
-        (8, 9),
-        (9, 10),
-        (10, 11),
-        (11, 12),
-        (12, 13),
-        (13, 14),
-        (14, 15),
-        (15, 16),
-        (16, 17),
+        (1, 1),
+        (2, 2),
+        (3, 3),
+        (4, 4),
+        (5, 5),
+        (6, 6),
+        (7, 7),
+        (8, 8),
+        (9, 9),
+        (10, 10),
+        (11, 11),
+        (12, 12),
+        (13, 13),
+        (14, 14),
+        (15, 15),
+        (16, 16),
+        (0, 17),
     ],
     outcome: Outcome::Normal,
     turns: 16,
@@ -181,18 +181,18 @@ fn refused_blocks_are_lost(rt: HostRuntime) {
     assert!(rt; permuted == 0 || sixteen == 0);
 }
 
-/// Each element from two before, in six blocks of one trip. The third block exposes what the first one writes. A has cells 0 to 7, I 8.
+/// Each element from two before, in six blocks of one trip. The third block exposes what the first one writes. I has cell 0, A 1 to 8.
 const TWO_BEFORE: &[State] = &[
     State {
         cells: &[0, 0, 0, 0, 0, 0, 0, 0, 0],
         turns: 0,
     },
     State {
-        cells: &[0, 0, 1, 0, 0, 0, 0, 0, 4],
+        cells: &[4, 0, 0, 1, 0, 0, 0, 0, 0],
         turns: 1,
     },
     State {
-        cells: &[0, 0, 1, 1, 0, 0, 0, 0, 5],
+        cells: &[5, 0, 0, 1, 1, 0, 0, 0, 0],
         turns: 2,
     },
 ];

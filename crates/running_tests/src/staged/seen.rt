@@ -1,6 +1,6 @@
 //! What comes of single blocks.
 
-ghost use Rattle.std.specs.Prelude.{◌≡◌, ◌<◌, length};
+ghost use Rattle.std.specs.Prelude.{◌≡◌, ◌<◌};
 ghost use Rattle.block_stage.specs.Jobs.{data_of};
 
 use array_store::Whole;
@@ -31,8 +31,16 @@ fn written_to(wanted: &Seen, number: usize) -> Option<i32> {
     None
 }
 
-// Whether a view exposed and wrote a cell as is wanted; the target has what it wrote.
-fn is_cell_as_wanted(view: &View<'_>, target: &Whole, number: usize, wanted: &Seen) -> bool {
+// Whether a view shows a value in the page of a cell.
+fn shows(view: &View<'_>, number: usize, value: i32) -> bool {
+    match view.page(number / 64) {
+        Some(page) => page.get(number % 64) == Some(&value),
+        None => false,
+    }
+}
+
+// Whether a view exposed and wrote a cell as is wanted.
+fn is_cell_as_wanted(view: &View<'_>, number: usize, wanted: &Seen) -> bool {
     let value = written_to(wanted, number);
     if view.exposed().has(Cell(number)) != wanted.exposed.contains(&number) {
         return false;
@@ -41,19 +49,16 @@ fn is_cell_as_wanted(view: &View<'_>, target: &Whole, number: usize, wanted: &Se
         return false;
     }
     match value {
-        Some(wanted_value) => target.cells().get(number) == Some(&wanted_value),
+        Some(wanted_value) => shows(view, number, wanted_value),
         None => true,
     }
 }
 
 // Compares what a view exposed and wrote with what is wanted.
-fn compare<R: Abort>(rt: &R, view: &View<'_>, target: &mut Whole, wanted: &Seen)
-    requires target { length target.old ≡ length view.now.base }
-{
-    view.apply_to(target);
-    for number in 0..target.cells().len() {
+fn compare<R: Abort>(rt: &R, view: &View<'_>, cells: usize, wanted: &Seen) {
+    for number in 0..cells {
         assert!(rt;
-            is_cell_as_wanted(view, target, number, wanted),
+            is_cell_as_wanted(view, number, wanted),
             "{number} {wanted:?}"
         );
     }
@@ -78,13 +83,10 @@ fn is_seen<J: JobKey, R: Abort>(
     requires below { block < job.now.blocks }
     requires base { base.now ≡ job.now.base }
 {
-    let Ok(mut target) = Whole::new(alloc, base.cells()) else {
-        return false;
-    };
     match run_block::<J, Open>(alloc, job, block, &Open) {
         Ok(run) => {
             compare_run(rt, run.run(), wanted);
-            compare(rt, run.view(), &mut target, wanted);
+            compare(rt, run.view(), base.cells().len(), wanted);
             true
         }
         Err(_) => false,

@@ -15,8 +15,8 @@ pub struct State {
     pub turns: u64,
 }
 
-// Whether cells have the same values.
-fn are_alike(cells: &[i32], wanted: &[i32]) -> bool {
+/// Whether cells have the same values.
+pub fn are_alike(cells: &[i32], wanted: &[i32]) -> bool {
     cells == wanted
 }
 

@@ -1,0 +1,213 @@
+//! Loops by stages between two requests of memory that nothing else makes. By these `bench/hostile` knows where a loop begins and ends, and
+//! refuses requests and threads in between, one or many, with which each of these tests must pass as it does by itself.
+
+ghost use Rattle.executor.specs.Calls.{IsAsked, IsGiven};
+
+use array_store::Whole;
+use executor::run::run_by;
+use executor::{Open, Out, Staged};
+use meaning::ending::{Ending, Fault, FaultKind, Outcome};
+use meaning::plan::Plan;
+use meaning::syntax::Loop;
+use programs::Program;
+use stage_loop::run_loop;
+use std::alloc::Global;
+use std::cell::Cell;
+use std::process::Abort;
+use std::sync::Wait;
+use std::thread::Threads;
+
+/// Bytes that are asked for before a loop, and behind it, and nowhere else. `bench/hostile` has the same numbers.
+const BEFORE: usize = 77_771;
+
+const BEHIND: usize = 77_773;
+
+/// A program with a loop, its plan, and what comes of it.
+struct Worked {
+    source: &'static str,
+    block: u64,
+    window: u64,
+    turns: u64,
+    records: &'static str,
+    fault: Option<Fault>,
+}
+
+// Asks for so many bytes, and keeps them until bytes are asked for again, so that no compiler leaves the request out. Whether there are
+// any is nobody's business.
+fn ask(alloc: Global, size: usize, asked: &Cell<Vec<u8>>) {
+    if let Ok(bytes) = Vec::with_capacity(alloc, size) {
+        asked.set(bytes);
+    }
+}
+
+// How a source ends whose loops are run by stages between two requests, what it writes, and how many loops there were.
+fn run<R: Abort + Threads + Wait + Sync>(
+    rt: &R,
+    alloc: Global,
+    source: &[u8],
+    plan: &Plan,
+) -> (Ending, Vec<u8>, u64) {
+    let asked = Cell::new(Vec::new(alloc));
+    let loops = Cell::new(0_u64);
+    let staged = Staged {
+        call: |program: &Program, repeated: &Loop, cells: &mut Whole, turns: &mut u64| -> Outcome
+            requires { IsAsked program.now repeated.now cells.now }
+            ensures { IsGiven program.now repeated.now cells.old cells.new turns.old turns.new result }
+        {
+            loops.set(loops.get().saturating_add(1));
+            ask(alloc, BEFORE, &asked);
+            let run = run_loop(rt, alloc, program, repeated, cells, *turns, plan, &Open);
+            ask(alloc, BEHIND, &asked);
+            *turns -= run.turns_used;
+            run.outcome
+        },
+    };
+    let mut sink = Out::new(Vec::new(alloc));
+    let report = run_by(alloc, &staged, source, plan.turns(), &mut sink);
+    (report.ending, sink.into_inner(), loops.get())
+}
+
+// Runs a program with four workers, and compares what comes of it.
+fn check<R: Abort + Threads + Wait + Sync>(rt: &R, alloc: Global, worked: &Worked) {
+    let plan = Plan::new(4, worked.block, worked.window, worked.turns).expect(rt, "a plan");
+    let (ending, written, loops) = run(rt, alloc, worked.source.as_bytes(), &plan);
+    assert!(rt; loops == 1, "{loops}");
+    assert!(rt;
+        written.as_slice() == worked.records.as_bytes(),
+        "{written:?}"
+    );
+    match (&ending, worked.fault) {
+        (Ending::Ended, None) => {}
+        (Ending::Fault(fault), Some(wanted)) => assert!(rt; *fault == wanted, "{fault:?}"),
+        _ => assert!(rt; false, "{ending:?}"),
+    }
+}
+
+/// A copy through an array of subscripts: no block needs what another one did.
+const PERMUTED: Worked = Worked {
+    source: "      INTEGER A(8),K(8)\n      DATA K/3,1,4,8,5,2,7,6/\n      DO 10 I=1,8\n   10 A(K(I))=I\n      WRITE (6,20) A\n   20 FORMAT (8I3)\n      END\n",
+    block: 2,
+    window: 8,
+    turns: 1_000_000_000,
+    records: "  2  6  1  3  5  8  7  4\n",
+    fault: None,
+};
+
+#[test]
+fn permuted(rt: HostRuntime) {
+    check(&rt, rt.alloc(), &PERMUTED);
+}
+
+/// Each element from the one before: each stage commits one trip.
+const RECURRENCE: Worked = Worked {
+    source: "      INTEGER A(9)\n      DO 10 I=2,9\n   10 A(I)=A(I-1)+1\n      WRITE (6,20) A(9)\n   20 FORMAT (I3)\n      END\n",
+    block: 1,
+    window: 8,
+    turns: 1_000_000_000,
+    records: "  8\n",
+    fault: None,
+};
+
+#[test]
+fn recurrence(rt: HostRuntime) {
+    check(&rt, rt.alloc(), &RECURRENCE);
+}
+
+/// The last trip divides by what the first one sets: alone it divides by 0.
+const DIVIDED: Worked = Worked {
+    source: "      INTEGER D,A(9)\n      DO 10 I=1,9\n      IF (I.EQ.1) D=2\n      IF (I.EQ.9) A(9)=8/D\n   10 CONTINUE\n      WRITE (6,20) A(9),D\n   20 FORMAT (2I3)\n      END\n",
+    block: 1,
+    window: 16,
+    turns: 1_000_000_000,
+    records: "  4  2\n",
+    fault: None,
+};
+
+#[test]
+fn divided(rt: HostRuntime) {
+    check(&rt, rt.alloc(), &DIVIDED);
+}
+
+/// Two trips divide by 0, and the fault is that of the first of them.
+const TWO_FAULTS: Worked = Worked {
+    source: "      INTEGER Z\n      DO 10 I=1,8\n      IF (I.EQ.3) J=1/Z\n      IF (I.EQ.6) K=1/Z\n   10 CONTINUE\n      END\n",
+    block: 2,
+    window: 8,
+    turns: 1_000_000_000,
+    records: "",
+    fault: Some(Fault {
+        kind: FaultKind::F1,
+        line: 3,
+    }),
+};
+
+#[test]
+fn two_faults(rt: HostRuntime) {
+    check(&rt, rt.alloc(), &TWO_FAULTS);
+}
+
+/// The turns are used up inside the loop, and in no block alone.
+const LIMITED: Worked = Worked {
+    source: "      INTEGER K(100)\n      DO 10 I=1,100\n   10 K(I)=I\n      END\n",
+    block: 7,
+    window: 8,
+    turns: 50,
+    records: "",
+    fault: Some(Fault {
+        kind: FaultKind::F4,
+        line: 3,
+    }),
+};
+
+#[test]
+fn limited(rt: HostRuntime) {
+    check(&rt, rt.alloc(), &LIMITED);
+}
+
+/// The addition behind the last trip leaves INTEGER.
+const LAST_ADDITION: Worked = Worked {
+    source: "      DO 10 I=2147483646,2147483647\n   10 J=J+1\n      END\n",
+    block: 64,
+    window: 8,
+    turns: 1_000_000_000,
+    records: "",
+    fault: Some(Fault {
+        kind: FaultKind::F2,
+        line: 1,
+    }),
+};
+
+#[test]
+fn last_addition(rt: HostRuntime) {
+    check(&rt, rt.alloc(), &LAST_ADDITION);
+}
+
+/// The fifth trip leaves the loop, and the later ones are as if they had never been tried.
+const LEFT: Worked = Worked {
+    source: "      INTEGER A(16),B(16)\n      DATA A/4*1,0,11*1/\n      DO 10 I=1,16\n      IF (A(I).EQ.0) GO TO 20\n   10 B(I)=1\n   20 WRITE (6,30) I,B(4),B(5),B(6),B(16)\n   30 FORMAT (5I4)\n      END\n",
+    block: 2,
+    window: 8,
+    turns: 1_000_000_000,
+    records: "   5   1   0   0   0\n",
+    fault: None,
+};
+
+#[test]
+fn left(rt: HostRuntime) {
+    check(&rt, rt.alloc(), &LEFT);
+}
+
+/// Each element from one four before: each stage commits two blocks of two trips.
+const FOUR_BEFORE: Worked = Worked {
+    source: "      INTEGER A(20)\n      DO 10 I=5,20\n   10 A(I)=A(I-4)+1\n      WRITE (6,20) A(20)\n   20 FORMAT (I3)\n      END\n",
+    block: 2,
+    window: 8,
+    turns: 1_000_000_000,
+    records: "  4\n",
+    fault: None,
+};
+
+#[test]
+fn four_before(rt: HostRuntime) {
+    check(&rt, rt.alloc(), &FOUR_BEFORE);
+}

@@ -1,0 +1,67 @@
+//! Stages whose blocks are handed what earlier views were kept in.
+
+ghost use Rattle.std.specs.Prelude.{◌≡◌};
+
+use crate::staged::meeting::{STATES, see_only_stage};
+use crate::staged::states::are_alike;
+use crate::staged::watch::Watch;
+use array_store::Whole;
+use block_stage::{Changes, Job, Open, Posted, cut, run_stage_in};
+use meaning::ending::Outcome;
+use std::alloc::Global;
+use std::process::Abort;
+use std::sync::Wait;
+use std::thread::Threads;
+
+// Takes all blocks of a stage, puts what they wrote into the cells, and compares these. It answers what the views were kept in.
+fn take_checked<R: Abort>(rt: &R, posted: Posted<'_>, target: &mut Whole) -> Vec<Changes>
+    requires { target.old ≡ posted.job.base }
+{
+    assert!(rt; posted.turns() == 8);
+    let place = cut(&posted);
+    assert!(rt; place == 4, "{place}");
+    let taken = posted.taken(place);
+    assert!(rt; taken.used() == 8);
+    let run = taken.apply(target);
+    assert!(rt; run.outcome == Outcome::Normal);
+    assert!(rt; run.turns_used == 8);
+    assert!(rt; are_alike(target.cells(), STATES[4].cells));
+    taken.into_spares()
+}
+
+// Runs the blocks of a stage, kept in spares.
+fn run_checked<R: Abort + Threads + Wait + Sync>(
+    rt: &R,
+    alloc: Global,
+    job: &Job<'_>,
+    base: &Whole,
+    spares: Vec<Changes>,
+) -> Vec<Changes>
+    requires { base.now ≡ job.now.base }
+{
+    let mut target = Whole::new(alloc, base.cells()).expect(rt, "memory");
+    let posted = run_stage_in(rt, alloc, job, 4, &Open, spares).expect(rt, "memory");
+    take_checked(rt, posted, &mut target)
+}
+
+/// Runs a stage twice, the second time in what the views of the first time were kept in, and lets the third go unused.
+pub fn see_spares<R: Abort + Threads + Wait + Sync>(
+    rt: &R,
+    alloc: Global,
+    job: &Job<'_>,
+    base: &Whole,
+)
+    requires { base.now ≡ job.now.base }
+{
+    let first = run_checked(rt, alloc, job, base, Vec::new(alloc));
+    assert!(rt; first.len() == 4);
+    let second = run_checked(rt, alloc, job, base, first);
+    assert!(rt; second.len() == 4);
+    let posted = run_stage_in(rt, alloc, job, 2, &Open, second).expect(rt, "memory");
+    assert!(rt; posted.into_spares().len() == 4);
+}
+
+#[test]
+fn views_are_used_again(rt: HostRuntime) {
+    see_only_stage(&rt, rt.alloc(), &Watch::Spares);
+}
