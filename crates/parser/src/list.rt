@@ -1,10 +1,11 @@
 //! The lists of WRITE, PRINT and DATA statements.
 
-ghost use Rattle.std.specs.Prelude.{◌≡◌, IfOk};
-ghost use Rattle.meaning.specs.Syntax.{ListItemsTree, loop_item, more_items, limits_tree, list_item_tree, list_items_tree};
+ghost use Rattle.std.specs.Prelude.{◌≡◌, IfOk, map};
+ghost use Rattle.meaning.specs.Syntax.{ListItemsTree, loop_item, no_items, more_items, limits_tree, list_item_tree, list_items_tree};
 ghost use Rattle.meaning.specs.Reading.{begins_control as control_first, ends_list as list_end, value_item_at, loop_item_at, item_at, items_at, list_of, list_behind_comma};
 ghost use Rattle.parser.specs.Behind.{loop_behind};
 ghost use Rattle.parser.specs.Reports.{Agrees};
+ghost use Rattle.parser.specs.Rows.{items_before};
 
 use crate::expression::read_expression_from;
 use crate::read_error::ReadError;
@@ -45,6 +46,18 @@ fn items_with(alloc: Global, first: ListItem, others: ListItems) -> Result<ListI
         }
         Ok(others) => Ok(ListItems::More(first, others)),
     }
+}
+
+/// The items of a row, put together from the last one to the first.
+fn items_of(alloc: Global, row: Vec<ListItem>) -> Result<ListItems, AllocError>
+    ensures { IfOk result (λ xs. list_items_tree xs ≡ items_before (map list_item_tree row.items) no_items) }
+{
+    let mut row = row;
+    let mut items = ListItems::Empty;
+    while let Some(item) = row.pop() {
+        items = items_with(alloc, item, items)?;
+    }
+    Ok(items)
 }
 
 /// An expression of a level.
@@ -136,9 +149,8 @@ fn read_item(
     read_value_item(alloc, least, text)
 }
 
-/// Items with commas between, one at least and so many at most.
+/// Items with commas between, one at least and so many at most: read into a row, so that none takes a stack frame of its own.
 #[cycle(items)]
-#[tactic(auto, unfolding(meaning::specs::Reading::items_at))]
 pub fn read_items(
     alloc: Global,
     most: usize,
@@ -147,26 +159,20 @@ pub fn read_items(
 ) -> Result<(ListItems, &[u8]), ReadError>
     ensures { Agrees (λ x. (list_items_tree x.0, x.1.now)) result (items_at least most text.now) }
 {
-    if most == 0 {
-        return Err(ReadError::NoReading);
-    }
-    let (first, rest) = read_item(alloc, most - 1, least, text)?;
-    if ends_list(rest) {
-        return Ok((items_with(alloc, first, ListItems::Empty)?, rest));
-    }
-    match behind(b",", rest) {
-        None => {
-            drop(first);
-            Err(ReadError::NoReading)
+    let mut row = Vec::new(alloc);
+    let mut rest = text;
+    for turn in 0..most {
+        let (item, after) = read_item(alloc, most - (turn + 1), least, rest)?;
+        row.push(item)?;
+        if ends_list(after) {
+            return Ok((items_of(alloc, row)?, after));
         }
-        Some(rest) => match read_items(alloc, most - 1, least, rest) {
-            Err(error) => {
-                drop(first);
-                Err(error)
-            }
-            Ok((others, rest)) => Ok((items_with(alloc, first, others)?, rest)),
-        },
+        match behind(b",", after) {
+            None => return Err(ReadError::NoReading),
+            Some(more) => rest = more,
+        }
     }
+    Err(ReadError::NoReading)
 }
 
 /// The rest of a text: items, or nothing.
