@@ -1,3 +1,4 @@
 pub mod Settings
 pub mod Places
 pub mod Kept
+pub mod Listing

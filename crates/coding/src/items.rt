@@ -1,8 +1,9 @@
 //! The codes of output lists (ANSI X3.9-1978, 12.8.2).
 
-ghost use Rattle.std.specs.Prelude.{◌≡◌, IfOk, Some};
+ghost use Rattle.std.specs.Prelude.{◌≡◌, IfOk, Some, [], ◌∷◌};
 ghost use Rattle.meaning.specs.Syntax.{ExprTree, expr_tree, limits_tree, list_item_tree, list_items_tree, loop_item, value_item};
 ghost use Rattle.programs.specs.Items.{AreItems, IsItem, IsWholeArray, StandsFor, is_logical_type};
+ghost use Rattle.coding.specs.Lists.{AreEach, codes_in};
 
 use crate::codes::{code_in, repeat_in};
 use compiler::NoCode;
@@ -10,7 +11,7 @@ use expressions::{Cells, Numbering};
 use meaning::syntax::{DataType, Expr, Limits, ListItem, ListItems};
 use numbering::Program;
 use programs::{ListCode, ListCodes, WholeArray};
-use std::alloc::Global;
+use std::alloc::{AllocError, Global};
 
 // Whether a type is LOGICAL.
 fn is_logical(data_type: Option<DataType>) -> bool
@@ -101,6 +102,49 @@ fn item_code(alloc: Global, item: &ListItem, program: &Program) -> Result<ListCo
     }
 }
 
+// Puts the codes of items where none is yet, first to last.
+#[cycle(listed)]
+fn add_codes(
+    alloc: Global,
+    codes: &mut Vec<ListCode>,
+    items: &ListItems,
+    program: &Program,
+) -> Result<(), NoCode>
+    requires none { codes.old.items ≡ [] }
+    ensures { IfOk result (λ _. AreEach program.now (list_items_tree items.now) codes.new.items) }
+{
+    let mut rest = items;
+    while let ListItems::More(item, others) = rest {
+        codes.push(item_code(alloc, item, program)?)?;
+        rest = others;
+    }
+    Ok(())
+}
+
+// A list with a code before those of another one.
+fn before(alloc: Global, code: ListCode, list: ListCodes) -> Result<ListCodes, AllocError>
+    ensures { IfOk result (λ longer. codes_in longer ≡ code ∷ codes_in list) }
+{
+    match Box::new(alloc, list) {
+        Ok(others) => Ok(ListCodes::More(code, others)),
+        Err(reason) => {
+            drop(code);
+            Err(reason.into())
+        }
+    }
+}
+
+// A list with these codes. It is made from the last one to the first.
+fn list_of(alloc: Global, codes: &mut Vec<ListCode>) -> Result<ListCodes, AllocError>
+    ensures { IfOk result (λ list. codes_in list ≡ codes.old.items) }
+{
+    let mut list = ListCodes::Empty;
+    while let Some(code) = codes.pop() {
+        list = before(alloc, code, list)?;
+    }
+    Ok(list)
+}
+
 /// The codes of the items of an output list, first to last.
 #[cycle(listed)]
 pub(crate) fn list_code(
@@ -110,17 +154,16 @@ pub(crate) fn list_code(
 ) -> Result<ListCodes, NoCode>
     ensures { IfOk result (AreItems program.now (list_items_tree items.now)) }
 {
-    match items {
-        ListItems::Empty => Ok(ListCodes::Empty),
-        ListItems::More(item, rest) => {
-            let first = item_code(alloc, item, program)?;
-            match list_code(alloc, rest, program) {
-                Ok(others) => Ok(ListCodes::More(first, Box::new(alloc, others)?)),
-                Err(reason) => {
-                    drop(first);
-                    Err(reason)
-                }
-            }
+    let mut codes = Vec::new(alloc);
+    match add_codes(alloc, &mut codes, items, program) {
+        Ok(()) => {
+            let list = list_of(alloc, &mut codes);
+            drop(codes);
+            Ok(list?)
+        }
+        Err(reason) => {
+            drop(codes);
+            Err(reason)
         }
     }
 }

@@ -1,0 +1,11 @@
+use Rattle.std.proofs.Common.{◌≤◌}
+use Rattle.meaning.specs.Syntax.{list_items_tree}
+use Rattle.meaning.proofs.syntax.ListItems.TheLaws.{the_size}
+use Rattle.coding.proofs.Listing.{AreLeading}
+use Rattle.coding.proofs.items.+listed.Given as goal
+
+abbrev pub invariant-add_codes-loop-rest : goal.invariant-add_codes-loop-rest
+invariant-add_codes-loop-rest l = record {
+  leading : AreLeading l.program (list_items_tree l.items) (list_items_tree l.rest) l.codes.items;
+  within : the_size l.rest ≤ the_size l.items;
+}
