@@ -100,50 +100,49 @@ fn is_missing(missing: u64, worker: u32) -> bool
     0 < worker && worker < 64 && missing >> worker & 1 == 1
 }
 
-// Whether none of the workers from one on is to be started.
-fn are_missing(missing: u64, from: u32, count: u32) -> bool
-    requires room { from + count < 2 ^ 32 }
-{
-    for worker in from..from + count {
-        if !is_missing(missing, worker) {
-            return false;
-        }
-    }
-    true
-}
-
-// The workers from one on, each but the first in a thread of its own where one can be made, and those that are missing in none.
-#[cycle(halves)]
-fn work_from<
+// The workers up to one: it is in the calling thread if it is the first; each other is in a thread of its own where one can be made,
+// and in none if it is missing.
+#[cycle(line)]
+fn work_up_to<
     T: Numbered + Drop + Send,
     S: Drop + Send,
     W: Work<T, S> + Sync,
     R: Threads + Wait + Sync,
->(rt: &R, work: &W, shared: &Mutex<Desk<T, S>>, blocks: u32, missing: u64, from: u32, count: u32)
-    requires count { 0 < count }
-    requires room { from + count < 2 ^ 32 }
-{
-    if count == 1 {
-        if !is_missing(missing, from) {
-            work_on(rt, work, shared, from, blocks);
-        }
+>(rt: &R, work: &W, shared: &Mutex<Desk<T, S>>, blocks: u32, missing: u64, worker: u32) {
+    if worker == 0 {
+        work_on(rt, work, shared, 0, blocks);
         return;
     }
-    let low = count / 2;
-    let high = count - low;
-    let up = from + low;
-    if are_missing(missing, up, high) {
-        work_from(rt, work, shared, blocks, missing, from, low);
+    if is_missing(missing, worker) {
+        work_up_to(rt, work, shared, blocks, missing, worker - 1);
         return;
     }
     join(
         rt,
         move ||
-            requires { IsSync R.row × IsSync W.row × IsSend T.row × IsSend S.row × (0 < high) × (up + high < 2 ^ 32) }
-        { work_from(rt, work, shared, blocks, missing, up, high) },
+            requires { IsSync R.row × IsSync W.row × IsSend T.row × IsSend S.row }
+        { work_on(rt, work, shared, worker, blocks) },
         move ||
-            requires { IsSync R.row × IsSync W.row × IsSend T.row × IsSend S.row × (0 < low) × (from + low < 2 ^ 32) }
-        { work_from(rt, work, shared, blocks, missing, from, low) },
+            requires { IsSync R.row × IsSync W.row × IsSend T.row × IsSend S.row × (0 < worker) }
+        { work_up_to(rt, work, shared, blocks, missing, worker - 1) },
+    );
+}
+
+// The workers up to one behind the first, and before their threads one that does nothing. Linux hands the first thread that a running
+// thread starts to the processor of that one, where it waits for some milliseconds, and those behind it to other processors: so no
+// worker waits there.
+fn work_apart<
+    T: Numbered + Drop + Send,
+    S: Drop + Send,
+    W: Work<T, S> + Sync,
+    R: Threads + Wait + Sync,
+>(rt: &R, work: &W, shared: &Mutex<Desk<T, S>>, blocks: u32, missing: u64, last: u32) {
+    join(
+        rt,
+        || {},
+        move ||
+            requires { IsSync R.row × IsSync W.row × IsSend T.row × IsSend S.row }
+        { work_up_to(rt, work, shared, blocks, missing, last) },
     );
 }
 
@@ -162,7 +161,11 @@ pub fn run_all<
     ensures ended { AreEnded result.board.places }
 {
     let shared = Mutex::new(desk);
-    work_from(rt, work, &shared, blocks, missing, 0, workers);
+    if workers == 1 {
+        work_on(rt, work, &shared, 0, blocks);
+    } else {
+        work_apart(rt, work, &shared, blocks, missing, workers - 1);
+    }
     let mut desk = shared.into_inner();
     desk.board.settle();
     desk
