@@ -209,6 +209,7 @@ impl Marks {
     }
 
     /// Adds a cell. The `AllocError` comes where memory was refused, and the set stays as it was.
+    #[inline(always)]
     pub fn set(&mut self, cell: Cell) -> Result<(), AllocError>
         ensures ok { OnOk result (self.new ≡ set.insert self.old cell.0) }
         ensures err { OnErr result (self.new ≡ self.old) }
@@ -216,6 +217,15 @@ impl Marks {
         if is_told(&self.words, cell.0) {
             return Ok(());
         }
+        self.put_in(cell)
+    }
+
+    // Adds a cell, which may take memory. It stands by itself, so that a cell that is in the set is passed over quickly.
+    #[inline(never)]
+    fn put_in(&mut self, cell: Cell) -> Result<(), AllocError>
+        ensures ok { OnOk result (self.new ≡ set.insert self.old cell.0) }
+        ensures err { OnErr result (self.new ≡ self.old) }
+    {
         grow_to(&mut self.words, cell.0 / 64)?;
         grow_to(&mut self.groups, cell.0 / 512 / 64)?;
         put(&mut self.groups, cell.0 / 512);

@@ -321,6 +321,7 @@ fn put_all(words: &[u64], slots: &[usize], numbers: &[usize], values: &[i32], ta
 }
 
 // The value of a cell in a page that was copied.
+#[inline(always)]
 fn value_of(slots: &[usize], numbers: &[usize], values: &[i32], cell: usize) -> i32
     requires copied { IsCopied slots.now numbers.now (cell / 64) }
     requires long { length values.now ≡ 64 * length numbers.now }
@@ -391,6 +392,7 @@ fn add_number(slots: &mut Vec<usize>, numbers: &mut Vec<usize>, page: usize)
 }
 
 // Puts the value of a cell in a page that was copied.
+#[inline(always)]
 fn put_value(slots: &[usize], numbers: &[usize], values: &mut Vec<i32>, cell: usize, value: i32)
     requires copied { IsCopied slots.now numbers.now (cell / 64) }
     requires long { length values.old.items ≡ 64 * length numbers.now }
@@ -423,7 +425,8 @@ fn page_of(base: &Whole, page: usize) -> &[i32]
     &cells[from..from + count]
 }
 
-// Sees that a page is copied.
+// Sees that a page is copied. It stands by itself, so that a cell whose page is copied is written quickly.
+#[inline(never)]
 fn hold(
     base: &Whole,
     slots: &mut Vec<usize>,
@@ -455,6 +458,7 @@ fn hold(
 impl<'a> Store for View<'a> {
     ghost world = { world_seen };
 
+    #[inline(always)]
     fn read(&mut self, cell: Cell) -> i32 {
         let is_own = self.written.has(cell);
         if is_own {
@@ -470,6 +474,7 @@ impl<'a> Store for View<'a> {
         }
     }
 
+    #[inline(always)]
     fn write(&mut self, cell: Cell, value: i32) -> Result<(), AllocError> {
         if self.written.has(cell) {
             put_value(&self.slots, &self.numbers, &mut self.values, cell.0, value);
