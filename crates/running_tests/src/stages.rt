@@ -32,8 +32,22 @@ const LENGTHS: &str =
 
 /// Counts the blocks that enter.
 #[derive(Drop)]
-struct Counting {
+pub struct Counting {
     entries: AtomicU64,
+}
+
+impl Counting {
+    /// No block has entered.
+    pub fn new() -> Counting {
+        Counting {
+            entries: AtomicU64::new(0),
+        }
+    }
+
+    /// How many blocks have entered.
+    pub fn entered(self) -> u64 {
+        self.entries.into_inner()
+    }
 }
 
 impl Gate for Counting {
@@ -59,12 +73,10 @@ fn entered<R: Abort + Threads + Wait + Sync>(
     block: u64,
     records: &[u8],
 ) -> Option<u64> {
-    let gate = Counting {
-        entries: AtomicU64::new(0),
-    };
+    let gate = Counting::new();
     let plan = Plan::new(4, block, 8, MANY).expect(rt, "a plan");
     if agrees_by_stages(rt, alloc, source, &plan, &gate, &Ending::Ended, records) {
-        Some(gate.entries.into_inner())
+        Some(gate.entered())
     } else {
         None
     }

@@ -3,9 +3,10 @@
 
 ghost use Rattle.executor.specs.Calls.{IsAsked, IsGiven};
 
+use crate::stages::Counting;
 use array_store::Whole;
 use executor::run::run_by;
-use executor::{Open, Out, Staged};
+use executor::{Out, Staged};
 use meaning::ending::{Ending, Fault, FaultKind, Outcome};
 use meaning::plan::Plan;
 use meaning::syntax::Loop;
@@ -40,13 +41,18 @@ fn ask(alloc: Global, size: usize, asked: &Cell<Vec<u8>>) {
     }
 }
 
-// How a source ends whose loops are run by stages between two requests, what it writes, and how many loops there were.
-fn run<R: Abort + Threads + Wait + Sync>(
-    rt: &R,
-    alloc: Global,
-    source: &[u8],
-    plan: &Plan,
-) -> (Ending, Vec<u8>, u64) {
+/// What comes of a run: how it ends, what it writes, how many loops there were, and how many blocks entered the gate.
+#[derive(Drop)]
+struct Ran {
+    ending: Ending,
+    written: Vec<u8>,
+    loops: u64,
+    blocks: u64,
+}
+
+// Runs a source whose loops are run by stages between two requests.
+fn run<R: Abort + Threads + Wait + Sync>(rt: &R, alloc: Global, source: &[u8], plan: &Plan) -> Ran {
+    let gate = Counting::new();
     let asked = Cell::new(Vec::new(alloc));
     let loops = Cell::new(0_u64);
     let staged = Staged {
@@ -56,7 +62,7 @@ fn run<R: Abort + Threads + Wait + Sync>(
         {
             loops.set(loops.get().saturating_add(1));
             ask(alloc, BEFORE, &asked);
-            let run = run_loop(rt, alloc, program, repeated, cells, *turns, plan, &Open);
+            let run = run_loop(rt, alloc, program, repeated, cells, *turns, plan, &gate);
             ask(alloc, BEHIND, &asked);
             *turns -= run.turns_used;
             run.outcome
@@ -64,13 +70,23 @@ fn run<R: Abort + Threads + Wait + Sync>(
     };
     let mut sink = Out::new(Vec::new(alloc));
     let report = run_by(alloc, &staged, source, plan.turns(), &mut sink);
-    (report.ending, sink.into_inner(), loops.get())
+    Ran {
+        ending: report.ending,
+        written: sink.into_inner(),
+        loops: loops.get(),
+        blocks: gate.entered(),
+    }
 }
 
-// Runs a program with four workers, and compares what comes of it.
-fn check<R: Abort + Threads + Wait + Sync>(rt: &R, alloc: Global, worked: &Worked) {
+// Runs a program with four workers, and compares what comes of it. It answers how many blocks entered the gate.
+fn check<R: Abort + Threads + Wait + Sync>(rt: &R, alloc: Global, worked: &Worked) -> u64 {
     let plan = Plan::new(4, worked.block, worked.window, worked.turns).expect(rt, "a plan");
-    let (ending, written, loops) = run(rt, alloc, worked.source.as_bytes(), &plan);
+    let Ran {
+        ending,
+        written,
+        loops,
+        blocks,
+    } = run(rt, alloc, worked.source.as_bytes(), &plan);
     assert!(rt; loops == 1, "{loops}");
     assert!(rt;
         written.as_slice() == worked.records.as_bytes(),
@@ -81,21 +97,45 @@ fn check<R: Abort + Threads + Wait + Sync>(rt: &R, alloc: Global, worked: &Worke
         (Ending::Fault(fault), Some(wanted)) => assert!(rt; *fault == wanted, "{fault:?}"),
         _ => assert!(rt; false, "{ending:?}"),
     }
+    blocks
 }
 
 /// A copy through an array of subscripts: no block needs what another one did.
+const COPY: &str =
+    "      INTEGER A(8),K(8)\n      DATA K/3,1,4,8,5,2,7,6/\n      DO 10 I=1,8\n   10 A(K(I))=I\n      WRITE (6,20) A\n   20 FORMAT (8I3)\n      END\n";
+
+const COPIED: &str = "  2  6  1  3  5  8  7  4\n";
+
+/// It by one stage of four blocks of two trips.
 const PERMUTED: Worked = Worked {
-    source: "      INTEGER A(8),K(8)\n      DATA K/3,1,4,8,5,2,7,6/\n      DO 10 I=1,8\n   10 A(K(I))=I\n      WRITE (6,20) A\n   20 FORMAT (8I3)\n      END\n",
+    source: COPY,
     block: 2,
     window: 8,
     turns: 1_000_000_000,
-    records: "  2  6  1  3  5  8  7  4\n",
+    records: COPIED,
     fault: None,
 };
 
 #[test]
 fn permuted(rt: HostRuntime) {
     check(&rt, rt.alloc(), &PERMUTED);
+}
+
+/// It by two stages of four blocks of one trip.
+const PERMUTED_TWICE: Worked = Worked {
+    source: COPY,
+    block: 1,
+    window: 4,
+    turns: 1_000_000_000,
+    records: COPIED,
+    fault: None,
+};
+
+// Where one request is refused, one trip at most is executed in order, and all that stand behind it enter the gate by further stages.
+#[test]
+fn enters_again(rt: HostRuntime) {
+    let blocks = check(&rt, rt.alloc(), &PERMUTED_TWICE);
+    assert!(rt; blocks >= 7, "{blocks}");
 }
 
 /// Each element from the one before: each stage commits one trip.
