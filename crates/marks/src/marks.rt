@@ -39,8 +39,8 @@ pub fn has_bit(word: u64, bit: usize) -> bool
     word >> bit & 1 == 1
 }
 
-// A word with a bit.
-fn with_bit(word: u64, bit: usize) -> u64
+/// A mask word with a bit.
+pub fn with_bit(word: u64, bit: usize) -> u64
     requires { bit < 64 }
     ensures has { bit_at result bit ≡ 1 }
     ensures others { (i : ℕ) → i ≢ bit → bit_at result i ≡ bit_at word i }

@@ -1,4 +1,4 @@
-use Rattle.std.proofs.Common.{◌≡◌, rules, arith, ap, sym, ◌∙◌, ◌||◌, ◌==◌, ◌/◌, ◌+◌, ◌^◌, length}
+use Rattle.std.proofs.Common.{rules, arith, ap, sym, ◌∙◌, ◌||◌, ◌==◌, ◌/◌, ◌+◌, ◌^◌, length}
 use Rattle.std.specs.FinSet as set
 use Rattle.marks.proofs.Words.{same_by, insert_by, told_put}
 use Rattle.marks.proofs.marks.Marks.put_in.Goals as goal

@@ -1,8 +1,0 @@
-use Rattle.private_view.proofs.Marked.{some_bit}
-use Rattle.private_view.proofs.view.lowest_bit.Goals as goal
-
-pub returns-clause-small : goal.returns-clause-small
-returns-clause-small c = (some_bit c.args.word c.ranges.word.fits c.requires).0
-
-pub returns-clause-has : goal.returns-clause-has
-returns-clause-has c = (some_bit c.args.word c.ranges.word.fits c.requires).1
