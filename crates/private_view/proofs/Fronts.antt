@@ -1,30 +1,392 @@
--- The values of the first cells that were written, at hand.
-use Rattle.std.proofs.Common.{◌≡◌, ◌≢◌, ℕ, ℤ, pos, ◌<◌, ◌==◌, Bool, true, false, List, length, if◌then◌else◌, Some, refl, sym, ap, ◌∙◌, inl, inr}
-use Rattle.std.specs.Prelude.{slice_index_or, slice_set}
+-- The first cells, at hand.
+use Rattle.std.proofs.Common.{◌≡◌, ◌≢◌, ℕ, ℤ, zero, suc, pos, ◌<◌, ◌≤◌, ◌==◌, ◌&&◌, ◌||◌, Bool, true, false, cond, nat_lt, List, length, if◌then◌else◌, Option, Some, None, is_some, unwrap_or, refl, sym, ap, ◌∙◌, subst, arith, inl, inr}
+use Rattle.std.specs.Prelude.{◌⊎◌, slice_get, slice_index_or}
 use Rattle.std.specs.Int.{bit_at}
-use Rattle.std.proofs.lemmas.Bool.{eqb-true, eqb-false}
-use Rattle.std.proofs.lemmas.List.{get_or-set_same, get_or-set_other}
-use Rattle.meaning.specs.Stores.{World, LeavesRead, after_read, after_write, lose}
-use Rattle.private_view.specs.Fronts.{AreAtHand, Given, given_more}
+use Rattle.std.specs.Ordering.{nat_cmp}
+use Rattle.std.specs.Cmp.{nat_cmp_total, unsigned_tied}
+use Rattle.std.specs.FinMap as map
+use Rattle.std.proofs.Math.Path.{fun_ext}
+use Rattle.std.proofs.lemmas.Bool.{true≢false, eqb-true, eqb-false, lt-ltb, le-ltb, cases_lt}
+use Rattle.std.proofs.lemmas.Nat.Bits.{bit_at-zero}
+use Rattle.meaning.specs.Stores.{World, LeavesRead, after_read, after_write, known, lose, overlay, with_exposed}
+use Rattle.std.specs.FinSet.{nat_cmp-IsAntisymmetric}
+use Rattle.private_view.specs.Views.{Seen, Written, new_view, world_seen}
+use Rattle.private_view.specs.Fronts.{IsFront, given_first, is_first, with_first, world_with_first}
+use Rattle.private_view.proofs.Looking.{known_written, leaves_written}
+use Rattle.private_view.proofs.Marked.{both_true}
+use Rattle.private_view.proofs.Pages.{either_page}
 
-module _ (cells next : ℕ) (values : List ℤ) (k : ℕ) (x : ℤ) (given : Given) where
-  -- one more has its value at hand
-  pub noted : k < length values → ((i : ℕ) → i ≢ k → bit_at next i ≡ bit_at cells i) → AreAtHand cells values given → AreAtHand next (slice_set values k x) (given_more k x given)
-  noted lt others at b small told = by (b == k) refl
+-- ---- the cells of a mask
+
+pub beyond : (mask c : ℕ) → 64 ≤ c → is_first mask c ≡ false
+beyond mask c le = ap (λ b. b && (bit_at mask c == 1)) (le-ltb c 64 le)
+
+pub within_first : (mask c : ℕ) → c < 64 → is_first mask c ≡ (bit_at mask c == 1)
+within_first mask c lt = ap (λ b. b && (bit_at mask c == 1)) (lt-ltb c 64 lt)
+
+-- a cell that is in a mask is one of the first 64, and has its bit
+pub first_lt : (mask c : ℕ) → is_first mask c ≡ true → c < 64
+first_lt mask c h = by (cases_lt c 64)
+  where
+    by : (c < 64) ⊎ (64 ≤ c) → c < 64
+    by (inl lt) = lt
+    by (inr le) = absurd (true≢false (sym h ∙ beyond mask c le))
+
+pub first_bit : (mask c : ℕ) → is_first mask c ≡ true → bit_at mask c ≡ 1
+first_bit mask c h = eqb-true (bit_at mask c) 1 (both_true (nat_lt c 64) (bit_at mask c == 1) h).1
+
+pub not_less : (c : ℕ) → 64 ≤ c → c < 64 → ⊥
+not_less c le lt = absurd (omega arith)
+
+pub is_one : (n : ℕ) → n ≡ 1 → (n == 1) ≡ true
+is_one n e = ap (λ m. m == 1) e
+
+-- ---- what the first cells were given
+
+lt_next : (c n : ℕ) → nat_lt c (suc n) ≡ (c == n || nat_lt c n)
+lt_next c n = by (c == n) refl
+  where
+    less : c ≢ n → nat_lt c (suc n) ≡ nat_lt c n
+    less other = of (cases_lt c n)
+      where
+        of : (c < n) ⊎ (n ≤ c) → nat_lt c (suc n) ≡ nat_lt c n
+        of (inl lt) = lt-ltb c (suc n) (omega arith) ∙ sym (lt-ltb c n lt)
+        of (inr le) = le-ltb c (suc n) (omega (arith, le, other)) ∙ sym (le-ltb c n le)
+
+    by : (b : Bool) → (c == n) ≡ b → nat_lt c (suc n) ≡ (b || nat_lt c n)
+    by true e = let same = eqb-true c n e in lt-ltb c (suc n) (omega (arith, same))
+    by false e = less (eqb-false c n e)
+
+module _ (mask : ℕ) (values : List ℤ) where
+  abbrev value : ℕ → ℤ
+  value c = slice_index_or values c (pos 0)
+
+  abbrev has : ℕ → Bool
+  has c = bit_at mask c == 1
+
+  pub got_first : (n : ℕ) (w : Written) (c : ℕ) → map.get (given_first n mask values w) c ≡ (if nat_lt c n && has c then Some (value c) else map.get w c)
+  unfolding given_first
+  got_first zero w c = sym (ap (λ b. if b && has c then Some (value c) else map.get w c) (le-ltb c 0 (omega arith)))
+  got_first (suc n) w c =
+      by (got_first n w c) (has n) refl ∙ sym (ap (λ b. if b && has c then Some (value c) else map.get w c) (lt_next c n))
     where
-      by : (e : Bool) → (b == k) ≡ e → given_more k x given b ≡ Some (slice_index_or (slice_set values k x) b (pos 0))
-      by true e = let same : b ≡ k = eqb-true b k e in ap (λ t. if t then Some x else given b) e ∙ ap Some (sym (get_or-set_same values k x (pos 0) lt) ∙ ap (λ i. slice_index_or (slice_set values k x) i (pos 0)) (sym same))
+      rest : Option ℤ
+      rest = if nat_lt c n && has c then Some (value c) else map.get w c
+
+      by : map.get (given_first n mask values w) c ≡ rest → (b : Bool) → has n ≡ b → map.get (if b then map.insert (given_first n mask values w) n (value n) else given_first n mask values w) c ≡ (if (c == n || nat_lt c n) && has c then Some (value c) else map.get w c)
+      by got true e =
+          map.get-insert nat_cmp_total (given_first n mask values w) n (value n) c ∙ ap (λ b. cond b (Some (value n)) (map.get (given_first n mask values w) c)) (unsigned_tied c n) ∙ here (c == n) refl
+        where
+          here : (b : Bool) → (c == n) ≡ b → cond b (Some (value n)) (map.get (given_first n mask values w) c) ≡ (if (b || nat_lt c n) && has c then Some (value c) else map.get w c)
+          here true s =
+              let same = eqb-true c n s in
+              ap (λ k. Some (value k)) (sym same) ∙ sym (ap (λ b. if b then Some (value c) else map.get w c) (ap has same ∙ e))
+          here false s = got
+      by got false e = got ∙ here (c == n) refl
+        where
+          none : (b : Bool) → (b && false) ≡ false
+          none true = refl
+          none false = refl
+
+          here : (b : Bool) → (c == n) ≡ b → rest ≡ (if (b || nat_lt c n) && has c then Some (value c) else map.get w c)
+          here true s =
+              let off = ap has (eqb-true c n s) ∙ e in
+              ap (λ h. if nat_lt c n && h then Some (value c) else map.get w c) off ∙ ap (λ h. if h then Some (value c) else map.get w c) (none (nat_lt c n)) ∙ sym (ap (λ h. if h then Some (value c) else map.get w c) off)
+          here false s = refl
+
+  pub world_first : (s : Seen) → world_seen (with_first mask values s) ≡ world_with_first mask values (world_seen s)
+  unfolding world_with_first
+  world_first s = ap (λ f. record (world_seen s) { written = f }) (fun_ext (got_first 64 s.written))
+
+-- no cell is
+pub none_first : (values : List ℤ) (mask n : ℕ) (w : Written) → mask ≡ 0 → given_first n mask values w ≡ w
+unfolding given_first
+none_first values mask zero w none = refl
+none_first values mask (suc n) w none =
+    ap (λ b. if b then map.insert (given_first n mask values w) n (slice_index_or values n (pos 0)) else given_first n mask values w) (ap (λ m. bit_at m n == 1) none ∙ ap (λ o. o == 1) (bit_at-zero n)) ∙ none_first values mask n w none
+
+-- ---- a write
+
+-- what is known of the cells when one gets a value, where others keep theirs
+module _ (mask next : ℕ) (values after : List ℤ) (c : ℕ) (x : ℤ) (others : (d : ℕ) → d ≢ c → is_first next d ≡ is_first mask d) (kept : (d : ℕ) → d ≢ c → slice_index_or after d (pos 0) ≡ slice_index_or values d (pos 0)) where
+  gives : (f g : ℕ → Option ℤ) → ((d : ℕ) → d ≢ c → g d ≡ f d) → (if is_first next c then Some (slice_index_or after c (pos 0)) else g c) ≡ Some x → (d : ℕ) → (if is_first next d then Some (slice_index_or after d (pos 0)) else g d) ≡ (if d == c then Some x else if is_first mask d then Some (slice_index_or values d (pos 0)) else f d)
+  gives f g same here d = by (d == c) refl
+    where
+      by : (b : Bool) → (d == c) ≡ b → (if is_first next d then Some (slice_index_or after d (pos 0)) else g d) ≡ (if b then Some x else if is_first mask d then Some (slice_index_or values d (pos 0)) else f d)
+      by true e =
+          ap (λ k. if is_first next k then Some (slice_index_or after k (pos 0)) else g k) (eqb-true d c e) ∙ here
       by false e =
-          let other : b ≢ k = eqb-false b k e in
-          ap (λ t. if t then Some x else given b) e ∙ at b small (sym (others b other) ∙ told) ∙ ap Some (sym (get_or-set_other values k b x (pos 0) other))
+          let other = eqb-false d c e in
+          ap (λ b. if b then Some (slice_index_or after d (pos 0)) else g d) (others d other) ∙ ap (λ v. if is_first mask d then Some v else g d) (kept d other) ∙ ap (λ o. if is_first mask d then Some (slice_index_or values d (pos 0)) else o) (same d other)
 
--- a read leaves what was written
-pub read_keeps : (k : ℕ) (before after : World) → LeavesRead k before after → after.written ≡ before.written
-unfolding after_read lose
-read_keeps k before after (inl e) = ap (λ (w : World). w.written) e
-read_keeps k before after (inr e) = ap (λ (w : World). w.written) e.1
+  pub world_put : (w : World) → is_first next c ≡ true → slice_index_or after c (pos 0) ≡ x → world_with_first next after w ≡ after_write c x (world_with_first mask values w)
+  unfolding world_with_first after_write
+  world_put w there is =
+      ap (λ f. record w { written = f }) (fun_ext (gives w.written w.written (λ d other. refl) (ap (λ b. if b then Some (slice_index_or after c (pos 0)) else w.written c) there ∙ ap Some is)))
 
--- and a write gives its cell a value
-pub write_gives : (k : ℕ) (x : ℤ) (before after : World) → after ≡ after_write k x before → after.written ≡ given_more k x before.written
+  pub world_noted : (w : World) → (is_first next c ≡ true → slice_index_or after c (pos 0) ≡ x) → world_with_first next after (after_write c x w) ≡ after_write c x (world_with_first mask values w)
+  unfolding world_with_first after_write
+  world_noted w is = ap (λ f. record w { written = f }) (fun_ext (gives w.written g elsewhere (here (is_first next c) refl)))
+    where
+      g : ℕ → Option ℤ
+      g d = if d == c then Some x else w.written d
+
+      elsewhere : (d : ℕ) → d ≢ c → g d ≡ w.written d
+      elsewhere d other = of (d == c) refl
+        where
+          of : (b : Bool) → (d == c) ≡ b → (if b then Some x else w.written d) ≡ w.written d
+          of true e = absurd (other (eqb-true d c e))
+          of false e = refl
+
+      itself : (c == c) ≡ true
+      itself = of (c == c) refl
+        where
+          of : (b : Bool) → (c == c) ≡ b → b ≡ true
+          of true e = refl
+          of false e = absurd (eqb-false c c e refl)
+
+      here : (b : Bool) → is_first next c ≡ b → (if b then Some (slice_index_or after c (pos 0)) else g c) ≡ Some x
+      here true e = ap Some (is e)
+      here false e = ap (λ b. if b then Some x else w.written c) itself
+
+-- ---- what is at hand, when a cell gets a value
+
+write_other : (c : ℕ) (x : ℤ) (w : World) (b : ℕ) → b ≢ c → (after_write c x w).written b ≡ w.written b
 unfolding after_write
-write_gives k x before after e = ap (λ (w : World). w.written) e
+write_other c x w b other = of (b == c) refl
+  where
+    of : (t : Bool) → (b == c) ≡ t → (if t then Some x else w.written b) ≡ w.written b
+    of true e = absurd (other (eqb-true b c e))
+    of false e = refl
+
+write_here : (c : ℕ) (x : ℤ) (w : World) (b : ℕ) → b ≡ c → (after_write c x w).written b ≡ Some x
+unfolding after_write
+write_here c x w b same = of (b == c) refl
+  where
+    of : (t : Bool) → (b == c) ≡ t → (if t then Some x else w.written b) ≡ Some x
+    of true e = refl
+    of false e = absurd (eqb-false b c e same)
+
+some_not_none : (v : ℤ) (o : Option ℤ) → o ≡ Some v → o ≡ None → ⊥
+some_not_none v o s n = true≢false (sym (ap is_some s) ∙ ap is_some n)
+
+module _ (shown written : ℕ) (values : List ℤ) (w : World) (front : IsFront shown written values w) where
+  -- of any cell, which is in both masks from then on if it is one of the first 64
+  module _ (c : ℕ) (x : ℤ) (shows next : ℕ) (after : List ℤ) (kept : (d : ℕ) → d ≢ c → slice_index_or after d (pos 0) ≡ slice_index_or values d (pos 0)) (shown_same : (d : ℕ) → d < 64 → d ≢ c → bit_at shows d ≡ bit_at shown d) (same : (d : ℕ) → d < 64 → d ≢ c → bit_at next d ≡ bit_at written d) (shown_has : c < 64 → bit_at shows c ≡ 1) (has : c < 64 → bit_at next c ≡ 1) where
+    own : (b : ℕ) → b < 64 → (b ≡ c) ⊎ (b ≢ c) → is_some ((after_write c x w).written b) ≡ (bit_at next b == 1)
+    own b lt (inl e) =
+        ap is_some (write_here c x w b e) ∙ sym (is_one (bit_at next b) (ap (bit_at next) e ∙ has (subst (λ k. k < 64) e lt)))
+    own b lt (inr other) =
+        ap is_some (write_other c x w b other) ∙ front.own b lt ∙ ap (λ o. o == 1) (sym (same b lt other))
+
+    based : (b : ℕ) → b < 64 → b < w.cells → (after_write c x w).written b ≡ None → (b ≡ c) ⊎ (b ≢ c) → w.base b ≡ slice_index_or after b (pos 0)
+    based b lt cells none (inl e) = absurd (some_not_none x ((after_write c x w).written b) (write_here c x w b e) none)
+    based b lt cells none (inr other) =
+        front.based b lt cells (sym (write_other c x w b other) ∙ none) ∙ sym (kept b other)
+
+    marked : (b : ℕ) → b < 64 → bit_at shows b ≡ 1 → (after_write c x w).written b ≡ None → (b ≡ c) ⊎ (b ≢ c) → (w.exposed b ≡ true) ⊎ (w.lost ≡ true)
+    marked b lt bit none (inl e) = absurd (some_not_none x ((after_write c x w).written b) (write_here c x w b e) none)
+    marked b lt bit none (inr other) =
+        front.marked b lt (sym (shown_same b lt other) ∙ bit) (sym (write_other c x w b other) ∙ none)
+
+    both : (b : ℕ) → b < 64 → bit_at next b ≡ 1 → (b ≡ c) ⊎ (b ≢ c) → bit_at shows b ≡ 1
+    both b lt bit (inl e) = ap (bit_at shows) e ∙ shown_has (subst (λ k. k < 64) e lt)
+    both b lt bit (inr other) = shown_same b lt other ∙ front.both b lt (sym (same b lt other) ∙ bit)
+
+    pub front_noted : IsFront shows next after (after_write c x w)
+    unfolding after_write
+    front_noted = record {
+      own = λ b lt. own b lt (either_page b c);
+      based = λ b lt cells none. based b lt cells none (either_page b c);
+      marked = λ b lt bit none. marked b lt bit none (either_page b c);
+      both = λ b lt bit. both b lt bit (either_page b c);
+    }
+
+  -- ---- when a cell is read
+
+  stays : (c : ℕ) (o : Option ℤ) (b : ℕ) → w.exposed b ≡ true → with_exposed c o w.exposed b ≡ true
+  stays c (Some v) b h = h
+  stays c None b h = of (b == c)
+    where
+      of : (t : Bool) → (t || w.exposed b) ≡ true
+      of true = refl
+      of false = h
+
+  is_exposed : (c : ℕ) (o : Option ℤ) (b : ℕ) → o ≡ None → b ≡ c → with_exposed c o w.exposed b ≡ true
+  is_exposed c (Some v) b none e = absurd (some_not_none v (Some v) refl none)
+  is_exposed c None b none e = of (b == c) refl
+    where
+      of : (t : Bool) → (b == c) ≡ t → (t || w.exposed b) ≡ true
+      of true s = refl
+      of false s = absurd (eqb-false b c s e)
+
+  pub front_shown : (c shows : ℕ) (next : World) → ((d : ℕ) → d < 64 → d ≢ c → bit_at shows d ≡ bit_at shown d) → (c < 64 → bit_at shows c ≡ 1) → LeavesRead c w next → IsFront shows written values next
+  unfolding after_read lose
+  front_shown c shows next same has leaves = by leaves
+    where
+      both_still : (b : ℕ) → b < 64 → bit_at written b ≡ 1 → (b ≡ c) ⊎ (b ≢ c) → bit_at shows b ≡ 1
+      both_still b lt bit (inl e) = ap (bit_at shows) e ∙ has (subst (λ k. k < 64) e lt)
+      both_still b lt bit (inr other) = same b lt other ∙ front.both b lt bit
+
+      mark : (b : ℕ) → b < 64 → bit_at shows b ≡ 1 → w.written b ≡ None → (b ≡ c) ⊎ (b ≢ c) → ((after_read c w).exposed b ≡ true) ⊎ (w.lost ≡ true)
+      mark b lt bit none (inl e) = inl (is_exposed c (w.written c) b (ap w.written (sym e) ∙ none) e)
+      mark b lt bit none (inr other) = of (front.marked b lt (sym (same b lt other) ∙ bit) none)
+        where
+          of : (w.exposed b ≡ true) ⊎ (w.lost ≡ true) → ((after_read c w).exposed b ≡ true) ⊎ (w.lost ≡ true)
+          of (inl h) = inl (stays c (w.written c) b h)
+          of (inr h) = inr h
+
+      read : IsFront shows written values (after_read c w)
+      read = record {
+        own = front.own;
+        based = front.based;
+        marked = λ b lt bit none. mark b lt bit none (either_page b c);
+        both = λ b lt bit. both_still b lt bit (either_page b c);
+      }
+
+      lost : IsFront shows written values (lose w)
+      lost = record {
+        own = front.own;
+        based = front.based;
+        marked = λ b lt bit none. inr refl;
+        both = λ b lt bit. both_still b lt bit (either_page b c);
+      }
+
+      by : LeavesRead c w next → IsFront shows written values next
+      by (inl e) = subst (IsFront shows written values) (sym e) read
+      by (inr e) = subst (IsFront shows written values) (sym e.1) lost
+
+  -- a cell that isn't shown wasn't written
+  pub not_own : (c : ℕ) → is_first shown c ≡ false → is_first written c ≡ false
+  not_own c off = of (is_first written c) refl
+    where
+      of : (b : Bool) → is_first written c ≡ b → b ≡ false
+      of true h =
+          absurd (true≢false (sym (within_first shown c (first_lt written c h) ∙ is_one (bit_at shown c) (front.both c (first_lt written c h) (first_bit written c h))) ∙ off))
+      of false h = refl
+
+  pub unwritten : (c : ℕ) → c < 64 → is_first written c ≡ false → w.written c ≡ None
+  unwritten c lt off = of (w.written c) refl
+    where
+      of : (o : Option ℤ) → w.written c ≡ o → o ≡ None
+      of (Some v) e =
+          absurd (true≢false (sym (ap is_some e) ∙ front.own c lt ∙ sym (within_first written c lt) ∙ off))
+      of None e = refl
+
+  written_is : (c : ℕ) (b : Bool) → is_first written c ≡ b → (world_with_first written values w).written c ≡ (if b then Some (slice_index_or values c (pos 0)) else w.written c)
+  unfolding world_with_first
+  written_is c b e = ap (λ t. if t then Some (slice_index_or values c (pos 0)) else w.written c) e
+
+  -- what was written is as many cells as before
+  pub same_cells : (c : ℕ) → is_some ((world_with_first written values w).written c) ≡ is_some (w.written c)
+  same_cells c = of (is_first written c) refl
+    where
+      of : (b : Bool) → is_first written c ≡ b → is_some ((world_with_first written values w).written c) ≡ is_some (w.written c)
+      of true h =
+          ap is_some (written_is c true h) ∙ sym (front.own c (first_lt written c h) ∙ is_one (bit_at written c) (first_bit written c h))
+      of false h = ap is_some (written_is c false h)
+
+  -- what is at hand is known
+  pub front_known : (c : ℕ) → c < 64 → c < w.cells → slice_index_or values c (pos 0) ≡ known (world_with_first written values w) c
+  unfolding known overlay world_with_first
+  front_known c lt cells = of (is_first written c) refl
+    where
+      of : (b : Bool) → is_first written c ≡ b → slice_index_or values c (pos 0) ≡ known (world_with_first written values w) c
+      of true h =
+          known_written (world_with_first written values w) c (slice_index_or values c (pos 0)) (written_is c true h)
+      of false h =
+          let none = unwritten c lt h in
+          sym (front.based c lt cells none) ∙ sym (base_known (written_is c false h ∙ none))
+        where
+          base_known : (world_with_first written values w).written c ≡ None → known (world_with_first written values w) c ≡ w.base c
+          base_known e = ap (λ o. unwrap_or o (w.base c)) e
+
+  -- and may be shown
+  pub front_leaves : (c : ℕ) → is_first shown c ≡ true → LeavesRead c (world_with_first written values w) (world_with_first written values w)
+  unfolding after_read lose world_with_first
+  front_leaves c on = of (is_first written c) refl
+    where
+      f : World
+      f = world_with_first written values w
+
+      of : (b : Bool) → is_first written c ≡ b → LeavesRead c f f
+      of true h = leaves_written f c (slice_index_or values c (pos 0)) (written_is c true h)
+      of false h =
+          let none = unwritten c (first_lt shown c on) h in
+          by none (written_is c false h ∙ none) (front.marked c (first_lt shown c on) (first_bit shown c on) none)
+        where
+          again : w.exposed c ≡ true → (d : ℕ) → (d == c || w.exposed d) ≡ w.exposed d
+          again h d = at (d == c) refl
+            where
+              at : (b : Bool) → (d == c) ≡ b → (b || w.exposed d) ≡ w.exposed d
+              at true e = sym (ap w.exposed (eqb-true d c e) ∙ h)
+              at false e = refl
+
+          by : w.written c ≡ None → f.written c ≡ None → (w.exposed c ≡ true) ⊎ (w.lost ≡ true) → LeavesRead c f f
+          by none fnone (inl h) =
+              inl (sym (ap (λ o. record f { exposed = with_exposed c o w.exposed }) fnone ∙ ap (λ e. record f { exposed = e }) (fun_ext (again h))))
+          by none fnone (inr h) = inr (fnone, ap (λ l. record f { lost = l }) h)
+
+  -- any other cell is read as from what stands behind
+  pub other_written : (c : ℕ) → is_first shown c ≡ false → (world_with_first written values w).written c ≡ w.written c
+  other_written c off = written_is c false (not_own c off)
+
+  pub other_known : (c : ℕ) → is_first shown c ≡ false → known (world_with_first written values w) c ≡ known w c
+  unfolding known overlay world_with_first
+  other_known c off = ap (λ b. unwrap c b) (not_own c off)
+    where
+      unwrap : ℕ → Bool → ℤ
+      unwrap c b = known (record w { written = λ d. if b then Some (slice_index_or values c (pos 0)) else w.written c }) c
+
+  pub other_leaves : (c : ℕ) (next : World) → is_first shown c ≡ false → LeavesRead c w next → LeavesRead c (world_with_first written values w) (world_with_first written values next)
+  unfolding after_read lose world_with_first
+  other_leaves c next off (inl e) =
+      inl (ap (world_with_first written values) e ∙ ap (λ o. record (world_with_first written values w) { exposed = with_exposed c o w.exposed }) (sym (other_written c off)))
+  other_leaves c next off (inr e) = inr (other_written c off ∙ e.0, ap (world_with_first written values) e.1)
+
+-- ---- the view that a front stands beside
+
+module _ (written : ℕ) (values : List ℤ) (p now : Seen) (see : with_first written values p ≡ now) where
+  pub world_now : world_seen now ≡ world_with_first written values (world_seen p)
+  world_now = ap world_seen (sym see) ∙ world_first written values p
+
+-- nothing was written
+pub new_first : (mask : ℕ) (values base : List ℤ) → mask ≡ 0 → with_first mask values (new_view base) ≡ new_view base
+new_first mask values base none = ap (λ w. record (new_view base) { written = w }) (none_first values mask 64 map.empty none)
+
+pub nothing_shown : (values base : List ℤ) → ((b : ℕ) → b < 64 → b < length base → slice_get base b ≡ Some (slice_index_or values b (pos 0))) → IsFront 0 0 values (world_seen (new_view base))
+unfolding known overlay
+nothing_shown values base is = record {
+  own = λ b lt. ap is_some (map.get-empty nat_cmp b) ∙ sym (ap (λ o. o == 1) (bit_at-zero b));
+  based = λ b lt cells none. ap (λ o. unwrap_or o (pos 0)) (is b lt cells);
+  marked = λ b lt bit none. (let z = bit_at-zero b in absurd (omega (arith, z, bit)));
+  both = λ b lt bit. bit;
+}
+
+-- ---- what is at hand put back into the view
+
+inserted : (w n : Written) (k : ℕ) (v : ℤ) → ((q : ℕ) → map.get n q ≡ (if q == k then Some v else map.get w q)) → n ≡ map.insert w k v
+inserted w n k v is =
+    map.same_map nat_cmp_total nat_cmp-IsAntisymmetric n (map.insert w k v) (λ q. is q ∙ sym (map.get-insert nat_cmp_total w k v q ∙ ap (λ b. cond b (Some v) (map.get w q)) (unsigned_tied q k)))
+
+pub given_one : (s t : Seen) (k : ℕ) (v : ℤ) → world_seen t ≡ after_write k v (world_seen s) → t.written ≡ map.insert s.written k v
+unfolding after_write
+given_one s t k v is = inserted s.written t.written k v (λ q. ap (λ (u : World). u.written q) is)
+
+pub still_some : (mask : ℕ) (values : List ℤ) (n : ℕ) (w : Written) (c : ℕ) → is_some (map.get w c) ≡ true → is_some (map.get (given_first n mask values w) c) ≡ true
+still_some mask values n w c some = ap is_some (got_first mask values n w c) ∙ by (nat_lt c n && (bit_at mask c == 1))
+  where
+    by : (b : Bool) → is_some (if b then Some (slice_index_or values c (pos 0)) else map.get w c) ≡ true
+    by true = refl
+    by false = some
+
+module _ (mask : ℕ) (values : List ℤ) (n next : ℕ) (w : Written) (is : next ≡ suc n) where
+  pub one_more : bit_at mask n ≡ 1 → given_first next mask values w ≡ map.insert (given_first n mask values w) n (slice_index_or values n (pos 0))
+  unfolding given_first
+  one_more bit =
+      ap (λ k. given_first k mask values w) is ∙ ap (λ b. if b then map.insert (given_first n mask values w) n (slice_index_or values n (pos 0)) else given_first n mask values w) (is_one (bit_at mask n) bit)
+
+  pub no_more : (bit_at mask n == 1) ≡ false → given_first next mask values w ≡ given_first n mask values w
+  unfolding given_first
+  no_more off =
+      ap (λ k. given_first k mask values w) is ∙ ap (λ b. if b then map.insert (given_first n mask values w) n (slice_index_or values n (pos 0)) else given_first n mask values w) off

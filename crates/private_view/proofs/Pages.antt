@@ -17,7 +17,7 @@ use Rattle.std.specs.FinMap as map
 use Rattle.private_view.specs.Views.{IsCopied, IsKept, slot_at, value_at, written_by}
 
 -- a page or another one
-either_page : (k page : ℕ) → (k ≡ page) ⊎ (k ≢ page)
+pub either_page : (k page : ℕ) → (k ≡ page) ⊎ (k ≢ page)
 either_page k page = by (cases_lt k page) (cases_lt page k)
   where
     by : (k < page) ⊎ (page ≤ k) → (page < k) ⊎ (k ≤ page) → (k ≡ page) ⊎ (k ≢ page)

@@ -1,51 +1,118 @@
-//! The values of the first cells that were written.
+//! The values of the first cells, at hand.
 
-ghost use Rattle.std.specs.Prelude.{◌≡◌, Some, IfSome};
-ghost use Rattle.private_view.specs.Fronts.{AreAtHand, Given, given_more};
+ghost use Rattle.std.specs.Prelude.{◌≡◌, ◌<◌, ◌≤◌, ℕ, ℤ, pos, true, false, Some, List, IfSome, IsTrue, is_some, length, slice_get, slice_index_or, slice_set};
+ghost use Rattle.meaning.specs.Stores.{World, LeavesRead, after_write};
+ghost use Rattle.private_view.specs.Fronts.{IsFront, is_first, world_with_first};
+ghost use Rattle.private_view.specs.Views.{new_view, world_seen};
 
+use array_store::Whole;
 use marks::{has_bit, with_bit};
 
-/// The values of some of the first 64 cells, which variables have before all others.
+/// The first 64 cells, which variables have before all others: the value of each, which of them were written, and which may be
+/// shown without a mark.
 #[derive(Clone, Copy)]
 pub(crate) struct Front {
-    // Which cells they are.
-    pub cells: u64,
-    // The value of each in its place.
+    pub shown: u64,
+    pub written: u64,
     pub values: [i32; 64],
 }
 
+// The values of the first 64 cells, and 0 behind the last cell.
+fn first_values(base: &Whole) -> [i32; 64]
+    ensures { (b : ℕ) → b < 64 → b < length base.now →
+        slice_get base.now b ≡ Some (slice_index_or result b (pos 0)) }
+{
+    let cells = base.cells();
+    let count = cells.len().min(64);
+    let mut values = [0; 64];
+    values[..count].copy_from_slice(&cells[..count]);
+    values
+}
+
 impl Front {
-    /// No value is at hand.
+    /// Nothing was written or shown.
     #[inline(always)]
-    pub fn new() -> Front
-        ensures none { (given : Given) → AreAtHand result.cells result.values given }
+    pub fn new(base: &Whole) -> Front
+        ensures none { result.written ≡ 0 }
+        ensures front { IsFront result.shown result.written result.values (world_seen (new_view base.now)) }
     {
         Front {
-            cells: 0,
-            values: [0; 64],
+            shown: 0,
+            written: 0,
+            values: first_values(base),
         }
     }
 
-    /// The value of a cell, if it is at hand.
+    /// The value of a cell, if it is one that may be shown without a mark.
     #[inline(always)]
     pub fn value(&self, cell: usize) -> Option<i32>
-        ensures { (given : Given) → AreAtHand self.now.cells self.now.values given → IfSome result (λ x. given cell ≡ Some x) }
+        ensures some { is_some result ≡ is_first self.now.shown cell }
+        ensures value { IfSome result (λ x. x ≡ slice_index_or self.now.values cell (pos 0)) }
     {
-        if cell < 64 && has_bit(self.cells, cell) {
+        if cell < 64 && has_bit(self.shown, cell) {
             Some(self.values[cell])
         } else {
             None
         }
     }
 
-    /// Has the value of a cell that was written at hand from now on, if it is one of the first 64.
+    /// The values of the first so many cells.
+    pub fn first(&self, count: usize) -> &[i32]
+        requires { count ≤ 64 }
+        ensures len { length result.now ≡ count }
+        ensures values { (b : ℕ) → b < count →
+            slice_get result.now b ≡ Some (slice_index_or self.now.values b (pos 0)) }
+    {
+        &self.values[..count]
+    }
+
+    /// Has a cell that was read shown without a mark from now on, if it is one of the first 64.
     #[inline(always)]
-    pub fn note(&mut self, cell: usize, value: i32)
-        ensures { (given : Given) → AreAtHand self.old.cells self.old.values given →
-            AreAtHand self.new.cells self.new.values (given_more cell value given) }
+    pub fn show(&mut self, cell: usize)
+        ensures front { (before : World) → (after : World) → LeavesRead cell before after →
+            IsFront self.old.shown self.old.written self.old.values before →
+            IsFront self.new.shown self.new.written self.new.values after }
+        ensures written { self.new.written ≡ self.old.written }
+        ensures values { self.new.values ≡ self.old.values }
     {
         if cell < 64 {
-            self.cells = with_bit(self.cells, cell);
+            self.shown = with_bit(self.shown, cell);
+        }
+    }
+
+    /// Gives a cell its value, if it is one of the first 64 and was written before.
+    #[inline(always)]
+    pub fn put(&mut self, cell: usize, value: i32) -> bool
+        ensures whether { result ≡ is_first self.old.written cell }
+        ensures other { result ≡ false → self.new ≡ self.old }
+        ensures front { result ≡ true → (w : World) →
+            IsFront self.old.shown self.old.written self.old.values w →
+            IsFront self.new.shown self.new.written self.new.values w }
+        ensures world { result ≡ true → (w : World) →
+            world_with_first self.new.written self.new.values w ≡
+            after_write cell value (world_with_first self.old.written self.old.values w) }
+    {
+        if cell < 64 && has_bit(self.written, cell) {
+            self.values[cell] = value;
+            true
+        } else {
+            false
+        }
+    }
+
+    /// Notes that a cell was given a value, if it is one of the first 64.
+    #[inline(always)]
+    pub fn note(&mut self, cell: usize, value: i32)
+        ensures front { (w : World) →
+            IsFront self.old.shown self.old.written self.old.values w →
+            IsFront self.new.shown self.new.written self.new.values (after_write cell value w) }
+        ensures world { (w : World) →
+            world_with_first self.new.written self.new.values (after_write cell value w) ≡
+            after_write cell value (world_with_first self.old.written self.old.values w) }
+    {
+        if cell < 64 {
+            self.shown = with_bit(self.shown, cell);
+            self.written = with_bit(self.written, cell);
             self.values[cell] = value;
         }
     }

@@ -1,16 +1,17 @@
 //! A view of a whole store by its pages.
 
-ghost use Rattle.std.specs.Prelude.{◌≢◌, ◌||◌, true, ◌-◌, min, ◌↔◌, IsTrue, OnErr, [], ◌∷◌, ◌⊎◌, vec_len, vec_capacity, slice_set, slice_get, ◌≡◌, ◌<◌, ◌≤◌, ◌+◌, ◌*◌, ◌/◌, ◌%◌, ◌++◌, ◌^◌, ℕ, ℤ, pos, Some, length, is_some, IfOk, IfSome, OnOk, slice_index_or};
+ghost use Rattle.std.specs.Prelude.{◌≢◌, ◌||◌, true, ◌-◌, min, ◌↔◌, IsTrue, OnErr, [], ◌∷◌, ◌⊎◌, vec_len, vec_capacity, slice_set, slice_get, ◌≡◌, ◌<◌, ◌≤◌, ◌+◌, ◌*◌, ◌/◌, ◌%◌, ◌++◌, ◌^◌, ℕ, ℤ, pos, Some, length, is_some, IfOk, IfSome, OnOk, IsSome, slice_index_or};
 ghost use Rattle.std.specs.FinSet as set;
 ghost use Rattle.std.specs.FinMap as map;
 ghost use Rattle.marks.specs.Words.{tells, word_at};
 ghost use Rattle.std.specs.Int.{bit_at};
 ghost use Rattle.meaning.specs.Stores.{known, overlay};
 ghost use Rattle.array_store.specs.Whole.{world_of};
+ghost use Rattle.private_view.specs.Fronts.{with_first};
 ghost use Rattle.private_view.specs.Views.{ArePaged, ArePlaced, HasSome, TakesAll, TakesPage, Wrote, coded_wrote, is_in, of_page, IsCopied, IsKept, Seen, ShowsPage, WroteIn, coded_seen, new_view, slot_at, value_at, world_seen, written_by};
 
 use array_store::{Store, Whole};
-use marks::Marks;
+use marks::{Marks, has_bit};
 use meaning::cell::Cell;
 use std::alloc::{AllocError, Global};
 use std::marker::Model;
@@ -134,6 +135,26 @@ impl<'a> Paged<'a> {
         ensures { result ≡ self.now.lost }
     {
         self.lost
+    }
+
+    // Gives a cell that was written another value. It takes no memory.
+    fn put_again(&mut self, cell: usize, value: i32)
+        requires { IsSome (map.get self.old.written cell) }
+        ensures { self.new ≡ record self.old { written = map.insert self.old.written cell value } }
+    {
+        put_value(&self.slots, &self.numbers, &mut self.values, cell, value);
+    }
+
+    /// Gives those of the first 64 cells that a mask has, which were written, other values. It takes no memory.
+    pub(crate) fn put_first(&mut self, mask: u64, values: &[i32; 64])
+        requires { (b : ℕ) → b < 64 → bit_at mask b ≡ 1 → IsSome (map.get self.old.written b) }
+        ensures { self.new ≡ with_first mask values.now self.old }
+    {
+        for at in 0..64usize {
+            if has_bit(mask, at) {
+                self.put_again(at, values[at]);
+            }
+        }
     }
 
     /// Lets the whole store go, and keeps what was written. It takes no memory.

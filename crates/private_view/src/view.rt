@@ -5,7 +5,7 @@ ghost use Rattle.std.specs.FinSet as set;
 ghost use Rattle.std.specs.FinMap as map;
 ghost use Rattle.meaning.specs.Stores.{known, overlay};
 ghost use Rattle.array_store.specs.Whole.{world_of};
-ghost use Rattle.private_view.specs.Fronts.{AreAtHand};
+ghost use Rattle.private_view.specs.Fronts.{IsFront, with_first};
 ghost use Rattle.private_view.specs.Views.{Seen, ShowsPage, WroteIn, coded_seen, new_view, world_seen};
 
 use crate::front::Front;
@@ -21,7 +21,7 @@ use std::marker::Model;
 #[derive(Drop)]
 pub struct View<'a> {
     paged: Paged<'a>,
-    // What was written to the first cells, once more, without a look-up.
+    // The first cells, without a look-up: their newest values stand here alone until the view is let go.
     front: Front,
 }
 
@@ -30,9 +30,9 @@ impl<'a> Model for View<'a> {
 
     ghost coded = { coded_seen };
 
-    ghost view = { λ v. v.paged };
+    ghost view = { λ v. with_first v.front.written v.front.values v.paged };
 
-    ghost invariant = { λ v. AreAtHand v.front.cells v.front.values (map.get v.paged.written) };
+    ghost invariant = { λ v. IsFront v.front.shown v.front.written v.front.values (world_seen v.paged) };
 }
 
 impl<'a> View<'a> {
@@ -42,7 +42,7 @@ impl<'a> View<'a> {
     {
         View {
             paged: Paged::new(alloc, base),
-            front: Front::new(),
+            front: Front::new(base),
         }
     }
 
@@ -52,7 +52,7 @@ impl<'a> View<'a> {
     {
         View {
             paged: Paged::again(changes, base),
-            front: Front::new(),
+            front: Front::new(base),
         }
     }
 
@@ -76,7 +76,11 @@ impl<'a> View<'a> {
         ensures some { IsTrue (is_some result) ↔ WroteIn self.now page }
         ensures values { IfSome result (λ p. ShowsPage self.now page p.now) }
     {
-        self.paged.page(page)
+        match self.paged.page(page) {
+            None => None,
+            Some(part) if page == 0 => Some(self.front.first(part.len())),
+            Some(part) => Some(part),
+        }
     }
 
     /// Whether a cell was read that couldn't be marked as exposed, since memory was refused.
@@ -90,7 +94,10 @@ impl<'a> View<'a> {
     pub fn into_changes(self) -> Changes
         ensures { result ≡ record { cells = length self.entry.base; written = self.entry.written } }
     {
-        self.paged.into_changes()
+        let View { paged, front } = self;
+        let mut paged = paged;
+        paged.put_first(front.written, &front.values);
+        paged.into_changes()
     }
 
     /// Puts what was written into a whole store of as many cells, and lets the view go. It takes no memory.
@@ -111,12 +118,19 @@ impl<'a> Store for View<'a> {
     fn read(&mut self, cell: Cell) -> i32 {
         match self.front.value(cell.0) {
             Some(value) => value,
-            None => self.paged.read(cell),
+            None => {
+                let value = self.paged.read(cell);
+                self.front.show(cell.0);
+                value
+            }
         }
     }
 
     #[inline(always)]
     fn write(&mut self, cell: Cell, value: i32) -> Result<(), AllocError> {
+        if self.front.put(cell.0, value) {
+            return Ok(());
+        }
         self.paged.write(cell, value)?;
         self.front.note(cell.0, value);
         Ok(())

@@ -1,15 +1,39 @@
-use Rattle.std.proofs.Common.{rules, ◌<◌, length, sym, subst}
+use Rattle.std.proofs.Common.{rules, ◌<◌, ◌==◌, ◌&&◌, nat_lt, pos, length, refl, ap, ◌∙◌, to_z, of_z}
 use Rattle.std.specs.Prelude.{slice_set}
 use Rattle.std.specs.Int.{w32}
 use Rattle.std.proofs.lemmas.Int.{to_z-of_z}
-use Rattle.private_view.specs.Fronts.{AreAtHand, given_more}
-use Rattle.private_view.proofs.Fronts.{noted}
+use Rattle.std.proofs.lemmas.List.{get_or-set_same, get_or-set_other}
+use Rattle.private_view.proofs.Fronts.{first_lt, not_less, front_noted, world_noted}
 use Rattle.private_view.proofs.front.Front.note.Goals as goal
 
-pub returns-then-cell-lt64 : goal.returns-then-cell-lt64
-returns-then-cell-lt64 c given at =
+pub returns-then-cell-lt64-clause-front : goal.returns-then-cell-lt64-clause-front
+returns-then-cell-lt64-clause-front c w front =
     let f = c.args.self.now in
     let k = c.args.cell in
     let x = c.args.value in
+    let y = to_z w32 (of_z w32 x) in
+    let s = c.with_bit-self.ensures in
+    let t = c.with_bit-self-then-cell-lt64.ensures in
+    front_noted f.shown f.written f.values w front k x c.with_bit-self.result c.with_bit-self-then-cell-lt64.result (slice_set f.values k y) (λ d other. get_or-set_other f.values k d y (pos 0) other) (λ d lt other. s.others d other) (λ d lt other. t.others d other) (λ lt. s.has) (λ lt. t.has)
+
+pub returns-then-cell-lt64-clause-world : goal.returns-then-cell-lt64-clause-world
+returns-then-cell-lt64-clause-world c w =
+    let f = c.args.self.now in
+    let k = c.args.cell in
+    let x = c.args.value in
+    let y = to_z w32 (of_z w32 x) in
+    let t = c.with_bit-self-then-cell-lt64 in
     let lt : k < length f.values = search rules in
-    subst (λ y. AreAtHand c.with_bit-self.result (slice_set f.values k y) (given_more k x given)) (sym (to_z-of_z w32 x c.ranges.value)) (noted f.cells c.with_bit-self.result f.values k x given lt c.with_bit-self.ensures.others at)
+    world_noted f.written t.result f.values (slice_set f.values k y) k x (λ d other. ap (λ o. nat_lt d 64 && (o == 1)) (t.ensures.others d other)) (λ d other. get_or-set_other f.values k d y (pos 0) other) w (λ there. get_or-set_same f.values k y (pos 0) lt ∙ to_z-of_z w32 x c.ranges.value)
+
+pub returns-else-cell-lt64-clause-front : goal.returns-else-cell-lt64-clause-front
+returns-else-cell-lt64-clause-front c w front =
+    let f = c.args.self.now in
+    let k = c.args.cell in
+    front_noted f.shown f.written f.values w front k c.args.value f.shown f.written f.values (λ d other. refl) (λ d lt other. refl) (λ d lt other. refl) (λ lt. absurd (not_less k c.if-cell-lt64.false lt)) (λ lt. absurd (not_less k c.if-cell-lt64.false lt))
+
+pub returns-else-cell-lt64-clause-world : goal.returns-else-cell-lt64-clause-world
+returns-else-cell-lt64-clause-world c w =
+    let f = c.args.self.now in
+    let k = c.args.cell in
+    world_noted f.written f.written f.values f.values k c.args.value (λ d other. refl) (λ d other. refl) w (λ there. absurd (not_less k c.if-cell-lt64.false (first_lt f.written k there)))

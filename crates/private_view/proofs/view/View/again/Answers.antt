@@ -1,5 +1,9 @@
-use Rattle.std.specs.FinMap as map
+use Rattle.std.proofs.Common.{ap, ◌∙◌}
+use Rattle.private_view.specs.Fronts.{with_first}
+use Rattle.private_view.proofs.Fronts.{new_first}
 use Rattle.private_view.proofs.view.View.again.Goals as goal
 
-pub invariant_of-result : goal.invariant_of-result
-invariant_of-result c = c.new.ensures.none (map.get c.again.result.written)
+pub returns : goal.returns
+returns c =
+    let f = c.new.result in
+    ap (with_first f.written f.values) c.again.ensures ∙ new_first f.written f.values c.args.base.now c.new.ensures.none
