@@ -2,4 +2,3 @@ pub mod HeldNames
 pub mod GivenAt
 pub mod Lettered
 pub mod Disputed
-pub mod Rivals

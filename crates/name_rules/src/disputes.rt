@@ -8,13 +8,13 @@ ghost use Rattle.rule_passes.specs.Telling.{IsLeast};
 
 use crate::against::used_against;
 use crate::givings::given_too_much;
-use crate::implicits::rival_implicit;
 use crate::letters::clashing_letters;
 use crate::logicals::logical_intrinsic;
 use crate::twofold::used_twofold;
 use meaning::refusal::{Broken, Rule, lesser};
 use meaning::syntax::Item;
 use roles::Roles;
+use rule_passes::rival_implicit;
 use std::alloc::{AllocError, Global};
 
 /// K4: the least line at which a name or a letter is given too much, or a name is used against what it is.

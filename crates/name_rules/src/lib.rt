@@ -6,7 +6,6 @@ mod against;
 mod disputes;
 mod given;
 mod givings;
-mod implicits;
 mod letters;
 mod logicals;
 mod twofold;

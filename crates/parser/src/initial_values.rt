@@ -11,10 +11,9 @@ use crate::list::read_items;
 use crate::read_error::ReadError;
 use crate::statement::split_comma;
 use crate::token::{
-    behind, expect, is_number, is_symbolic_name, read_name, read_sign, read_truth,
-    split_alphanumerics, split_digits,
+    behind, expect, is_number, read_name, read_sign, read_truth, split_alphanumerics, split_digits,
 };
-use lexer::begins;
+use lexer::{begins, is_symbolic_name};
 use meaning::syntax::{
     DataConstant, DataSet, DataValue, Expr, ListItem, ListItems, RepeatCount, Shape, Sign,
 };

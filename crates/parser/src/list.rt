@@ -10,8 +10,8 @@ ghost use Rattle.parser.specs.Rows.{items_before};
 use crate::expression::read_expression_from;
 use crate::read_error::ReadError;
 use crate::statement::read_limits;
-use crate::token::{behind, expect, is_symbolic_name, read_name, split_alphanumerics};
-use lexer::{begins, has_equals_sign};
+use crate::token::{behind, expect, read_name, split_alphanumerics};
+use lexer::{begins, has_equals_sign, is_symbolic_name};
 use meaning::syntax::{Limits, ListItem, ListItems};
 use std::alloc::{AllocError, Global};
 

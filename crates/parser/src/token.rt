@@ -2,12 +2,13 @@
 
 ghost use Rattle.std.specs.Prelude.{◌≡◌, option_map, nat_lt};
 ghost use Rattle.std.specs.List.{list_all, list_any, prefix_len};
-ghost use Rattle.meaning.specs.Characters.{is_digit as digit_test, is_alphanumeric as alphanumeric_test, is_number as number_test, is_name, is_label, number_of};
+ghost use Rattle.meaning.specs.Characters.{is_digit as digit_test, is_alphanumeric as alphanumeric_test, is_number as number_test, is_label, number_of};
 ghost use Rattle.meaning.specs.Reading.{after, before_last_parenthesis, run, name_at, label_at, sign_at, first_operator_at, operator_at, truth_at};
 ghost use Rattle.meaning.specs.Spelling.{operator_text};
 ghost use Rattle.parser.specs.Reports.{Agrees};
 
 use crate::read_error::ReadError;
+use lexer::{is_alphanumeric, is_symbolic_name};
 use meaning::syntax::{Operator, Sign};
 use std::alloc::Global;
 
@@ -39,13 +40,6 @@ fn is_digit(c: u8) -> bool
     ensures { result ≡ digit_test c }
 {
     c.is_ascii_digit()
-}
-
-/// A letter or a digit.
-fn is_alphanumeric(c: u8) -> bool
-    ensures { result ≡ alphanumeric_test c }
-{
-    c.is_ascii_uppercase() || c.is_ascii_digit()
 }
 
 /// How many digits stand at the front.
@@ -85,13 +79,6 @@ fn are_digits(text: &[u8]) -> bool
     text.iter().all(|c| is_digit(*c))
 }
 
-/// Whether all are letters or digits.
-fn are_alphanumeric(text: &[u8]) -> bool
-    ensures { result ≡ list_all alphanumeric_test text.now }
-{
-    text.iter().all(|c| is_alphanumeric(*c))
-}
-
 /// Whether a digit above 0 is among them.
 fn has_positive(digits: &[u8]) -> bool
     ensures { result ≡ list_any (λ c. nat_lt 48 c) digits.now }
@@ -104,19 +91,6 @@ pub fn is_number(text: &[u8]) -> bool
     ensures { result ≡ number_test text.now }
 {
     !text.is_empty() && are_digits(text)
-}
-
-/// Whether a text is a symbolic name: a letter and up to thirty letters or digits (ANSI X3.9-1978, 2.2; the
-/// number is the program's own).
-pub fn is_symbolic_name(text: &[u8]) -> bool
-    ensures { result ≡ is_name text.now }
-{
-    match text.split_first() {
-        None => false,
-        Some((first, rest)) => first.is_ascii_uppercase()
-            && are_alphanumeric(rest)
-            && rest.len() <= 30,
-    }
 }
 
 /// Whether digits are a statement label: one to five, not all zero (ANSI X3.9-1978, 3.4).

@@ -1,11 +1,13 @@
 //! What the rules on a program unit have in common: one pass over its statements, or over its lists, that tells the least line at which
-//! a rule is broken.
+//! a rule is broken. And the one for IMPLICIT NONE, a part of K4, which needs no more than the statements.
 #![tactic(auto)]
 
 mod broken;
+mod implicits;
 mod pass;
 mod within;
 
 pub use broken::broken_if;
+pub use implicits::rival_implicit;
 pub use pass::{Behind, least_told};
 pub use within::{Within, least_in};

@@ -1,4 +1,4 @@
--- IMPLICIT statements that were passed.
+-- IMPLICIT statements that were passed (ANSI X3.9-1978, 8.5).
 use Rattle.std.specs.Prelude.{◌≡◌, Bool, List}
 use Rattle.std.specs.List.{list_any}
 use Rattle.meaning.specs.NameRules.{is_implicit}
