@@ -162,11 +162,26 @@ pub enum ListItem {
 }
 
 /// Items with commas between, first to last.
-#[derive(Drop)]
 #[cycle(list_item)]
 pub enum ListItems {
     Empty,
     More(ListItem, Box<ListItems>),
+}
+
+/// Along the list, so that no list is too long for the stack: a frame for each implied DO in another, and none for each item.
+impl Drop for ListItems {
+    #[cycle(list_item)]
+    fn drop(mut self) {
+        loop {
+            match self {
+                ListItems::Empty => return,
+                ListItems::More(first, rest) => {
+                    drop(first);
+                    self = Box::into_inner(rest);
+                }
+            }
+        }
+    }
 }
 
 /// A constant in a DATA statement (ANSI X3.9-1978, 9.1).
