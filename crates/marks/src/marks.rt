@@ -226,6 +226,10 @@ impl Marks {
         ensures ok { OnOk result (self.new ≡ set.insert self.old cell.0) }
         ensures err { OnErr result (self.new ≡ self.old) }
     {
+        if cell.0 / 64 < self.words.len() && is_told(&self.groups, cell.0 / 512) {
+            put(&mut self.words, cell.0);
+            return Ok(());
+        }
         grow_to(&mut self.words, cell.0 / 64)?;
         grow_to(&mut self.groups, cell.0 / 512 / 64)?;
         put(&mut self.groups, cell.0 / 512);
