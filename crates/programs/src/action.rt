@@ -58,11 +58,26 @@ pub enum ListCode {
 }
 
 /// The items of an output list, first to last.
-#[derive(Drop)]
 #[cycle(list_code)]
 pub enum ListCodes {
     Empty,
     More(ListCode, Box<ListCodes>),
+}
+
+/// Along the list, as `ListItems` is dropped.
+impl Drop for ListCodes {
+    #[cycle(list_code)]
+    fn drop(mut self) {
+        loop {
+            match self {
+                ListCodes::Empty => return,
+                ListCodes::More(first, rest) => {
+                    drop(first);
+                    self = Box::into_inner(rest);
+                }
+            }
+        }
+    }
 }
 
 /// What the execution of a statement needs: codes in place of expressions, cells in place of names, and labels as numbers.
