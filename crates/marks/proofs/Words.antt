@@ -215,24 +215,9 @@ meet_more a b i at before here m = by (cases_lt m.0 at)
     by (inl lt) = before (m.0, (m.1.0, (lt, m.1.1.1)))
     by (inr over) = here (m.0, (over, (m.1.1.0, m.1.1.1)))
 
-pub meet_none : (a b : List ℕ) (i j : ℕ) → j ≤ i → MeetIn a b i j → ⊥
-meet_none a b i j le m = let low = m.1.0 in let high = m.1.1.0 in absurd (omega arith)
-
 pub meet_wider : (a b : List ℕ) (i at j : ℕ) → i ≤ at → at < j → MeetIn a b at (at + 1) → MeetIn a b i j
 meet_wider a b i at j low high m =
     (m.0, (let l = m.1.0 in omega arith, (let h = m.1.1.0 in omega arith, m.1.1.1)))
-
--- no group before one, and not that one
-pub told_more : (a b : List ℕ) (mask first n : ℕ) → (MeetTold a b mask first n → ⊥) → (bit_at mask n ≡ 1 → MeetIn a b (8 * (first + n)) (8 * (first + n) + 8) → ⊥) → MeetTold a b mask first (n + 1) → ⊥
-told_more a b mask first n before here m = by (cases_lt m.0 n)
-  where
-    same : n ≤ m.0 → m.0 ≡ n
-    same over = let lt = m.1.0 in omega arith
-
-    by : (m.0 < n) ⊎ (n ≤ m.0) → ⊥
-    by (inl lt) = before (m.0, (lt, m.1.1))
-    by (inr over) =
-        here (sym (ap (bit_at mask) (same over)) ∙ m.1.1.0) (subst (λ j. MeetIn a b (8 * (first + j)) (8 * (first + j) + 8)) (same over) m.1.1.1)
 
 -- ---- cells that two sets share
 

@@ -48,6 +48,26 @@ pub fn with_bit(word: u64, bit: usize) -> u64
     word | (1 << bit)
 }
 
+/// The lowest bit of a mask word that isn't 0.
+pub fn lowest_bit(word: u64) -> usize
+    requires { word ≢ 0 }
+    ensures small { result < 64 }
+    ensures has { bit_at word result ≡ 1 }
+{
+    word.trailing_zeros() as usize
+}
+
+/// A mask word without a bit that it has.
+pub fn without_bit(word: u64, bit: usize) -> u64
+    requires small { bit < 64 }
+    requires has { bit_at word bit ≡ 1 }
+    ensures gone { bit_at result bit ≡ 0 }
+    ensures others { (i : ℕ) → i < 64 → i ≢ bit → bit_at result i ≡ bit_at word i }
+    ensures less { result < word }
+{
+    word & !(1 << bit)
+}
+
 // Whether words tell a cell.
 fn is_told(words: &[u64], cell: usize) -> bool
     ensures { result ≡ tells words.now cell }
@@ -133,10 +153,13 @@ fn meet_groups(a: &[u64], b: &[u64], mask: u64, first: usize) -> bool
     requires { first + 64 ≤ 2 ^ 58 }
     ensures { IsTrue result ↔ MeetTold a.now b.now mask first 64 }
 {
-    for bit in 0..64usize {
-        if has_bit(mask, bit) && meet_group(a, b, first + bit) {
+    let mut left = mask;
+    'bits: while left != 0 {
+        let bit = lowest_bit(left);
+        if meet_group(a, b, first + bit) {
             return true;
         }
+        left = without_bit(left, bit);
     }
     false
 }
@@ -176,13 +199,11 @@ fn clear_groups(words: &mut Vec<u64>, mask: u64, first: usize)
     ensures len { length words.new.items ≡ length words.old.items }
     ensures left { AreLeft words.old.items words.new.items mask first 64 }
 {
-    if mask == 0 {
-        return;
-    }
-    for bit in 0..64usize {
-        if has_bit(mask, bit) {
-            clear_group(words, first + bit);
-        }
+    let mut left = mask;
+    'bits: while left != 0 {
+        let bit = lowest_bit(left);
+        clear_group(words, first + bit);
+        left = without_bit(left, bit);
     }
 }
 

@@ -373,20 +373,63 @@ pub given_one : (s t : Seen) (k : ℕ) (v : ℤ) → world_seen t ≡ after_writ
 unfolding after_write
 given_one s t k v is = inserted s.written t.written k v (λ q. ap (λ (u : World). u.written q) is)
 
-pub still_some : (mask : ℕ) (values : List ℤ) (n : ℕ) (w : Written) (c : ℕ) → is_some (map.get w c) ≡ true → is_some (map.get (given_first n mask values w) c) ≡ true
-still_some mask values n w c some = ap is_some (got_first mask values n w c) ∙ by (nat_lt c n && (bit_at mask c == 1))
-  where
-    by : (b : Bool) → is_some (if b then Some (slice_index_or values c (pos 0)) else map.get w c) ≡ true
-    by true = refl
-    by false = some
+-- what is put back, with those cells that are left, makes up all of it
+abbrev pub ArePutBack : ℕ → ℕ → List ℤ → Written → Written → Type 0
+ArePutBack mask left values w now =
+    (c : ℕ) → map.get now c ≡ (if is_first left c then map.get w c else map.get (given_first 64 mask values w) c)
 
-module _ (mask : ℕ) (values : List ℤ) (n next : ℕ) (w : Written) (is : next ≡ suc n) where
-  pub one_more : bit_at mask n ≡ 1 → given_first next mask values w ≡ map.insert (given_first n mask values w) n (slice_index_or values n (pos 0))
-  unfolding given_first
-  one_more bit =
-      ap (λ k. given_first k mask values w) is ∙ ap (λ b. if b then map.insert (given_first n mask values w) n (slice_index_or values n (pos 0)) else given_first n mask values w) (is_one (bit_at mask n) bit)
+module _ (mask : ℕ) (values : List ℤ) (w : Written) where
+  pub none_back : ArePutBack mask mask values w w
+  none_back c = by (is_first mask c) refl
+    where
+      by : (b : Bool) → is_first mask c ≡ b → map.get w c ≡ (if b then map.get w c else map.get (given_first 64 mask values w) c)
+      by true e = refl
+      by false e =
+          sym (got_first mask values 64 w c ∙ ap (λ b. if b then Some (slice_index_or values c (pos 0)) else map.get w c) e)
 
-  pub no_more : (bit_at mask n == 1) ≡ false → given_first next mask values w ≡ given_first n mask values w
-  unfolding given_first
-  no_more off =
-      ap (λ k. given_first k mask values w) is ∙ ap (λ b. if b then map.insert (given_first n mask values w) n (slice_index_or values n (pos 0)) else given_first n mask values w) off
+  pub all_back : (left : ℕ) (now : Written) → left ≡ 0 → ArePutBack mask left values w now → now ≡ given_first 64 mask values w
+  all_back left now none back =
+      map.same_map nat_cmp_total nat_cmp-IsAntisymmetric now (given_first 64 mask values w) (λ c. back c ∙ ap (λ b. if b then map.get w c else map.get (given_first 64 mask values w) c) (off c))
+    where
+      no_end : (b : Bool) → (b && false) ≡ false
+      no_end true = refl
+      no_end false = refl
+
+      off : (c : ℕ) → is_first left c ≡ false
+      off c =
+          ap (λ m. is_first m c) none ∙ ap (λ o. nat_lt c 64 && (o == 1)) (bit_at-zero c) ∙ no_end (nat_lt c 64)
+
+  module _ (left less at : ℕ) (now : Written) (small : at < 64) (has : bit_at mask at ≡ 1) (gone : bit_at less at ≡ 0) (others : (i : ℕ) → i < 64 → i ≢ at → bit_at less i ≡ bit_at left i) (back : ArePutBack mask left values w now) where
+    pub one_back : ArePutBack mask less values w (map.insert now at (slice_index_or values at (pos 0)))
+    one_back c =
+        map.get-insert nat_cmp_total now at (slice_index_or values at (pos 0)) c ∙ ap (λ b. cond b (Some (slice_index_or values at (pos 0))) (map.get now c)) (unsigned_tied c at) ∙ by (c == at) refl
+      where
+        given : Option ℤ
+        given = map.get (given_first 64 mask values w) c
+
+        there : c ≡ at → given ≡ Some (slice_index_or values at (pos 0))
+        there same =
+            ap (map.get (given_first 64 mask values w)) same ∙ got_first mask values 64 w at ∙ ap (λ b. if b then Some (slice_index_or values at (pos 0)) else map.get w at) (within_first mask at small ∙ is_one (bit_at mask at) has)
+
+        off : c ≡ at → is_first less c ≡ false
+        off same =
+            ap (is_first less) same ∙ within_first less at small ∙ ap (λ o. o == 1) gone
+
+        as_before : c ≢ at → is_first less c ≡ is_first left c
+        as_before other = of (cases_lt c 64)
+          where
+            of : (c < 64) ⊎ (64 ≤ c) → is_first less c ≡ is_first left c
+            of (inl lt) = ap (λ o. nat_lt c 64 && (o == 1)) (others c lt other)
+            of (inr le) = beyond less c le ∙ sym (beyond left c le)
+
+        by : (b : Bool) → (c == at) ≡ b → cond b (Some (slice_index_or values at (pos 0))) (map.get now c) ≡ (if is_first less c then map.get w c else given)
+        by true e =
+            let same = eqb-true c at e in
+            sym (there same) ∙ sym (ap (λ b. if b then map.get w c else given) (off same))
+        by false e =
+            back c ∙ sym (ap (λ b. if b then map.get w c else given) (as_before (eqb-false c at e)))
+
+  -- a cell that is left was written
+  pub left_some : (left at : ℕ) (now : Written) → at < 64 → bit_at left at ≡ 1 → ArePutBack mask left values w now → is_some (map.get w at) ≡ true → is_some (map.get now at) ≡ true
+  left_some left at now small has back some =
+      ap is_some (back at ∙ ap (λ b. if b then map.get w at else map.get (given_first 64 mask values w) at) (within_first left at small ∙ is_one (bit_at left at) has)) ∙ some

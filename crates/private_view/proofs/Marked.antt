@@ -1,11 +1,12 @@
 -- Cells that mask words tell, gone over page by page and bit by bit.
-use Rattle.std.proofs.Common.{◌≡◌, ◌≢◌, ℕ, ℤ, ◌+◌, ◌*◌, ◌/◌, ◌%◌, ◌^◌, ◌<◌, ◌≤◌, ◌==◌, ◌||◌, ◌&&◌, Bool, true, false, IsTrue, nat_lt, cond, List, length, if◌then◌else◌, Option, Some, None, refl, sym, ap, ◌∙◌, arith, inl, inr}
-use Rattle.std.specs.Prelude.{◌⊎◌, not, nat_eq, slice_get, slice_set}
+use Rattle.std.proofs.Common.{◌≡◌, ◌≢◌, ℕ, ℤ, ◌+◌, ◌*◌, ◌/◌, ◌%◌, ◌^◌, ◌<◌, ◌≤◌, ◌==◌, ◌||◌, ◌&&◌, Bool, true, false, IsTrue, nat_lt, cond, List, length, if◌then◌else◌, Option, Some, None, refl, sym, ap, ◌∙◌, arith}
+use Rattle.std.specs.Prelude.{not, nat_eq, slice_get, slice_set}
 use Rattle.std.specs.Int.{bit_at, trailing_zeros}
 use Rattle.std.proofs.Common.{w64}
-use Rattle.std.proofs.lemmas.Nat.Bits.{bit_at-zero, bit_at-trailing_zeros}
-use Rattle.std.proofs.lemmas.Bool.{true≢false, eqb-true, cases_lt, lt-ltb, le-ltb}
+use Rattle.std.proofs.lemmas.Nat.Bits.{bit_at-zero}
+use Rattle.std.proofs.lemmas.Bool.{true≢false, eqb-true, lt-ltb, le-ltb}
 use Rattle.marks.specs.Words.{tells, word_at}
+use Rattle.marks.proofs.Bits.{some_bit}
 use Rattle.std.proofs.Common.{unwrap_or, pos}
 use Rattle.std.proofs.Math.Path.{fun_ext}
 use Rattle.std.specs.FinMap as map
@@ -60,25 +61,6 @@ in_nothing word page c none =
     ap (λ w. (c / 64 == page) && (bit_at w (c % 64) == 1)) none ∙ ap (λ o. (c / 64 == page) && (o == 1)) (bit_at-zero (c % 64)) ∙ no_end (c / 64 == page)
 
 -- ---- words with a bit
-
--- the lowest one
-pub some_bit : (word : ℕ) → word < 2 ^ 64 → word ≢ 0 → (trailing_zeros w64 word < 64) × (bit_at word (trailing_zeros w64 word) ≡ 1)
-some_bit word small some =
-    let found = bit_at-trailing_zeros w64 word (positive word some) small in
-    (found.0, found.1)
-  where
-    positive : (n : ℕ) → n ≢ 0 → 0 < n
-    positive n some = omega arith
-
-pub less_by_bit : (a b bit : ℕ) → a ≤ b → bit_at a bit ≡ 0 → bit_at b bit ≡ 1 → a < b
-less_by_bit a b bit le none one = by (cases_lt a b)
-  where
-    by : (a < b) ⊎ (b ≤ a) → a < b
-    by (inl lt) = lt
-    by (inr ge) =
-        let same : a ≡ b = omega arith in
-        let bits : bit_at a bit ≡ bit_at b bit = ap (λ n. bit_at n bit) same in
-        absurd (omega (arith, bits, none, one))
 
 cell_bit : (words : List ℕ) (page b : ℕ) → b < 64 → tells words (64 * page + b) ≡ (bit_at (word_at words page) b == 1)
 cell_bit words page b small =

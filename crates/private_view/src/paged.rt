@@ -5,13 +5,13 @@ ghost use Rattle.std.specs.FinSet as set;
 ghost use Rattle.std.specs.FinMap as map;
 ghost use Rattle.marks.specs.Words.{tells, word_at};
 ghost use Rattle.std.specs.Int.{bit_at};
-ghost use Rattle.meaning.specs.Stores.{known, overlay};
+ghost use Rattle.meaning.specs.Stores.{after_write, known, overlay};
 ghost use Rattle.array_store.specs.Whole.{world_of};
 ghost use Rattle.private_view.specs.Fronts.{with_first};
 ghost use Rattle.private_view.specs.Views.{ArePaged, ArePlaced, HasSome, TakesAll, TakesPage, Wrote, coded_wrote, is_in, of_page, IsCopied, IsKept, Seen, ShowsPage, WroteIn, coded_seen, new_view, slot_at, value_at, world_seen, written_by};
 
 use array_store::{Store, Whole};
-use marks::{Marks, has_bit};
+use marks::{Marks, lowest_bit, without_bit};
 use meaning::cell::Cell;
 use std::alloc::{AllocError, Global};
 use std::marker::Model;
@@ -137,6 +137,26 @@ impl<'a> Paged<'a> {
         self.lost
     }
 
+    // Writes a cell for the first time, which may take memory. It stands by itself, so that a cell that was written is written quickly.
+    #[inline(never)]
+    fn write_new(&mut self, cell: Cell, value: i32) -> Result<(), AllocError>
+        requires { cell.0 < length self.old.base }
+        ensures ok { OnOk result (world_seen self.new ≡ after_write cell.0 value (world_seen self.old)) }
+        ensures err { OnErr result (world_seen self.new ≡ world_seen self.old) }
+        ensures base { self.new.base ≡ self.old.base }
+    {
+        hold(
+            self.base,
+            &mut self.slots,
+            &mut self.numbers,
+            &mut self.values,
+            cell.0 / 64,
+        )?;
+        self.written.set(cell)?;
+        put_value(&self.slots, &self.numbers, &mut self.values, cell.0, value);
+        Ok(())
+    }
+
     // Gives a cell that was written another value. It takes no memory.
     fn put_again(&mut self, cell: usize, value: i32)
         requires { IsSome (map.get self.old.written cell) }
@@ -150,10 +170,11 @@ impl<'a> Paged<'a> {
         requires { (b : ℕ) → b < 64 → bit_at mask b ≡ 1 → IsSome (map.get self.old.written b) }
         ensures { self.new ≡ with_first mask values.now self.old }
     {
-        for at in 0..64usize {
-            if has_bit(mask, at) {
-                self.put_again(at, values[at]);
-            }
+        let mut left = mask;
+        'bits: while left != 0 {
+            let at = lowest_bit(left);
+            self.put_again(at, values[at]);
+            left = without_bit(left, at);
         }
     }
 
@@ -247,26 +268,6 @@ fn copied_page<'a>(
     };
     let from = 64 * slot;
     &values[from..from + count]
-}
-
-// The lowest bit of a mask word that isn't 0.
-fn lowest_bit(word: u64) -> usize
-    requires { word ≢ 0 }
-    ensures small { result < 64 }
-    ensures has { bit_at word result ≡ 1 }
-{
-    word.trailing_zeros() as usize
-}
-
-// A mask word without a bit that it has.
-fn without_bit(word: u64, bit: usize) -> u64
-    requires small { bit < 64 }
-    requires has { bit_at word bit ≡ 1 }
-    ensures gone { bit_at result bit ≡ 0 }
-    ensures others { (i : ℕ) → i < 64 → i ≢ bit → bit_at result i ≡ bit_at word i }
-    ensures less { result < word }
-{
-    word & !(1 << bit)
 }
 
 // Puts the values of those cells of a page that its mask word has into a whole store, one by one.
@@ -436,8 +437,7 @@ fn page_of(base: &Whole, page: usize) -> &[i32]
     &cells[from..from + count]
 }
 
-// Sees that a page is copied. It stands by itself, so that a cell whose page is copied is written quickly.
-#[inline(never)]
+// Sees that a page is copied.
 fn hold(
     base: &Whole,
     slots: &mut Vec<usize>,
@@ -491,15 +491,6 @@ impl<'a> Store for Paged<'a> {
             put_value(&self.slots, &self.numbers, &mut self.values, cell.0, value);
             return Ok(());
         }
-        hold(
-            self.base,
-            &mut self.slots,
-            &mut self.numbers,
-            &mut self.values,
-            cell.0 / 64,
-        )?;
-        self.written.set(cell)?;
-        put_value(&self.slots, &self.numbers, &mut self.values, cell.0, value);
-        Ok(())
+        self.write_new(cell, value)
     }
 }

@@ -1,41 +1,45 @@
-use Rattle.std.proofs.Common.{rules, FitsSigned, ◌≡◌, ◌+◌, pos, is_some, suc, refl, sym, ap, ◌∙◌, arith}
+use Rattle.std.proofs.Common.{rules, FitsSigned, pos, refl, sym, ap, ◌∙◌}
 use Rattle.std.specs.Prelude.{slice_index_or}
-use Rattle.std.specs.Int.{bit_at, w32}
+use Rattle.std.specs.Int.{w32}
 use Rattle.std.proofs.lemmas.Int.{to_z-of_z}
-use Rattle.std.proofs.lemmas.Bool.{eqb-true}
 use Rattle.std.specs.FinMap as map
-use Rattle.private_view.specs.Fronts.{given_first}
+use Rattle.marks.proofs.Bits.{of_one}
 use Rattle.private_view.specs.Views.{Seen}
-use Rattle.private_view.proofs.Fronts.{no_more, one_more, still_some}
-use Rattle.private_view.proofs.paged.Paged.put_first.Goals.{then-has_bit, else-has_bit}
+use Rattle.private_view.proofs.Fronts.{all_back, left_some, none_back, one_back}
 use Rattle.private_view.proofs.paged.Paged.put_first.Goals as goal
 
-pub loop-at-init : goal.loop-at-init
-unfolding given_first
-loop-at-init c = refl
+pub bits-init : goal.bits-init
+bits-init c =
+    record { rest = refl; of = λ j lt has. has; back = none_back c.args.mask c.args.values.now c.args.self.now.written }
 
 pub put_again-requires : goal.put_again-requires
 put_again-requires c =
-    let n = c.loop-at.at in
-    let m = c.args.mask in
+    let at = c.lowest_bit-at.result in
+    let lowest = c.lowest_bit-at.ensures in
     let s = c.args.self.now in
-    let bit : bit_at m n ≡ 1 = eqb-true (bit_at m n) 1 (sym c.has_bit.ensures ∙ c.if-has_bit.true) in
-    ap (λ (t : Seen). is_some (map.get t.written n)) c.loop-at.invariant ∙ still_some m c.args.values.now n s.written n (c.requires n c.loop-at-test.true bit)
+    left_some c.args.mask c.args.values.now s.written c.bits.left at c.bits.self.written lowest.small lowest.has c.bits.invariant.back (c.requires at lowest.small (c.bits.invariant.of at lowest.small lowest.has))
 
-pub loop-at-preserved : goal.loop-at-preserved
-loop-at-preserved c =
-    let n = c.loop-at.at in
-    let m = c.args.mask in
+pub bits-preserved : goal.bits-preserved
+bits-preserved c =
     let s = c.args.self.now in
     let vs = c.args.values.now in
-    let next : n + 1 ≡ suc n = omega arith in
-    elim c.if-has_bit.branch [
-      | then-has_bit w ↦
-          let bit : bit_at m n ≡ 1 = eqb-true (bit_at m n) 1 (sym c.has_bit.ensures ∙ w.if-has_bit.true) in
-          let v = slice_index_or vs n (pos 0) in
-          let fits : FitsSigned w32 v = search rules in
-          let from = c.loop-at.self in
-          w.self-is ∙ w.put_again.ensures ∙ ap (λ x. record from { written = map.insert from.written n x }) (to_z-of_z w32 v fits) ∙ ap (λ (t : Seen). record t { written = map.insert t.written n (slice_index_or vs n (pos 0)) }) c.loop-at.invariant ∙ ap (λ ws. record s { written = ws }) (sym (one_more m vs n (n + 1) s.written next bit))
-      | else-has_bit w ↦
-          w.self-is ∙ c.loop-at.invariant ∙ ap (λ ws. record s { written = ws }) (sym (no_more m vs n (n + 1) s.written next (sym c.has_bit.ensures ∙ w.if-has_bit.false)))
-    ]
+    let m = c.args.mask in
+    let at = c.lowest_bit-at.result in
+    let lowest = c.lowest_bit-at.ensures in
+    let less = c.without_bit-left.result in
+    let one = c.without_bit-left.ensures in
+    let before = c.bits.self in
+    let v = slice_index_or vs at (pos 0) in
+    let fits : FitsSigned w32 v = search rules in
+    let w = map.insert before.written at v in
+    let put = c.put_again.ensures ∙ ap (λ x. record before { written = map.insert before.written at x }) (to_z-of_z w32 v fits) in
+    record {
+      rest = put ∙ ap (λ (t : Seen). record t { written = w }) c.bits.invariant.rest ∙ ap (λ ws. record s { written = ws }) (sym (ap (λ (t : Seen). t.written) put));
+      of = of_one m c.bits.left less at one.gone one.others c.bits.invariant.of;
+      back = λ q. ap (λ (t : Seen). map.get t.written q) put ∙ one_back m vs s.written c.bits.left less at before.written lowest.small (c.bits.invariant.of at lowest.small lowest.has) one.gone one.others c.bits.invariant.back q;
+    }
+
+pub returns : goal.returns
+returns c =
+    let s = c.args.self.now in
+    c.bits.invariant.rest ∙ ap (λ ws. record s { written = ws }) (all_back c.args.mask c.args.values.now s.written c.bits.left c.bits.self.written c.bits-test.false c.bits.invariant.back)

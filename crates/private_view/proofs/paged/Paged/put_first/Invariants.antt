@@ -1,7 +1,14 @@
 use Rattle.std.proofs.Common.{◌≡◌}
-use Rattle.private_view.specs.Fronts.{given_first}
+use Rattle.marks.proofs.Bits.{IsOf}
+use Rattle.private_view.proofs.Fronts.{ArePutBack}
 use Rattle.private_view.proofs.paged.Paged.put_first.Given as goal
 
-abbrev pub invariant-loop-at : goal.invariant-loop-at
-invariant-loop-at l =
-    l.self ≡ record l.initial.self { written = given_first l.at l.mask l.values l.initial.self.written }
+abbrev pub decreases-bits : goal.decreases-bits
+decreases-bits l = l.left
+
+abbrev pub invariant-bits : goal.invariant-bits
+invariant-bits l = record {
+  rest : l.self ≡ record l.initial.self { written = l.self.written };
+  of : IsOf l.mask l.left;
+  back : ArePutBack l.mask l.left l.values l.initial.self.written l.self.written;
+}

@@ -1,8 +1,8 @@
 use Rattle.std.proofs.Common.{w64}
 use Rattle.std.proofs.lemmas.Nat.{and_le_l}
 use Rattle.std.proofs.lemmas.Nat.Bits.{bit_at_clear_same, bit_at_clear_other}
-use Rattle.private_view.proofs.Marked.{less_by_bit}
-use Rattle.private_view.proofs.paged.without_bit.Goals as goal
+use Rattle.marks.proofs.Bits.{less_by_bit}
+use Rattle.marks.proofs.marks.without_bit.Goals as goal
 
 pub returns-clause-gone : goal.returns-clause-gone
 returns-clause-gone c = bit_at_clear_same w64 c.args.word c.args.bit c.requires.small

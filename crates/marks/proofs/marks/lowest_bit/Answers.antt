@@ -1,5 +1,5 @@
-use Rattle.private_view.proofs.Marked.{some_bit}
-use Rattle.private_view.proofs.paged.lowest_bit.Goals as goal
+use Rattle.marks.proofs.Bits.{some_bit}
+use Rattle.marks.proofs.marks.lowest_bit.Goals as goal
 
 pub returns-clause-small : goal.returns-clause-small
 returns-clause-small c = (some_bit c.args.word c.ranges.word.fits c.requires).0
