@@ -7,10 +7,8 @@ use Rattle.std.proofs.lemmas.Bool.{true≢false, cases_lt, eqb-true, eqb-false}
 use Rattle.marks.specs.Words.{tells, word_at}
 
 -- the lowest one
-pub some_bit : (word : ℕ) → word < 2 ^ 64 → word ≢ 0 → (trailing_zeros w64 word < 64) × (bit_at word (trailing_zeros w64 word) ≡ 1)
-some_bit word small some =
-    let found = bit_at-trailing_zeros w64 word (positive word some) small in
-    (found.0, found.1)
+pub some_bit : (word : ℕ) → word < 2 ^ 64 → word ≢ 0 → (trailing_zeros w64 word < 64) × (bit_at word (trailing_zeros w64 word) ≡ 1) × ((i : ℕ) → i < trailing_zeros w64 word → bit_at word i ≡ 0)
+some_bit word small some = bit_at-trailing_zeros w64 word (positive word some) small
   where
     positive : (n : ℕ) → n ≢ 0 → 0 < n
     positive n some = omega arith

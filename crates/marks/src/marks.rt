@@ -53,6 +53,7 @@ pub fn lowest_bit(word: u64) -> usize
     requires { word ≢ 0 }
     ensures small { result < 64 }
     ensures has { bit_at word result ≡ 1 }
+    ensures lowest { (i : ℕ) → i < result → bit_at word i ≡ 0 }
 {
     word.trailing_zeros() as usize
 }
