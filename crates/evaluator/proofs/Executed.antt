@@ -16,7 +16,7 @@ use Rattle.meaning.specs.Maps.{Map, put}
 use Rattle.meaning.specs.Values.{Scope, dimensions_in, subscripts, value, as_integer, as_logical, integer, and_then}
 use Rattle.meaning.specs.Execution.{Ran, more, Ways, onward, at_label, turn, with_ok, failed, added, assigned, unless_defined, simple, step, condition_of, truth_of, holds, turn_if, tested}
 use Rattle.meaning.proofs.Running.{more-none}
-use Rattle.landmarks.specs.Quiet.{output_in, writes}
+use Rattle.landmarks.specs.Quiet.{is_writing, output_in, writes}
 use Rattle.numbering.specs.Checked.{items_in}
 use Rattle.postfix.specs.declared.code.Code.{Code}
 use Rattle.programs.specs.declared.action.ListCodes.{ListCodes}
@@ -238,6 +238,11 @@ module _ (all : List ItemTree) (e : ExprTree) (s : ShapeTree) (line : ℕ) (m : 
 pub unless_logical : (all : List ItemTree) (s : ShapeTree) (line : ℕ) (m : Map) (t : ℕ) → IsTrue (not (is_logical_if s)) → (go : Ways) → step all s line m t go ≡ simple all s line m t go
 unless_logical all (logical_if e s) line m t h go = absurd (false≢true h)
 unless_logical all s line m t h go = refl
+
+-- one that is no logical IF writes where it writes by itself
+pub quiet_alone : (s : ShapeTree) → IsTrue (not (is_logical_if s)) → IsTrue (not (is_writing s)) → IsTrue (not (writes s))
+quiet_alone (logical_if e s) alone quiet = absurd (false≢true alone)
+quiet_alone s alone quiet = quiet
 
 -- a statement by its shape
 pub step_as : (all : List ItemTree) (line : ℕ) (old new : Map) (t u : ℕ) (o : Outcome) (s shape : ShapeTree) → shape ≡ s → Moves (λ go. step all s line old t go) t new u o → Moves (λ go. step all shape line old t go) t new u o

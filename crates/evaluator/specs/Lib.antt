@@ -1,11 +1,12 @@
+pub mod Acting
 pub mod Known
-pub mod Statements
-pub mod Member
 pub mod Limited
-pub mod Quiet
-pub mod Places
-pub mod Slices
 pub mod Listing
+pub mod Member
 pub mod Over
 pub mod Passed
+pub mod Places
+pub mod Quiet
+pub mod Slices
+pub mod Statements
 pub mod Unset

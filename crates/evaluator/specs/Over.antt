@@ -19,7 +19,7 @@ use Rattle.meaning.specs.Trees.{Members, Arms, item_tree, members_tree}
 use Rattle.meaning.specs.Trips.{span_of}
 use Rattle.meaning.specs.Values.{Scope, value}
 use Rattle.numbering.specs.Starts.{map_of}
-use Rattle.values.specs.Programs.{IsCellAt, map_at, scope_in}
+use Rattle.values.specs.Programs.{map_at, scope_in}
 use Rattle.evaluator.specs.declared.limits.Span.{Span}
 use Rattle.evaluator.specs.declared.passed.Passed.{Passed}
 use Rattle.evaluator.specs.Limited.{SpanIs}
@@ -41,11 +41,6 @@ AssignsOver t u v n es e r = Does u v (λ m k. Assigns (scope_in t) n es e (map_
 abbrev pub AssignsAs : Tree → World → World → ShapeTree → Result (Unit {0}) FaultKind → Type 0
 AssignsAs t u v (assignment n es e) r = AssignsOver t u v n es e r
 AssignsAs t u v s r = ⊥
-
--- the subscripts of its target lead to a cell, or have a leftmost fault
-abbrev pub LeadsAs : Tree → ShapeTree → Result ℕ FaultKind → Cells → Type 0
-LeadsAs t (assignment n es e) r m = IsCellAt t n es r m
-LeadsAs t s r m = ⊥
 
 abbrev pub AddsOver : Tree → World → World → List ℕ → ℤ → Result (Unit {0}) FaultKind → Type 0
 AddsOver t u v n by r = Does u v (λ m k. Adds n by (map_at t m) (map_at t k) r)

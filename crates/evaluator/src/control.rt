@@ -6,24 +6,24 @@ ghost use Rattle.meaning.specs.Characters.{number_of};
 ghost use Rattle.meaning.specs.Execution.{at_label, by_count, by_sign, simple, step};
 ghost use Rattle.meaning.specs.Maps.{Map};
 ghost use Rattle.meaning.specs.Stores.{IsLater, Reads};
-ghost use Rattle.meaning.specs.Syntax.{ExprTree, ItemTree, ShapeTree, StopTree, continuing, expr_tree, logical_if, shape_tree, stopping};
+ghost use Rattle.meaning.specs.Syntax.{ExprTree, ItemTree, ShapeTree, StopTree, continuing, logical_if, shape_tree, stopping};
 ghost use Rattle.meaning.specs.Trees.{item_tree};
 ghost use Rattle.numbering.specs.Checked.{items_in, count_in};
 ghost use Rattle.programs.specs.Acts.{Acts, Assigns, Goes, GoesByCount, GoesBySign};
 ghost use Rattle.programs.specs.Asked.{ConditionIs};
 ghost use Rattle.programs.specs.Codes.{IsCode};
 ghost use Rattle.programs.specs.Programs.{IsStatement};
+ghost use Rattle.evaluator.specs.Acting.{IsOfStatement, IsSmall};
 ghost use Rattle.evaluator.specs.Over.{ConditionAt, MovesOver, StaysAt, TestsAt};
 ghost use Rattle.evaluator.specs.Places.{next_of};
 ghost use Rattle.landmarks.specs.Quiet.{is_writing, writes};
 ghost use Rattle.evaluator.specs.Statements.{Moves, Spends, TakesTurn};
 
 use crate::assignment::assign;
-use crate::shapes::logical_if_of;
 use array_store::Store;
 use expressions::{as_integer, as_logical};
 use meaning::ending::{Fault, FaultKind, Outcome};
-use meaning::syntax::{Expr, Item, Shape};
+use meaning::syntax::Item;
 use postfix::Code;
 use programs::{Action, Program, Target};
 use std::alloc::AllocError;
@@ -46,16 +46,16 @@ pub fn take_turn(turns: &mut u64) -> bool
 fn run_assignment<S: Store>(
     program: &Program,
     line: u32,
-    shape: &Shape,
     place: &Target,
     code: &Code,
     store: &mut S,
     turns: &mut u64,
 ) -> Result<Outcome, AllocError>
-    requires assigns { Assigns program.now place.now code.now (shape_tree shape.now) }
+    requires small { IsSmall program.now place.now }
     requires sized { (S.world store.old).cells ≡ count_in program.now }
-    ensures does { IfOk result (MovesOver program.now (S.world store.old) (S.world store.new)
-        (simple (items_in program.now) (shape_tree shape.now) line) turns.old turns.new) }
+    ensures does { (s : ShapeTree) → Assigns program.now place.now code.now s →
+        IfOk result (MovesOver program.now (S.world store.old) (S.world store.new)
+        (simple (items_in program.now) s line) turns.old turns.new) }
     ensures spends { IfOk result (λ o. Spends o turns.old turns.new) }
     ensures sure { IsTrue (S.world store.old).sure → IsOk result }
     ensures later { IsLater (S.world store.old) (S.world store.new) }
@@ -66,7 +66,7 @@ fn run_assignment<S: Store>(
             line,
         }));
     }
-    match assign(program, shape, place, code, store)? {
+    match assign(program, place, code, store)? {
         Ok(()) => Ok(Outcome::Normal),
         Err(kind) => Ok(Outcome::Fault(Fault { kind, line })),
     }
@@ -138,18 +138,17 @@ fn counted_target(labels: &[u32], value: i32) -> Option<u32>
 fn run_computed_go_to<S: Store>(
     program: &Program,
     line: u32,
-    shape: &Shape,
     labels: &[u32],
     code: &Code,
     store: &mut S,
     turns: &mut u64,
 ) -> Outcome
-    requires goes { GoesByCount program.now labels.now code.now (shape_tree shape.now) }
     requires sized { (S.world store.old).cells ≡ count_in program.now }
-    ensures reads { Reads (S.world store.old) (S.world store.new)
-        (StaysAt program.now (simple (items_in program.now) (shape_tree shape.now) line)
-        turns.old turns.new result) }
+    ensures reads { (s : ShapeTree) → GoesByCount program.now labels.now code.now s →
+        Reads (S.world store.old) (S.world store.new)
+        (StaysAt program.now (simple (items_in program.now) s line) turns.old turns.new result) }
     ensures spends { Spends result turns.old turns.new }
+    ensures later { IsLater (S.world store.old) (S.world store.new) }
     ensures cells { (S.world store.new).cells ≡ (S.world store.old).cells }
 {
     if !take_turn(turns) {
@@ -185,7 +184,6 @@ fn signed_target(value: i32, negative: u32, zero: u32, positive: u32) -> u32
 fn run_arithmetic_if<S: Store>(
     program: &Program,
     line: u32,
-    shape: &Shape,
     code: &Code,
     negative: u32,
     zero: u32,
@@ -193,12 +191,12 @@ fn run_arithmetic_if<S: Store>(
     store: &mut S,
     turns: &mut u64,
 ) -> Outcome
-    requires goes { GoesBySign program.now code.now negative zero positive (shape_tree shape.now) }
     requires sized { (S.world store.old).cells ≡ count_in program.now }
-    ensures reads { Reads (S.world store.old) (S.world store.new)
-        (StaysAt program.now (simple (items_in program.now) (shape_tree shape.now) line)
-        turns.old turns.new result) }
+    ensures reads { (s : ShapeTree) → GoesBySign program.now code.now negative zero positive s →
+        Reads (S.world store.old) (S.world store.new)
+        (StaysAt program.now (simple (items_in program.now) s line) turns.old turns.new result) }
     ensures spends { Spends result turns.old turns.new }
+    ensures later { IsLater (S.world store.old) (S.world store.new) }
     ensures cells { (S.world store.new).cells ≡ (S.world store.old).cells }
 {
     if !take_turn(turns) {
@@ -218,31 +216,28 @@ fn run_arithmetic_if<S: Store>(
 fn run_simple<S: Store>(
     program: &Program,
     line: u32,
-    shape: &Shape,
     action: &Action,
     store: &mut S,
     turns: &mut u64,
 ) -> Result<Outcome, AllocError>
-    requires acts { Acts program.now action.now (shape_tree shape.now) }
-    requires quiet { IsTrue (not (writes (shape_tree shape.now))) }
+    requires known { IsOfStatement program.now action.now }
     requires sized { (S.world store.old).cells ≡ count_in program.now }
-    ensures does { IfOk result (MovesOver program.now (S.world store.old) (S.world store.new)
-        (simple (items_in program.now) (shape_tree shape.now) line) turns.old turns.new) }
+    ensures does { (s : ShapeTree) → Acts program.now action.now s → IsTrue (not (writes s)) →
+        IfOk result (MovesOver program.now (S.world store.old) (S.world store.new)
+        (simple (items_in program.now) s line) turns.old turns.new) }
     ensures spends { IfOk result (λ o. Spends o turns.old turns.new) }
     ensures sure { IsTrue (S.world store.old).sure → IsOk result }
     ensures later { IsLater (S.world store.old) (S.world store.new) }
 {
     match action {
-        Action::Assign(place, code) => {
-            run_assignment(program, line, shape, place, code, store, turns)
-        }
+        Action::Assign(place, code) => run_assignment(program, line, place, code, store, turns),
         Action::Continue => Ok(run_continue(line, turns)),
         Action::GoTo(label) => Ok(run_go_to(line, *label, turns)),
         Action::ComputedGoTo(labels, code) => Ok(run_computed_go_to(
-            program, line, shape, labels, code, store, turns,
+            program, line, labels, code, store, turns,
         )),
         Action::ArithmeticIf(code, negative, zero, positive) => Ok(run_arithmetic_if(
-            program, line, shape, code, *negative, *zero, *positive, store, turns,
+            program, line, code, *negative, *zero, *positive, store, turns,
         )),
         Action::Stop(_) => Ok(run_stop(line, turns)),
         Action::Pass => Ok(Outcome::Normal),
@@ -259,21 +254,17 @@ fn run_simple<S: Store>(
 fn run_if<S: Store>(
     program: &Program,
     line: u32,
-    condition: &Expr,
-    statement: &Shape,
     code: &Code,
     action: &Action,
     store: &mut S,
     turns: &mut u64,
 ) -> Result<Outcome, AllocError>
-    requires code { IsCode program.now (expr_tree condition.now) code.now }
-    requires acts { Acts program.now action.now (shape_tree statement.now) }
-    requires quiet { IsTrue (not (writes (shape_tree statement.now))) }
+    requires known { IsOfStatement program.now action.now }
     requires sized { (S.world store.old).cells ≡ count_in program.now }
-    ensures does { IfOk result (MovesOver program.now (S.world store.old) (S.world store.new)
-        (step (items_in program.now)
-        (logical_if (expr_tree condition.now) (shape_tree statement.now)) line)
-        turns.old turns.new) }
+    ensures does { (e : ExprTree) (s : ShapeTree) → IsCode program.now e code.now →
+        Acts program.now action.now s → IsTrue (not (writes s)) →
+        IfOk result (MovesOver program.now (S.world store.old) (S.world store.new)
+        (step (items_in program.now) (logical_if e s) line) turns.old turns.new) }
     ensures spends { IfOk result (λ o. Spends o turns.old turns.new) }
     ensures sure { IsTrue (S.world store.old).sure → IsOk result }
     ensures later { IsLater (S.world store.old) (S.world store.new) }
@@ -287,7 +278,7 @@ fn run_if<S: Store>(
     match value(program, code, store) {
         Ok(x) => {
             if as_logical(x) {
-                return run_simple(program, line, statement, action, store, turns);
+                return run_simple(program, line, action, store, turns);
             }
             Ok(Outcome::Normal)
         }
@@ -299,30 +290,23 @@ fn run_if<S: Store>(
 #[inline(always)]
 fn run_action<S: Store>(
     program: &Program,
-    item: &Item,
+    line: u32,
     action: &Action,
     store: &mut S,
     turns: &mut u64,
 ) -> Result<Outcome, AllocError>
-    requires acts { Acts program.now action.now (shape_tree item.now.form.shape.value) }
-    requires quiet { IsTrue (not (is_writing (shape_tree item.now.form.shape.value))) }
+    requires known { IsOfStatement program.now action.now }
     requires sized { (S.world store.old).cells ≡ count_in program.now }
-    ensures does { IfOk result (MovesOver program.now (S.world store.old) (S.world store.new)
-        (step (items_in program.now) (shape_tree item.now.form.shape.value) item.now.line)
-        turns.old turns.new) }
+    ensures does { (s : ShapeTree) → Acts program.now action.now s → IsTrue (not (is_writing s)) →
+        IfOk result (MovesOver program.now (S.world store.old) (S.world store.new)
+        (step (items_in program.now) s line) turns.old turns.new) }
     ensures spends { IfOk result (λ o. Spends o turns.old turns.new) }
     ensures sure { IsTrue (S.world store.old).sure → IsOk result }
     ensures later { IsLater (S.world store.old) (S.world store.new) }
 {
-    let line = item.line;
-    match logical_if_of(item) {
-        Some((condition, statement)) => match action.conditional() {
-            Some((code, under)) => run_if(
-                program, line, condition, statement, code, under, store, turns,
-            ),
-            None => Ok(Outcome::Normal),
-        },
-        None => run_simple(program, line, &*item.form.shape, action, store, turns),
+    match action.conditional() {
+        Some((code, under)) => run_if(program, line, code, under, store, turns),
+        None => run_simple(program, line, action, store, turns),
     }
 }
 
@@ -346,7 +330,7 @@ pub fn run_item<S: Store>(
     ensures later { IsLater (S.world store.old) (S.world store.new) }
 {
     match program.action(item.line) {
-        Some(action) => run_action(program, item, action, store, turns),
+        Some(action) => run_action(program, item.line, action, store, turns),
         None => Ok(Outcome::Normal),
     }
 }

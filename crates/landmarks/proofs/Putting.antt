@@ -1,7 +1,6 @@
 -- Places and lines that are put one behind the other.
-use Rattle.std.proofs.Common.{◌≡◌, ℕ, ◌+◌, Bool, true, false, ◌||◌, List, Option, Some, None, Result, Ok, Err, OnOk, refl, sym, ap, ◌∙◌}
-use Rattle.std.specs.Prelude.{if◌then◌else◌, ◌==◌, ◌&&◌, not}
-use Rattle.std.specs.BTreeMap.{BTreeMap}
+use Rattle.std.proofs.Common.{◌≡◌, ℕ, zero, suc, [], ◌∷◌, ◌++◌, ◌+◌, Bool, true, false, ◌||◌, List, Option, Some, None, Result, Ok, Err, OnOk, refl, sym, ap, ◌∙◌}
+use Rattle.std.specs.Prelude.{if◌then◌else◌, ◌==◌, ◌&&◌, not, replicate, slice_get}
 use Rattle.std.specs.BTreeSet.{BTreeSet, contains}
 use Rattle.std.specs.Option.{option_or}
 use Rattle.std.specs.Ordering.{nat_cmp}
@@ -16,7 +15,7 @@ use Rattle.meaning.proofs.Ranges.{member_before-loop, member_before-block}
 use Rattle.landmarks.specs.Quiet.{is_quiet}
 use Rattle.landmarks.specs.Loud.{is_loud, is_loud_in_arms}
 use Rattle.landmarks.specs.Places.{place_from, place_in_arms}
-use Rattle.landmarks.specs.Puts.{Puts, PutsLines, member_loud, member_places, place_at, place_if}
+use Rattle.landmarks.specs.Puts.{Puts, PutsLines, member_loud, member_places, place_at, place_if, nowhere, told}
 
 pub on_ok_then : {X E : Type 0} (P Q : Type 0) (r : Result X E) → OnOk r P → (P → Q) → OnOk r Q
 on_ok_then P Q (Ok x) p f = f p
@@ -38,7 +37,18 @@ first_or false x o = refl
 
 -- ---- places
 
-pub loop_places : (old one two : BTreeMap ℕ ℕ) (i : ℕ) (x : Member) (l : LoopOf) (ms : List Member) → x ≡ Loop l → ms ≡ (out-Loop l).range.items → Puts (place_if (out-Loop l).head.label i) old one → Puts (λ s. place_from s 0 (members_tree ms)) one two → Puts (member_places x i) old two
+none_there : (n s : ℕ) → told (slice_get (replicate n nowhere) s) ≡ None
+none_there zero s = refl
+none_there (suc n) zero = refl
+none_there (suc n) (suc s) = none_there n s
+
+-- more labels that lead nowhere
+pub grown : (places : List ℕ) (n s : ℕ) → place_at (places ++ replicate n nowhere) s ≡ place_at places s
+grown [] n s = none_there n s
+grown (p ∷ ps) n zero = refl
+grown (p ∷ ps) n (suc s) = grown ps n s
+
+pub loop_places : (old one two : List ℕ) (i : ℕ) (x : Member) (l : LoopOf) (ms : List Member) → x ≡ Loop l → ms ≡ (out-Loop l).range.items → Puts (place_if (out-Loop l).head.label i) old one → Puts (λ s. place_from s 0 (members_tree ms)) one two → Puts (member_places x i) old two
 loop_places old one two i x l ms is same first behind = λ s.
     let b = has_label s (item_tree (out-Loop l).head) in
     let r = place_from s 0 (members_tree (out-Loop l).range.items) in
@@ -49,7 +59,7 @@ loop_places old one two i x l ms is same first behind = λ s.
     ∙ ap (λ m. option_or (place_at old s) (place_from s i m)) (sym (member_before-loop l none))
     ∙ ap (λ y. option_or (place_at old s) (place_from s i (member_before y none))) (sym is)
 
-pub block_places : (old one two three : BTreeMap ℕ ℕ) (i : ℕ) (x : Member) (b : _) (label : Option ℕ) (firsts arms : List Arm) → x ≡ Block b → firsts ≡ (out-Block b).arms.items → arms ≡ (out-Block b).arms.items → ((s : ℕ) → is_label_at label s ≡ heads s (arms_tree firsts)) → Puts (place_if label i) old one → Puts (λ s. place_in_arms s (arms_tree arms)) one two → Puts (place_if (out-Block b).end.label (i + 1)) two three → Puts (member_places x i) old three
+pub block_places : (old one two three : List ℕ) (i : ℕ) (x : Member) (b : _) (label : Option ℕ) (firsts arms : List Arm) → x ≡ Block b → firsts ≡ (out-Block b).arms.items → arms ≡ (out-Block b).arms.items → ((s : ℕ) → is_label_at label s ≡ heads s (arms_tree firsts)) → Puts (place_if label i) old one → Puts (λ s. place_in_arms s (arms_tree arms)) one two → Puts (place_if (out-Block b).end.label (i + 1)) two three → Puts (member_places x i) old three
 block_places old one two three i x b label firsts arms is firsts_are arms_are headed first inside last = λ s.
     let h = heads s (arms_tree (out-Block b).arms.items) in
     let a = place_in_arms s (arms_tree (out-Block b).arms.items) in

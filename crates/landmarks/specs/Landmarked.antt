@@ -9,5 +9,5 @@ use Rattle.landmarks.specs.Places.{place_from}
 use Rattle.landmarks.specs.Puts.{place_at}
 
 pub record AreLandmarks (ms : Members) (m : Landmarks) : Type 0 where
-  pub places : (s : ℕ) → place_at m.places s ≡ place_from s 0 ms
+  pub places : (s : ℕ) → place_at m.places.items s ≡ place_from s 0 ms
   pub loud : (line : ℕ) → contains nat_cmp m.loud line ≡ is_loud line ms

@@ -1,6 +1,5 @@
 -- What tables of labels and of lines have once more is put into them.
-use Rattle.std.specs.Prelude.{◌≡◌, ℕ, Bool, ◌||◌, if◌then◌else◌, Option, Some, None}
-use Rattle.std.specs.BTreeMap.{BTreeMap, get}
+use Rattle.std.specs.Prelude.{◌≡◌, ◌==◌, ℕ, Bool, ◌||◌, List, if◌then◌else◌, Option, Some, None, slice_get}
 use Rattle.std.specs.BTreeSet.{BTreeSet, contains}
 use Rattle.std.specs.Option.{option_or}
 use Rattle.std.specs.Ordering.{nat_cmp}
@@ -10,12 +9,20 @@ use Rattle.meaning.specs.Trees.{none, member_before}
 use Rattle.landmarks.specs.Loud.{is_loud}
 use Rattle.landmarks.specs.Places.{place_from}
 
+-- what stands for no place: no list is so long
+abbrev pub nowhere : ℕ
+nowhere = 18446744073709551615
+
+abbrev pub told : Option ℕ → Option ℕ
+told None = None
+told (Some place) = if place == nowhere then None else Some place
+
 -- where a table says that a label leads
-abbrev pub place_at : BTreeMap ℕ ℕ → ℕ → Option ℕ
-place_at places s = get nat_cmp places s
+abbrev pub place_at : List ℕ → ℕ → Option ℕ
+place_at places s = told (slice_get places s)
 
 -- a table has what it had, and else these
-abbrev pub Puts : (ℕ → Option ℕ) → BTreeMap ℕ ℕ → BTreeMap ℕ ℕ → Type 0
+abbrev pub Puts : (ℕ → Option ℕ) → List ℕ → List ℕ → Type 0
 Puts more old new = (s : ℕ) → place_at new s ≡ option_or (place_at old s) (more s)
 
 -- where the label of a statement leads

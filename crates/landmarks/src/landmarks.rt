@@ -7,15 +7,15 @@ ghost use Rattle.landmarks.specs.Landmarked.{AreLandmarks};
 ghost use Rattle.landmarks.specs.Places.{place_from};
 
 use crate::loud::loud_lines;
-use crate::places::places_of;
+use crate::places::{NOWHERE, places_of};
 use meaning::syntax::Member;
 use std::alloc::{AllocError, Global};
-use std::collections::{BTreeMap, BTreeSet};
+use std::collections::BTreeSet;
 
 /// Where the labels of a list and of those further in lead, and which DO statements have output in their ranges.
 pub struct Landmarks {
-    /// The place of each label in the list that has it.
-    places: BTreeMap<u32, usize>,
+    /// For each label, up to the greatest one, its place in the list that has it.
+    places: Vec<usize>,
     /// The initial lines of the DO statements with a WRITE or PRINT statement in their ranges.
     loud: BTreeSet<u32>,
 }
@@ -49,9 +49,9 @@ impl Landmarks {
     pub fn place(&self, label: u32) -> Option<usize>
         ensures { (ms : Members) → AreLandmarks ms self.now → result ≡ place_from label 0 ms }
     {
-        match self.places.get(&label) {
-            Some(place) => Some(*place),
-            None => None,
+        match self.places.get(label as usize) {
+            Some(place) if *place != NOWHERE => Some(*place),
+            _ => None,
         }
     }
 

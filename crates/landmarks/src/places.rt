@@ -1,6 +1,6 @@
 //! Where in their lists statements with labels stand (ANSI X3.9-1978, 3.4 and 11.1 to 11.9).
 
-ghost use Rattle.std.specs.Prelude.{◌≡◌, ◌<◌, ◌-◌, ◌^◌, ℕ, IfOk, OnOk};
+ghost use Rattle.std.specs.Prelude.{◌≡◌, ◌<◌, ◌-◌, ◌^◌, ℕ, IfOk, OnOk, length};
 ghost use Rattle.meaning.specs.Execution.{heads};
 ghost use Rattle.meaning.specs.LabelRules.{is_label_at};
 ghost use Rattle.meaning.specs.Trees.{arms_tree, members_tree};
@@ -9,20 +9,33 @@ ghost use Rattle.landmarks.specs.Puts.{Puts, member_places, place_at, place_if};
 
 use meaning::syntax::{Arm, Member};
 use std::alloc::{AllocError, Global};
-use std::collections::BTreeMap;
+
+// No statement has this label, or none yet. No list is so long.
+pub(crate) const NOWHERE: usize = 0xffff_ffff_ffff_ffff;
+
+// Sees that there is a place for a label.
+fn grow_to(places: &mut Vec<usize>, label: usize) -> Result<(), AllocError>
+    requires { label < 2 ^ 32 }
+    ensures same { (s : ℕ) → place_at places.new.items s ≡ place_at places.old.items s }
+    ensures long { OnOk result (label < length places.new.items) }
+{
+    if places.len() <= label {
+        places.resize(label + 1, NOWHERE)?;
+    }
+    Ok(())
+}
 
 // Puts the place of a statement with a label to others, unless one is kept for the label.
-fn put(
-    places: &mut BTreeMap<u32, usize>,
-    label: Option<u32>,
-    place: usize,
-) -> Result<(), AllocError>
-    ensures { OnOk result (Puts (place_if label place) places.old places.new) }
+fn put(places: &mut Vec<usize>, label: Option<u32>, place: usize) -> Result<(), AllocError>
+    requires { place < 2 ^ 64 - 1 }
+    ensures { OnOk result (Puts (place_if label place) places.old.items places.new.items) }
 {
     match label {
         Some(label) => {
-            if !places.contains_key(&label) {
-                places.insert(label, place)?;
+            let at = label as usize;
+            grow_to(places, at)?;
+            if places[at] == NOWHERE {
+                places[at] = place;
             }
             Ok(())
         }
@@ -42,8 +55,8 @@ fn label_of(arms: &[Arm]) -> Option<u32>
 
 // Puts the places in the arms of a block IF.
 #[cycle(places)]
-fn put_arms(places: &mut BTreeMap<u32, usize>, arms: &[Arm]) -> Result<(), AllocError>
-    ensures { OnOk result (Puts (λ s. place_in_arms s (arms_tree arms.now)) places.old places.new) }
+fn put_arms(places: &mut Vec<usize>, arms: &[Arm]) -> Result<(), AllocError>
+    ensures { OnOk result (Puts (λ s. place_in_arms s (arms_tree arms.now)) places.old.items places.new.items) }
 {
     for arm in arms {
         put_list(places, &arm.body)?;
@@ -53,13 +66,9 @@ fn put_arms(places: &mut BTreeMap<u32, usize>, arms: &[Arm]) -> Result<(), Alloc
 
 // Puts the places of a member of a list and those further in.
 #[cycle(places)]
-fn put_member(
-    places: &mut BTreeMap<u32, usize>,
-    member: &Member,
-    place: usize,
-) -> Result<(), AllocError>
-    requires { place < 2 ^ 64 - 1 }
-    ensures { OnOk result (Puts (member_places member.now place) places.old places.new) }
+fn put_member(places: &mut Vec<usize>, member: &Member, place: usize) -> Result<(), AllocError>
+    requires { place < 2 ^ 64 - 2 }
+    ensures { OnOk result (Puts (member_places member.now place) places.old.items places.new.items) }
 {
     match member {
         Member::Plain(item) => put(places, item.label, place),
@@ -77,9 +86,9 @@ fn put_member(
 
 // Puts the places of a list and of those further in.
 #[cycle(places)]
-fn put_list(places: &mut BTreeMap<u32, usize>, members: &[Member]) -> Result<(), AllocError>
+fn put_list(places: &mut Vec<usize>, members: &[Member]) -> Result<(), AllocError>
     ensures { OnOk result (Puts (λ s. place_from s 0 (members_tree members.now))
-        places.old places.new) }
+        places.old.items places.new.items) }
 {
     for place in 0..members.len() {
         put_member(places, &members[place], place)?;
@@ -87,16 +96,13 @@ fn put_list(places: &mut BTreeMap<u32, usize>, members: &[Member]) -> Result<(),
     Ok(())
 }
 
-/// The place in its list that each label leads to: that of its statement, or, of END IF, that behind the block IF. Of the statements
+/// For each label, up to the greatest one, the place in its list that it leads to, and `NOWHERE` for those that no statement has: that of its statement, or, of END IF, that behind the block IF. Of the statements
 /// with one label the first counts. The `AllocError` comes where a growth was refused.
-pub(crate) fn places_of(
-    alloc: Global,
-    members: &[Member],
-) -> Result<BTreeMap<u32, usize>, AllocError>
+pub(crate) fn places_of(alloc: Global, members: &[Member]) -> Result<Vec<usize>, AllocError>
     ensures { IfOk result (λ places. (s : ℕ) →
-        place_at places s ≡ place_from s 0 (members_tree members.now)) }
+        place_at places.items s ≡ place_from s 0 (members_tree members.now)) }
 {
-    let mut places = BTreeMap::new(alloc);
+    let mut places = Vec::new(alloc);
     put_list(&mut places, members)?;
     Ok(places)
 }

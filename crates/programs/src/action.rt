@@ -111,6 +111,7 @@ pub enum Action {
 
 impl Action {
     /// The condition of a logical IF, and what its statement needs.
+    #[inline(always)]
     pub fn conditional(&self) -> Option<(&Code, &Action)>
         ensures { (t : Tree) (s : ShapeTree) → Acts t self.now s → ConditionalIs t s result }
     {

@@ -5,7 +5,7 @@ use Rattle.meaning.specs.declared.ending.FaultKind.TheVariants.{F4}
 use Rattle.meaning.specs.declared.ending.Outcome.TheVariants as outcomes
 use Rattle.meaning.specs.declared.ending.Value.{Value}
 use Rattle.meaning.specs.Execution.{Next, by_sign}
-use Rattle.meaning.specs.Syntax.{arithmetic_if, shape_tree}
+use Rattle.meaning.specs.Syntax.{arithmetic_if}
 use Rattle.meaning.specs.Values.{as_integer}
 use Rattle.meaning.proofs.Stores.{reads_nothing, reads_so}
 use Rattle.numbering.specs.Checked.{items_in}
@@ -15,32 +15,29 @@ use Rattle.evaluator.proofs.Picked.{pick_unexecuted, pick_fails, pick_goes}
 use Rattle.evaluator.proofs.control.run_arithmetic_if.Goals as goal
 
 pub returns-then-not-take_turn-clause-reads : goal.returns-then-not-take_turn-clause-reads
-returns-then-not-take_turn-clause-reads g c =
+returns-then-not-take_turn-clause-reads g c = λ s x.
     let p = c.args.program.now in
-    let x = c.requires.goes in
     let line = c.args.line in
     let t = c.args.turns.now in
     let u = c.take_turn.new.turns in
     let pick : Value → Next = λ v. by_sign x.below x.at_zero x.above (as_integer v) in
-    reads_nothing _ _ (λ m. simple_as (items_in p) line (map_at p m) (map_at p m) t u (fault_at F4 line) (arithmetic_if x.value x.below x.at_zero x.above) (shape_tree c.args.shape.now) x.is (pick_unexecuted (scope_in p) x.value pick line (map_at p m) t u c.if-not-take_turn.ensures.0 c.if-not-take_turn.ensures.1))
+    reads_nothing _ _ (λ m. simple_as (items_in p) line (map_at p m) (map_at p m) t u (fault_at F4 line) (arithmetic_if x.value x.below x.at_zero x.above) s x.is (pick_unexecuted (scope_in p) x.value pick line (map_at p m) t u c.if-not-take_turn.ensures.0 c.if-not-take_turn.ensures.1))
 
 pub returns-in-Ok-clause-reads : goal.returns-in-Ok-clause-reads
-returns-in-Ok-clause-reads g c =
+returns-in-Ok-clause-reads g c = λ s x.
     let p = c.args.program.now in
-    let x = c.requires.goes in
     let line = c.args.line in
     let t = c.args.turns.now in
     let u = c.take_turn.new.turns in
     let pick : Value → Next = λ v. by_sign x.below x.at_zero x.above (as_integer v) in
     let same = c.signed_target.ensures x.below x.at_zero x.above x.negative_is x.zero_is x.positive_is ∙ ap (by_sign x.below x.at_zero x.above) (to_z-of_z w32 c.as_integer.result (record { sfits = c.as_integer.type_inv }) ∙ c.as_integer.ensures) in
-    reads_so _ _ _ _ (c.in-Ok.ensures.reads x.value x.code) (λ m h. simple_as (items_in p) line (map_at p m) (map_at p m) t u (outcomes.Left c.signed_target.result) (arithmetic_if x.value x.below x.at_zero x.above) (shape_tree c.args.shape.now) x.is (pick_goes (scope_in p) x.value pick line (map_at p m) t u c.if-not-take_turn.ensures c.in-Ok.x _ h same))
+    reads_so _ _ _ _ (c.in-Ok.ensures.reads x.value x.code) (λ m h. simple_as (items_in p) line (map_at p m) (map_at p m) t u (outcomes.Left c.signed_target.result) (arithmetic_if x.value x.below x.at_zero x.above) s x.is (pick_goes (scope_in p) x.value pick line (map_at p m) t u c.if-not-take_turn.ensures c.in-Ok.x _ h same))
 
 pub returns-in-Err-clause-reads : goal.returns-in-Err-clause-reads
-returns-in-Err-clause-reads g c =
+returns-in-Err-clause-reads g c = λ s x.
     let p = c.args.program.now in
-    let x = c.requires.goes in
     let line = c.args.line in
     let t = c.args.turns.now in
     let u = c.take_turn.new.turns in
     let pick : Value → Next = λ v. by_sign x.below x.at_zero x.above (as_integer v) in
-    reads_so _ _ _ _ (c.in-Err.ensures.reads x.value x.code) (λ m h. simple_as (items_in p) line (map_at p m) (map_at p m) t u (fault_at c.in-Err.kind line) (arithmetic_if x.value x.below x.at_zero x.above) (shape_tree c.args.shape.now) x.is (pick_fails (scope_in p) x.value pick line (map_at p m) t u c.if-not-take_turn.ensures c.in-Err.kind h))
+    reads_so _ _ _ _ (c.in-Err.ensures.reads x.value x.code) (λ m h. simple_as (items_in p) line (map_at p m) (map_at p m) t u (fault_at c.in-Err.kind line) (arithmetic_if x.value x.below x.at_zero x.above) s x.is (pick_fails (scope_in p) x.value pick line (map_at p m) t u c.if-not-take_turn.ensures c.in-Err.kind h))
