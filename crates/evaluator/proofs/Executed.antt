@@ -13,7 +13,7 @@ use Rattle.meaning.specs.Characters.{number_of}
 use Rattle.meaning.specs.Scopes.{Definition, defined_by, scope_of}
 use Rattle.meaning.specs.Syntax.{ExprTree, ExprsTree, FormatTree, ListItemsTree, ShapeTree, StopTree, ItemTree, assignment, writing, printing, doing, continuing, going, computed_going, arithmetic_if, logical_if, block_if, else_if, stopping, doing_while, end_do}
 use Rattle.meaning.specs.Maps.{Map, put}
-use Rattle.meaning.specs.Values.{Scope, dimensions_in, subscripts, value, as_integer, as_logical, integer, and_then}
+use Rattle.meaning.specs.Values.{Scope, value, as_integer, as_logical, integer}
 use Rattle.meaning.specs.Execution.{Ran, more, Ways, onward, at_label, turn, with_ok, failed, added, assigned, unless_defined, simple, step, condition_of, truth_of, holds, turn_if, tested}
 use Rattle.meaning.proofs.Running.{more-none}
 use Rattle.landmarks.specs.Quiet.{is_writing, output_in, writes}
@@ -26,8 +26,7 @@ use Rattle.programs.specs.Acts as acts
 use Rattle.programs.specs.Asked.{is_logical_if}
 use Rattle.programs.specs.Items.{AreItemsOf}
 use Rattle.evaluator.specs.Over.{condition_tested}
-use Rattle.evaluator.specs.Statements.{Puts, Sums, target_and_value, Leaves, Passes, Moves, Tests}
-use Rattle.evaluator.proofs.Composed.{moves_behind, moves_same}
+use Rattle.evaluator.specs.Statements.{Sums, Leaves, Passes, Moves, Tests}
 
 abbrev pub fault_at : FaultKind → ℕ → Outcome
 fault_at k line = outcomes.Fault (record { kind = k; line = line })
@@ -60,49 +59,6 @@ module _ (line : ℕ) (m : Map) where
   unfolding with_ok
   turn_fails t u r k does e h =
       subst (λ s. Leaves s t m u (fault_at k line)) (sym (turn_some t u (λ n. with_ok r line m (λ y. does y n)) e ∙ ap (λ s. more [] 1 (with_ok s line m (λ y. does y u))) h)) (failed-behind t u k e)
-
--- ---- an assignment
-
-with_ok-parts : {A B : Type 0} (r : Result A FaultKind) (q : Result B FaultKind) (line : ℕ) (m : Map) (go : A → B → Ran) → with_ok r line m (λ x. with_ok q line m (λ y. go x y)) ≡ with_ok {A = A × B} (and_then r (λ x. and_then q (λ y. Ok (x, y)))) line m (λ p. go p.0 p.1)
-unfolding with_ok and_then
-with_ok-parts (Ok x) (Ok y) line m go = refl
-with_ok-parts (Ok x) (Err k) line m go = refl
-with_ok-parts (Err k) q line m go = refl
-
-module _ (scope : Scope) (n : List ℕ) (es : ExprsTree) (e : ExprTree) (line t : ℕ) (m : Map) where
-  abbrev parts : Result (List ℤ × Value) FaultKind
-  parts = target_and_value scope n es e m
-
-  abbrev puts_them : Ways → List ℤ × Value → ℕ → Ran
-  puts_them go p u = go onward (put m n p.0 (as_integer p.1)) u
-
-  abbrev pub assignment_does : Ways → Ran
-  assignment_does go = assigned scope n es e line m t (go onward)
-
-  assigns : (go : Ways) → assignment_does go ≡ turn line m t (λ u. with_ok parts line m (λ p. puts_them go p u))
-  assigns go = λ i. turn line m t (λ u. with_ok-parts (subscripts scope (dimensions_in (scope.arrays n)) es m) (value scope e m) line m (λ ss v. go onward (put m n ss (as_integer v)) u) i)
-
-  moved : (new : Map) (u : ℕ) → t ≡ suc u → Puts scope n es e m new → (go : Ways) → assignment_does go ≡ more [] 1 (go onward new u)
-  moved new u taken puts go =
-      assigns go ∙ turn_goes line m t u parts puts.given (λ p k. puts_them go p k) taken puts.is ∙ ap (λ x. more [] 1 (go onward x u)) (sym puts.after)
-
-  along : (u : ℕ) (o : Outcome) (go : Ways) → Leaves (turn line m t (λ k. with_ok parts line m (λ p. puts_them go p k))) t m u o → Leaves (assignment_does go) t m u o
-  along u o go x = subst (λ r. Leaves r t m u o) (sym (assigns go)) x
-
-  pub unexecuted : (u : ℕ) → t ≡ 0 → u ≡ 0 → Moves assignment_does t m u (fault_at F4 line)
-  unexecuted u none left go = along u (fault_at F4 line) go (turn_none line m t u (λ k. with_ok parts line m (λ p. puts_them go p k)) none left)
-
-  pub assign_moves : (new : Map) (u : ℕ) → t ≡ suc u → Puts scope n es e m new → Moves assignment_does t new u outcomes.Normal
-  assign_moves new u taken puts = record { used = 1; is = moved new u taken puts; turns = one_less t u taken }
-
-  pub assign_faults : (new : Map) (u : ℕ) (k : FaultKind) → t ≡ suc u → (parts ≡ Err k) × (new ≡ m) → Moves assignment_does t new u (fault_at k line)
-  assign_faults new u k taken h go =
-      subst (λ x. Leaves (assignment_does go) t x u (fault_at k line)) (sym h.1) (along u (fault_at k line) go (turn_fails line m t u parts k (λ p i. puts_them go p i) taken h.0))
-
--- one that defines no statement function
-pub assignment_moves : (all : List ItemTree) (n : List ℕ) (es : ExprsTree) (e : ExprTree) (line : ℕ) (old new : Map) (t u : ℕ) (o : Outcome) → defined_by (scope_of all).arrays (assignment n es e) ≡ None → Moves (assignment_does (scope_of all) n es e line t old) t new u o → Moves (λ go. simple all (assignment n es e) line old t go) t new u o
-assignment_moves all n es e line old new t u o none h =
-    moves_same (assignment_does (scope_of all) n es e line t old) (λ go. simple all (assignment n es e) line old t go) t new u o (λ go. ap (λ d. unless_defined d (assigned (scope_of all) n es e line old t (go onward)) (go onward old t)) none) h
 
 -- ---- an addition to a DO variable
 
@@ -226,10 +182,6 @@ module _ (all : List ItemTree) (e : ExprTree) (s : ShapeTree) (line : ℕ) (m : 
       picked : (b : Bool) → b ≡ as_logical v → (go : Ways) → whole go ≡ more [] 1 (if b then simple all s line m u go else go onward m u)
       picked b h go =
           turn_goes line m t u (value (scope_of all) e m) v (λ x n. pick go x n) taken is ∙ ap (λ x. more [] 1 (if x then simple all s line m u go else go onward m u)) (sym h)
-
-      pub if_true : true ≡ as_logical v → (new : Map) (left : ℕ) (o : Outcome) → Moves (λ go. simple all s line m u go) u new left o → Moves whole t new left o
-      if_true h new left o x =
-          moves_behind whole (λ go. simple all s line m u go) t u new left o (record { used = 1; is = picked true h; turns = one_less t u taken }) x
 
       pub if_false : false ≡ as_logical v → Passes whole t onward m u
       if_false h = record { used = 1; is = picked false h; turns = one_less t u taken }

@@ -7,4 +7,5 @@ pub mod Picked
 pub mod Labelled
 pub mod Sliced
 pub mod Looped
+pub mod Parted
 pub mod Parts

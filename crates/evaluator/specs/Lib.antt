@@ -4,6 +4,7 @@ pub mod Limited
 pub mod Listing
 pub mod Member
 pub mod Over
+pub mod Parts
 pub mod Passed
 pub mod Places
 pub mod Quiet

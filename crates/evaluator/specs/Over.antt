@@ -14,7 +14,7 @@ use Rattle.meaning.specs.Lists.{listed, list_limit}
 use Rattle.meaning.specs.Maps.{Map, put}
 use Rattle.meaning.specs.Scopes.{scope_of}
 use Rattle.meaning.specs.Stores.{Cells, World, Does}
-use Rattle.meaning.specs.Syntax.{ExprTree, ExprsTree, ItemTree, LimitsTree, ListItemsTree, ShapeTree, assignment, shape_tree}
+use Rattle.meaning.specs.Syntax.{ExprTree, ItemTree, LimitsTree, ListItemsTree, ShapeTree, shape_tree}
 use Rattle.meaning.specs.Trees.{Members, Arms, item_tree, members_tree}
 use Rattle.meaning.specs.Trips.{span_of}
 use Rattle.meaning.specs.Values.{Scope, value}
@@ -26,21 +26,13 @@ use Rattle.evaluator.specs.Limited.{SpanIs}
 use Rattle.evaluator.specs.Listing.{ListIs}
 use Rattle.evaluator.specs.Passed.{PassesBy}
 use Rattle.evaluator.specs.Quiet.{variable_of}
-use Rattle.evaluator.specs.Statements.{Adds, Assigns, Leaves, Moves, Tests, ran_by}
+use Rattle.evaluator.specs.Statements.{Adds, Leaves, Moves, Tests, ran_by}
 
 -- ---- the parts of a statement
 
 -- the variable has the value, and all else what it had
 abbrev pub SetsOver : Tree → World → World → List ℕ → ℤ → Type 0
 SetsOver t u v n x = Does u v (λ m k. map_at t k ≡ put (map_at t m) n [] x)
-
-abbrev pub AssignsOver : Tree → World → World → List ℕ → ExprsTree → ExprTree → Result (Unit {0}) FaultKind → Type 0
-AssignsOver t u v n es e r = Does u v (λ m k. Assigns (scope_in t) n es e (map_at t m) (map_at t k) r)
-
--- the same of an assignment statement
-abbrev pub AssignsAs : Tree → World → World → ShapeTree → Result (Unit {0}) FaultKind → Type 0
-AssignsAs t u v (assignment n es e) r = AssignsOver t u v n es e r
-AssignsAs t u v s r = ⊥
 
 abbrev pub AddsOver : Tree → World → World → List ℕ → ℤ → Result (Unit {0}) FaultKind → Type 0
 AddsOver t u v n by r = Does u v (λ m k. Adds n by (map_at t m) (map_at t k) r)

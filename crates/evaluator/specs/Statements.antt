@@ -6,9 +6,8 @@ use Rattle.meaning.specs.declared.ending.Outcome.{Outcome}
 use Rattle.meaning.specs.declared.ending.Outcome.TheVariants as outcomes
 use Rattle.meaning.specs.declared.ending.Run.{Run}
 use Rattle.meaning.specs.declared.ending.Value.{Value}
-use Rattle.meaning.specs.Syntax.{ExprTree, ExprsTree}
 use Rattle.meaning.specs.Maps.{Map, put}
-use Rattle.meaning.specs.Values.{Scope, dimensions_in, value, subscripts, as_integer, integer, ◌>>=◌}
+use Rattle.meaning.specs.Values.{as_integer, integer}
 use Rattle.meaning.specs.Execution.{Outcome as Ended, normal, jump, stopped, fault, Ran, more, Next, onward, at_label, Follow, Ways}
 
 abbrev pub outcome_of : Outcome → Ended
@@ -81,22 +80,6 @@ Tests does given m left (Ok picked) = Picks does given picked left
 Tests does given m left (Err f) = (go : Bool → ℕ → Ran) → Leaves (does go) given m left (outcomes.Fault f)
 
 -- ---- the parts of a statement
-
--- the subscripts of a target and the value that it gets, or the leftmost fault
-abbrev pub target_and_value : Scope → List ℕ → ExprsTree → ExprTree → Map → Result (List ℤ × Value) FaultKind
-target_and_value s target es e m =
-    subscripts s (dimensions_in (s.arrays target)) es m >>= λ ss. value s e m >>= λ v. Ok (ss, v)
-
--- the element or the variable has the expression's value, and all else what it had
-pub record Puts (s : Scope) (target : List ℕ) (es : ExprsTree) (e : ExprTree) (old new : Map) : Type 0 where
-  pub given : List ℤ × Value
-  pub is : target_and_value s target es e old ≡ Ok given
-  pub after : new ≡ put old target given.0 (as_integer given.1)
-
--- an assignment, or the fault of its parts, which leaves the map
-abbrev pub Assigns : Scope → List ℕ → ExprsTree → ExprTree → Map → Map → Result (Unit {0}) FaultKind → Type 0
-Assigns s target es e old new (Ok u) = Puts s target es e old new
-Assigns s target es e old new (Err kind) = (target_and_value s target es e old ≡ Err kind) × (new ≡ old)
 
 -- the DO variable has the sum, and all else what it had
 pub record Sums (variable : List ℕ) (by : ℤ) (old new : Map) : Type 0 where

@@ -1,32 +1,30 @@
 //! Statements that stand by themselves and write nothing (ANSI X3.9-1978, 10.1, 11.1 to 11.5, 11.11 and 11.12), and the
 //! conditions of block IFs (11.6 and 11.7).
 
-ghost use Rattle.std.specs.Prelude.{◌≡◌, ◌<◌, ◌≤◌, ℕ, List, IsOk, IsTrue, IfOk, map, not};
+ghost use Rattle.std.specs.Prelude.{◌≡◌, ◌<◌, ◌≤◌, ℕ, List, IsTrue, IfOk, map, not};
 ghost use Rattle.meaning.specs.Characters.{number_of};
-ghost use Rattle.meaning.specs.Execution.{at_label, by_count, by_sign, simple, step};
+ghost use Rattle.meaning.specs.Execution.{at_label, by_count, by_sign, simple};
 ghost use Rattle.meaning.specs.Maps.{Map};
 ghost use Rattle.meaning.specs.Stores.{IsLater, Reads};
-ghost use Rattle.meaning.specs.Syntax.{ExprTree, ItemTree, ShapeTree, StopTree, continuing, logical_if, shape_tree, stopping};
+ghost use Rattle.meaning.specs.Syntax.{ExprTree, ItemTree, ShapeTree, StopTree, continuing, shape_tree, stopping};
 ghost use Rattle.meaning.specs.Trees.{item_tree};
 ghost use Rattle.numbering.specs.Checked.{items_in, count_in};
-ghost use Rattle.programs.specs.Acts.{Acts, Assigns, Goes, GoesByCount, GoesBySign};
+ghost use Rattle.programs.specs.Acts.{Acts, Goes, GoesByCount, GoesBySign};
 ghost use Rattle.programs.specs.Asked.{ConditionIs};
 ghost use Rattle.programs.specs.Codes.{IsCode};
 ghost use Rattle.programs.specs.Programs.{IsStatement};
-ghost use Rattle.evaluator.specs.Acting.{IsOfStatement, IsSmall};
-ghost use Rattle.evaluator.specs.Over.{ConditionAt, MovesOver, StaysAt, TestsAt};
+ghost use Rattle.evaluator.specs.Over.{ConditionAt, StaysAt, TestsAt};
+ghost use Rattle.evaluator.specs.Parts.{IsBare};
 ghost use Rattle.evaluator.specs.Places.{next_of};
-ghost use Rattle.landmarks.specs.Quiet.{is_writing, writes};
+ghost use Rattle.landmarks.specs.Quiet.{writes};
 ghost use Rattle.evaluator.specs.Statements.{Moves, Spends, TakesTurn};
 
-use crate::assignment::assign;
 use array_store::Store;
 use expressions::{as_integer, as_logical};
 use meaning::ending::{Fault, FaultKind, Outcome};
 use meaning::syntax::Item;
 use postfix::Code;
-use programs::{Action, Program, Target};
-use std::alloc::AllocError;
+use programs::{Action, Program};
 use values::value;
 
 /// Takes one of the turns that are left, if there is one.
@@ -39,37 +37,6 @@ pub fn take_turn(turns: &mut u64) -> bool
     }
     *turns -= 1;
     true
-}
-
-// Executes an assignment.
-#[inline(always)]
-fn run_assignment<S: Store>(
-    program: &Program,
-    line: u32,
-    place: &Target,
-    code: &Code,
-    store: &mut S,
-    turns: &mut u64,
-) -> Result<Outcome, AllocError>
-    requires small { IsSmall program.now place.now }
-    requires sized { (S.world store.old).cells ≡ count_in program.now }
-    ensures does { (s : ShapeTree) → Assigns program.now place.now code.now s →
-        IfOk result (MovesOver program.now (S.world store.old) (S.world store.new)
-        (simple (items_in program.now) s line) turns.old turns.new) }
-    ensures spends { IfOk result (λ o. Spends o turns.old turns.new) }
-    ensures sure { IsTrue (S.world store.old).sure → IsOk result }
-    ensures later { IsLater (S.world store.old) (S.world store.new) }
-{
-    if !take_turn(turns) {
-        return Ok(Outcome::Fault(Fault {
-            kind: FaultKind::F4,
-            line,
-        }));
-    }
-    match assign(program, place, code, store)? {
-        Ok(()) => Ok(Outcome::Normal),
-        Err(kind) => Ok(Outcome::Fault(Fault { kind, line })),
-    }
 }
 
 // Executes a CONTINUE or END DO statement: it takes a turn.
@@ -135,6 +102,7 @@ fn counted_target(labels: &[u32], value: i32) -> Option<u32>
 }
 
 // Executes a computed GO TO statement.
+#[inline(never)]
 fn run_computed_go_to<S: Store>(
     program: &Program,
     line: u32,
@@ -181,6 +149,7 @@ fn signed_target(value: i32, negative: u32, zero: u32, positive: u32) -> u32
 }
 
 // Executes an arithmetic IF statement.
+#[inline(never)]
 fn run_arithmetic_if<S: Store>(
     program: &Program,
     line: u32,
@@ -211,127 +180,41 @@ fn run_arithmetic_if<S: Store>(
     }
 }
 
-// Executes a statement that is neither a logical IF nor WRITE or PRINT, or passes over one that isn't executable.
+/// Executes a statement without an assignment or a logical IF in it, which writes nothing, or passes over one that isn't executable.
 #[inline(always)]
-fn run_simple<S: Store>(
+pub(crate) fn run_bare<S: Store>(
     program: &Program,
     line: u32,
     action: &Action,
     store: &mut S,
     turns: &mut u64,
-) -> Result<Outcome, AllocError>
-    requires known { IsOfStatement program.now action.now }
+) -> Outcome
+    requires bare { IsBare action.now }
     requires sized { (S.world store.old).cells ≡ count_in program.now }
-    ensures does { (s : ShapeTree) → Acts program.now action.now s → IsTrue (not (writes s)) →
-        IfOk result (MovesOver program.now (S.world store.old) (S.world store.new)
-        (simple (items_in program.now) s line) turns.old turns.new) }
-    ensures spends { IfOk result (λ o. Spends o turns.old turns.new) }
-    ensures sure { IsTrue (S.world store.old).sure → IsOk result }
+    ensures reads { (s : ShapeTree) → Acts program.now action.now s → IsTrue (not (writes s)) →
+        Reads (S.world store.old) (S.world store.new)
+        (StaysAt program.now (simple (items_in program.now) s line) turns.old turns.new result) }
+    ensures spends { Spends result turns.old turns.new }
     ensures later { IsLater (S.world store.old) (S.world store.new) }
+    ensures cells { (S.world store.new).cells ≡ (S.world store.old).cells }
 {
     match action {
-        Action::Assign(place, code) => run_assignment(program, line, place, code, store, turns),
-        Action::Continue => Ok(run_continue(line, turns)),
-        Action::GoTo(label) => Ok(run_go_to(line, *label, turns)),
-        Action::ComputedGoTo(labels, code) => Ok(run_computed_go_to(
-            program, line, labels, code, store, turns,
-        )),
-        Action::ArithmeticIf(code, negative, zero, positive) => Ok(run_arithmetic_if(
-            program, line, code, *negative, *zero, *positive, store, turns,
-        )),
-        Action::Stop(_) => Ok(run_stop(line, turns)),
-        Action::Pass => Ok(Outcome::Normal),
-        Action::Output(_) => Ok(Outcome::Normal),
-        Action::If(_, _) => Ok(Outcome::Normal),
-        Action::Test(_) => Ok(Outcome::Normal),
-        Action::Repeat(_) => Ok(Outcome::Normal),
-        Action::While(_) => Ok(Outcome::Normal),
-    }
-}
-
-// Executes a logical IF over a statement that writes nothing.
-#[inline(always)]
-fn run_if<S: Store>(
-    program: &Program,
-    line: u32,
-    code: &Code,
-    action: &Action,
-    store: &mut S,
-    turns: &mut u64,
-) -> Result<Outcome, AllocError>
-    requires known { IsOfStatement program.now action.now }
-    requires sized { (S.world store.old).cells ≡ count_in program.now }
-    ensures does { (e : ExprTree) (s : ShapeTree) → IsCode program.now e code.now →
-        Acts program.now action.now s → IsTrue (not (writes s)) →
-        IfOk result (MovesOver program.now (S.world store.old) (S.world store.new)
-        (step (items_in program.now) (logical_if e s) line) turns.old turns.new) }
-    ensures spends { IfOk result (λ o. Spends o turns.old turns.new) }
-    ensures sure { IsTrue (S.world store.old).sure → IsOk result }
-    ensures later { IsLater (S.world store.old) (S.world store.new) }
-{
-    if !take_turn(turns) {
-        return Ok(Outcome::Fault(Fault {
-            kind: FaultKind::F4,
-            line,
-        }));
-    }
-    match value(program, code, store) {
-        Ok(x) => {
-            if as_logical(x) {
-                return run_simple(program, line, action, store, turns);
-            }
-            Ok(Outcome::Normal)
+        Action::Continue => run_continue(line, turns),
+        Action::GoTo(label) => run_go_to(line, *label, turns),
+        Action::ComputedGoTo(labels, code) => {
+            run_computed_go_to(program, line, labels, code, store, turns)
         }
-        Err(kind) => Ok(Outcome::Fault(Fault { kind, line })),
-    }
-}
-
-// Executes a statement that writes nothing, by what it needs.
-#[inline(always)]
-fn run_action<S: Store>(
-    program: &Program,
-    line: u32,
-    action: &Action,
-    store: &mut S,
-    turns: &mut u64,
-) -> Result<Outcome, AllocError>
-    requires known { IsOfStatement program.now action.now }
-    requires sized { (S.world store.old).cells ≡ count_in program.now }
-    ensures does { (s : ShapeTree) → Acts program.now action.now s → IsTrue (not (is_writing s)) →
-        IfOk result (MovesOver program.now (S.world store.old) (S.world store.new)
-        (step (items_in program.now) s line) turns.old turns.new) }
-    ensures spends { IfOk result (λ o. Spends o turns.old turns.new) }
-    ensures sure { IsTrue (S.world store.old).sure → IsOk result }
-    ensures later { IsLater (S.world store.old) (S.world store.new) }
-{
-    match action.conditional() {
-        Some((code, under)) => run_if(program, line, code, under, store, turns),
-        None => run_simple(program, line, action, store, turns),
-    }
-}
-
-/// Executes one statement that stands by itself and writes nothing, or passes over one that isn't executable. The
-/// `AllocError` comes where the store refused a write.
-#[inline(always)]
-pub fn run_item<S: Store>(
-    program: &Program,
-    item: &Item,
-    store: &mut S,
-    turns: &mut u64,
-) -> Result<Outcome, AllocError>
-    requires known { IsStatement program.now (item_tree item.now) }
-    requires quiet { IsTrue (not (is_writing (shape_tree item.now.form.shape.value))) }
-    requires sized { (S.world store.old).cells ≡ count_in program.now }
-    ensures does { IfOk result (MovesOver program.now (S.world store.old) (S.world store.new)
-        (step (items_in program.now) (shape_tree item.now.form.shape.value) item.now.line)
-        turns.old turns.new) }
-    ensures spends { IfOk result (λ o. Spends o turns.old turns.new) }
-    ensures sure { IsTrue (S.world store.old).sure → IsOk result }
-    ensures later { IsLater (S.world store.old) (S.world store.new) }
-{
-    match program.action(item.line) {
-        Some(action) => run_action(program, item.line, action, store, turns),
-        None => Ok(Outcome::Normal),
+        Action::ArithmeticIf(code, negative, zero, positive) => run_arithmetic_if(
+            program, line, code, *negative, *zero, *positive, store, turns,
+        ),
+        Action::Stop(_) => run_stop(line, turns),
+        Action::Assign(_, _) => Outcome::Normal,
+        Action::Pass => Outcome::Normal,
+        Action::Output(_) => Outcome::Normal,
+        Action::If(_, _) => Outcome::Normal,
+        Action::Test(_) => Outcome::Normal,
+        Action::Repeat(_) => Outcome::Normal,
+        Action::While(_) => Outcome::Normal,
     }
 }
 

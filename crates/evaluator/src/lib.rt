@@ -9,12 +9,14 @@ mod places;
 mod quiet;
 mod shapes;
 mod slices;
+mod statement;
 
-pub use assignment::{add_to, assign, set_variable};
-pub use control::{run_item, take_turn, test_arm, test_condition};
+pub use assignment::{add_to, set_variable};
+pub use control::{take_turn, test_arm, test_condition};
 pub use limits::{Span, count_of, values_of_codes};
 pub use passed::{Passed, behind_range, ended};
 pub use places::place_of;
 pub use quiet::{repeat_in, run_further_trips, run_list, run_loop, run_trips, while_in};
 pub use shapes::{do_of, logical_if_of};
 pub use slices::body_members;
+pub use statement::run_item;

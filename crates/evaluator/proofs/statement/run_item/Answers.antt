@@ -1,7 +1,7 @@
 use Rattle.std.proofs.Common.{refl}
 use Rattle.meaning.specs.Syntax.{shape_tree}
 use Rattle.meaning.specs.Trees.{item_tree}
-use Rattle.evaluator.proofs.control.run_item.Goals as goal
+use Rattle.evaluator.proofs.statement.run_item.Goals as goal
 
 pub run_action-requires-clause-known : goal.run_action-requires-clause-known
 run_action-requires-clause-known g c =
