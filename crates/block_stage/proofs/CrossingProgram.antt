@@ -15,11 +15,15 @@ use Rattle.postfix.specs.contracts.instruction.Change as Change
 use Rattle.postfix.specs.contracts.instruction.Combiner as Combiner
 use Rattle.postfix.specs.contracts.operation.Operation as Operation
 use Rattle.postfix.specs.contracts.code.Code as Code
+use Rattle.postfix.specs.contracts.order.Ending as Ending
+use Rattle.postfix.specs.contracts.order.Order as Order
+use Rattle.postfix.specs.contracts.order.Orders as Orders
 use Rattle.programs.specs.contracts.action.Target as Target
 use Rattle.programs.specs.contracts.action.Repeat as Repeat
 use Rattle.programs.specs.contracts.action.ListCodes as ListCodes
 use Rattle.programs.specs.contracts.action.Action as Action
 use Rattle.programs.specs.contracts.actions.Actions as Actions
+use Rattle.programs.specs.contracts.lists.Lists as Lists
 use Rattle.programs.specs.contracts.program.Parts as Whole
 use Rattle.programs.specs.contracts.program.Program as Program
 use Rattle.programs.proofs.action.ListCode.TheLaws.TheKnot as list_code
@@ -73,8 +77,20 @@ Action_field = search (crosses, action.crosses, Code_field, Target_field, Repeat
 Actions_field : IsSync Actions.the_field.row
 Actions_field = search (crosses, Action_field, sendable) depth 60 fits 20000
 
+Ending_field : IsSync Ending.the_field.row
+Ending_field = search (sendable) depth 60 fits 20000
+
+Order_field : IsSync Order.the_field.row
+Order_field = search (Operation_field, Ending_field, sendable) depth 60 fits 20000
+
+Orders_field : IsSync Orders.the_field.row
+Orders_field = search (crosses, Order_field, sendable) depth 60 fits 20000
+
+Lists_field : IsSync Lists.the_field.row
+Lists_field = search (crosses, Orders_field, sendable) depth 60 fits 20000
+
 Whole_field : IsSync Whole.the_field.row
-Whole_field = search (crosses, Checked_field, Actions_field, Code_field, sendable) depth 60 fits 20000
+Whole_field = search (crosses, Checked_field, Actions_field, Code_field, Lists_field, sendable) depth 60 fits 20000
 
 pub Program_field : IsSync Program.the_field.row
 Program_field = search (Whole_field, sendable) depth 60 fits 20000

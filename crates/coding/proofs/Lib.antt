@@ -2,3 +2,6 @@ pub mod Settings
 pub mod Places
 pub mod Kept
 pub mod Listing
+pub mod Ordered
+pub mod Adding
+pub mod Lowered

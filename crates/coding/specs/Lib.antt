@@ -1,3 +1,4 @@
 pub mod Functions
 pub mod Lists
+pub mod Orders
 pub mod Parts

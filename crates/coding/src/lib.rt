@@ -5,6 +5,8 @@
 mod codes;
 mod functions;
 mod items;
+mod lists;
+mod preparing;
 mod program;
 mod statement;
 mod stopping;

@@ -4,8 +4,9 @@ pub mod Composed
 pub mod Turning
 pub mod Executed
 pub mod Picked
-pub mod Labelled
+pub mod Preparing
 pub mod Sliced
 pub mod Looped
+pub mod Onwards
 pub mod Parted
 pub mod Parts

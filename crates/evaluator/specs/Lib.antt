@@ -3,10 +3,12 @@ pub mod Known
 pub mod Limited
 pub mod Listing
 pub mod Member
+pub mod Onward
 pub mod Over
 pub mod Parts
 pub mod Passed
 pub mod Places
+pub mod Prepared
 pub mod Quiet
 pub mod Slices
 pub mod Statements

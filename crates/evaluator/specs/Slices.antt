@@ -3,6 +3,7 @@ use Rattle.std.specs.Prelude.{◌≡◌, ℕ, Option, Some}
 use Rattle.meaning.specs.declared.syntax.Tree.{Tree}
 use Rattle.meaning.specs.Trees.{Members}
 use Rattle.landmarks.specs.Kept.{AreKept}
+use Rattle.landmarks.specs.Lists.{IsListIn}
 use Rattle.landmarks.specs.Loud.{is_loud_in}
 use Rattle.landmarks.specs.Places.{own_place, place_in}
 
@@ -13,7 +14,7 @@ HasPlacesFrom first places ms = (s n : ℕ) → own_place s first ms ≡ Some n 
 -- members of a list of the program, from a place on
 pub record IsSliceFrom (t : Tree) (first : ℕ) (ms : Members) : Type 0 where
   pub own : HasPlacesFrom first (place_in t) ms
-  pub inner : AreKept (place_in t) (is_loud_in t) ms
+  pub inner : AreKept (place_in t) (is_loud_in t) (IsListIn t) ms
 
 -- the same, wherever they stand in it
 pub record IsSlice (t : Tree) (ms : Members) : Type 0 where

@@ -6,6 +6,7 @@ mod control;
 mod limits;
 mod passed;
 mod places;
+mod prepared;
 mod quiet;
 mod shapes;
 mod slices;

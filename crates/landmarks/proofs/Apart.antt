@@ -1,5 +1,5 @@
 -- Where no label stands twice, each label of a list leads to its place in it, whatever lists are around it and in it.
-use Rattle.std.proofs.Common.{◌≡◌, ℕ, ◌+◌, Bool, true, false, ◌||◌, List, [], ◌∷◌, ◌++◌, append_assoc, Option, Some, None, refl, sym, ap, subst, ◌∙◌}
+use Rattle.std.proofs.Common.{◌≡◌, ℕ, ◌+◌, inl, inr, Bool, true, false, ◌||◌, List, [], ◌∷◌, ◌++◌, append_assoc, Option, Some, None, refl, sym, ap, subst, ◌∙◌}
 use Rattle.std.specs.Prelude.{if◌then◌else◌, ◌==◌, ◌&&◌, not}
 use Rattle.std.specs.List.{list_any}
 use Rattle.std.specs.Option.{option_or}
@@ -16,6 +16,7 @@ use Rattle.meaning.specs.Syntax.{ItemTree}
 use Rattle.meaning.specs.Trees.{Members, none, plain, loop, block, Arms, no_arms, arm, flat, flat_arms, members_tree}
 use Rattle.landmarks.specs.Quiet.{is_quiet}
 use Rattle.landmarks.specs.Places.{own_place, place_from, place_in, place_in_arms}
+use Rattle.landmarks.specs.Lists.{HasList, HasListInArms, IsListIn}
 use Rattle.landmarks.specs.Loud.{is_loud, is_loud_in, is_loud_in_arms}
 use Rattle.landmarks.specs.Kept.{AreKept, AreKeptInArms, IsKept}
 
@@ -201,6 +202,12 @@ Hears loud ms = (line : ℕ) → loud line ≡ false → is_loud line ms ≡ fal
 abbrev HearsInArms : (ℕ → Bool) → Arms → Type 0
 HearsInArms loud arms = (line : ℕ) → loud line ≡ false → is_loud_in_arms line arms ≡ false
 
+abbrev Lists : (Members → Type 0) → Members → Type 0
+Lists listed ms = (r : Members) → HasList ms r → listed r
+
+abbrev ListsInArms : (Members → Type 0) → Arms → Type 0
+ListsInArms listed arms = (r : Members) → HasListInArms arms r → listed r
+
 not_heard : (line : ℕ) (b : Bool) → ((line == line) && not b) ≡ false → b ≡ true
 not_heard line true h = refl
 not_heard line false h = absurd (true≢false (sym (ap (λ z. z && true) (eq-eqb line line refl)) ∙ h))
@@ -211,36 +218,43 @@ head_not s n before (arm x body arms) h e =
     not_first s before (flat body ++ flat_arms arms) x h
     (must_have s n _ _ (λ k. let parts = none_in s (flat body) (flat_arms arms) k in nowhere_or _ _ (nowhere s 0 body parts.0) (nowhere_arms s arms parts.1)) e)
 
-module _ (places : ℕ → Option ℕ) (loud : ℕ → Bool) where
+module _ (places : ℕ → Option ℕ) (loud : ℕ → Bool) (listed : Members → Type 0) where
   mutual
-    kept : (before : List ItemTree) (i : ℕ) (ms : Members) → Apart before (flat ms) → Leads places i ms → Hears loud ms → AreKept places loud ms
-    kept before i none h lead hear = tt
-    kept before i (plain x ms) h lead hear =
+    kept : (before : List ItemTree) (i : ℕ) (ms : Members) → Apart before (flat ms) → Leads places i ms → Hears loud ms → Lists listed ms → AreKept places loud listed ms
+    kept before i none h lead hear lists = tt
+    kept before i (plain x ms) h lead hear lists =
         kept (before ++ x ∷ []) (i + 1) ms h.1
         (λ s n e. lead s n (here_not (has_label s x) i _ n (not_first s before (flat ms) x h (must_have s n _ _ (nowhere s (i + 1) ms) e)) e))
         hear
-    kept before i (loop x range ms) h lead hear =
+        lists
+    kept before i (loop x range ms) h lead hear lists =
         let first = before ++ x ∷ [] in
         let own = apart_front first (flat range) (flat ms) h.1 in
         let there : (s : ℕ) → has s (flat range) ≡ true → has_label s x ≡ false = λ s k. not_first s before (flat range ++ flat ms) x h (list_any-append (has_label s) (flat range) (flat ms) ∙ or_front (has s (flat range)) (has s (flat ms)) k) in
         let inside : Leads places 0 range = λ s n e. lead s n (here_not (has_label s x) i _ n (there s (must_have s n _ _ (nowhere s 0 range) e)) (or_first _ _ n e)) in (
           (λ q. not_heard x.line (is_quiet range) (or_left _ _ (hear x.line q))),
           (
-            ((λ s n e. inside s n (own_leads s 0 n first range own e)), kept first 0 range own inside (λ line q. or_left _ _ (or_right _ _ (hear line q)))),
+            (
+              (λ s n e. inside s n (own_leads s 0 n first range own e)),
+              lists range (inl refl),
+              kept first 0 range own inside (λ line q. or_left _ _ (or_right _ _ (hear line q))) (λ r q. lists r (inr (inl q))),
+            ),
             kept (first ++ flat range) (i + 1) ms (apart_behind first (flat range) (flat ms) h.1)
                 (λ s n e.
                 let had = must_have s n _ _ (nowhere s (i + 1) ms) e in
                 lead s n (here_not (has_label s x) i _ n (not_first s before (flat range ++ flat ms) x h (list_any-append (has_label s) (flat range) (flat ms) ∙ or_behind (has s (flat range)) (has s (flat ms)) had))
                 (or_second _ _ n (nowhere s 0 range (none_before s first (flat range) (flat ms) h.1 had)) e)))
-                (λ line q. or_right _ _ (or_right _ _ (hear line q))),
+                (λ line q. or_right _ _ (or_right _ _ (hear line q)))
+                (λ r q. lists r (inr (inr q))),
           ),
         )
-    kept before i (block arms x ms) h lead hear =
+    kept before i (block arms x ms) h lead hear lists =
         let behind = apart_behind before (flat_arms arms) (x ∷ flat ms) h in
         let own = apart_front before (flat_arms arms) (x ∷ flat ms) h in (
           kept_arms before arms own
               (λ s n e. lead s n (here_not (heads s arms) i _ n (head_not s n before arms own e) (or_first _ _ n e)))
-              (λ line q. or_left _ _ (hear line q)),
+              (λ line q. or_left _ _ (hear line q))
+              (λ r q. lists r (inl q)),
           kept ((before ++ flat_arms arms) ++ x ∷ []) (i + 1) ms behind.1
               (λ s n e.
               let had = must_have s n _ _ (nowhere s (i + 1) ms) e in
@@ -248,21 +262,24 @@ module _ (places : ℕ → Option ℕ) (loud : ℕ → Bool) where
               lead s n (here_not (heads s arms) i _ n (no_head s arms none_there)
               (or_second _ _ n (nowhere_arms s arms none_there)
               (here_not (has_label s x) (i + 1) _ n (not_first s (before ++ flat_arms arms) (flat ms) x behind had) e))))
-              (λ line q. or_right _ _ (hear line q)),
+              (λ line q. or_right _ _ (hear line q))
+              (λ r q. lists r (inr q)),
         )
 
-    kept_arms : (before : List ItemTree) (arms : Arms) → Apart before (flat_arms arms) → LeadsInArms places arms → HearsInArms loud arms → AreKeptInArms places loud arms
-    kept_arms before no_arms h lead hear = tt
-    kept_arms before (arm x body arms) h lead hear =
+    kept_arms : (before : List ItemTree) (arms : Arms) → Apart before (flat_arms arms) → LeadsInArms places arms → HearsInArms loud arms → ListsInArms listed arms → AreKeptInArms places loud listed arms
+    kept_arms before no_arms h lead hear lists = tt
+    kept_arms before (arm x body arms) h lead hear lists =
         let first = before ++ x ∷ [] in
         let own = apart_front first (flat body) (flat_arms arms) h.1 in (
           (
             (λ s n e. lead s n (or_first _ _ n (own_leads s 0 n first body own e))),
-            kept first 0 body own (λ s n e. lead s n (or_first _ _ n e)) (λ line q. or_left _ _ (hear line q)),
+            lists body (inl refl),
+            kept first 0 body own (λ s n e. lead s n (or_first _ _ n e)) (λ line q. or_left _ _ (hear line q)) (λ r q. lists r (inr (inl q))),
           ),
           kept_arms (first ++ flat body) arms (apart_behind first (flat body) (flat_arms arms) h.1)
               (λ s n e. lead s n (or_second _ _ n (nowhere s 0 body (none_before s first (flat body) (flat_arms arms) h.1 (must_have s n _ _ (nowhere_arms s arms) e))) e))
-              (λ line q. or_right _ _ (hear line q)),
+              (λ line q. or_right _ _ (hear line q))
+              (λ r q. lists r (inr (inr q))),
         )
 
 -- where no label stands twice, all lists of a program unit are kept
@@ -271,6 +288,7 @@ all_kept t h =
     let ms = members_tree t.body.items in
     let apart = none_told [] (flat ms) h in
     record {
+      list = inl refl;
       own = λ s n e. own_leads s 0 n [] ms apart e;
-      inner = kept (place_in t) (is_loud_in t) [] 0 ms apart (λ s n e. e) (λ line q. q);
+      inner = kept (place_in t) (is_loud_in t) (IsListIn t) [] 0 ms apart (λ s n e. e) (λ line q. q) (λ r q. inr q);
     }

@@ -1,11 +1,13 @@
-//! What is kept of the lists of a program unit: where its labels stand, and which DO statements have output in their ranges
-//! (ANSI X3.9-1978, 3.4, chapter 11 and 12.8).
+//! What is kept of the lists of a program unit: where its labels stand, and which DO statements have output in their ranges;
+//! where in a slice of a list a transfer of control goes on (ANSI X3.9-1978, 3.4, chapter 11 and 12.8).
 #![tactic(auto)]
 
+mod entries;
 mod landmarks;
 mod loud;
 mod places;
 mod quiet;
 
+pub use entries::place_in_slice;
 pub use landmarks::Landmarks;
 pub use quiet::{is_quiet_list, output_of, statement_of};

@@ -4,3 +4,5 @@ pub mod Acts
 pub mod Asked
 pub mod Kept
 pub mod Programs
+pub mod Prepared
+pub mod Listed

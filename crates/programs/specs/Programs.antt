@@ -8,6 +8,9 @@ use Rattle.programs.specs.declared.action.Action.{Action}
 use Rattle.programs.specs.declared.program.Parts.{Parts}
 use Rattle.programs.specs.Acts.{Acts}
 use Rattle.programs.specs.Kept.{AreKept, AreFunctions, HasNoOther}
+use Rattle.programs.specs.Listed.{HasOrders}
+use Rattle.landmarks.specs.Lists.{IsListIn}
+use Rattle.meaning.specs.Trees.{Members}
 
 -- a statement of the program
 pub record IsStatement (t : Tree) (x : ItemTree) : Type 0 where
@@ -18,6 +21,7 @@ pub record IsCoded (p : Parts) : Type 0 where
   pub kept : AreKept p.unit p.actions (items_in p.unit)
   pub others : HasNoOther p.actions (items_in p.unit)
   pub functions : AreFunctions p.unit p.functions.items
+  pub lists : (ms : Members) → IsListIn p.unit ms → HasOrders p.unit p.lists ms
 
 -- what is kept of a statement is what it needs
 abbrev pub ActsAt : Tree → ShapeTree → Option (Bor Action) → Type 0

@@ -14,7 +14,7 @@ use std::alloc::Global;
 const NOWHERE: u32 = 0xffff_ffff;
 
 // Puts a number in the place of a line, behind those of all lines before it.
-fn put_at(places: &mut Vec<u32>, line: u32, place: u32) -> Result<(), NoCode>
+pub(crate) fn put_at(places: &mut Vec<u32>, line: u32, place: u32) -> Result<(), NoCode>
     requires free { length places.old.items ≤ line }
     ensures put { IfOk result (λ _. slice_get places.new.items line ≡ Some place) }
     ensures kept { IfOk result (λ _. StayIn places.old.items places.new.items) }

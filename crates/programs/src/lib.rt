@@ -4,8 +4,10 @@
 
 mod action;
 mod actions;
+mod lists;
 mod program;
 
 pub use action::{Action, ListCode, ListCodes, Repeat, Target, WholeArray};
 pub use actions::Actions;
+pub use lists::Lists;
 pub use program::Program;

@@ -3,8 +3,9 @@
 ghost use Rattle.std.specs.Prelude.{◌≡◌, ◌<◌, [], IfSome, Ok, Some, length, option_map};
 ghost use Rattle.meaning.specs.Answers.{message_at};
 ghost use Rattle.meaning.specs.Rules.{checked};
-ghost use Rattle.meaning.specs.Trees.{members_tree, nested};
+ghost use Rattle.meaning.specs.Trees.{Members, members_tree, nested};
 ghost use Rattle.landmarks.specs.Kept.{IsKept};
+ghost use Rattle.landmarks.specs.Lists.{IsListIn};
 ghost use Rattle.landmarks.specs.Loud.{is_loud_in};
 ghost use Rattle.landmarks.specs.Places.{place_in};
 ghost use Rattle.format_edit.specs.Formatted.{descriptors};
@@ -12,24 +13,28 @@ ghost use Rattle.numbering.specs.Agreed.{IsReadFrom};
 ghost use Rattle.numbering.specs.Told.{AreStarts, format_at, text_format_at};
 ghost use Rattle.numbering.specs.Checked.{count_in, items_in, names_in, numbers_in};
 ghost use Rattle.programs.specs.Kept.{AreFunctions, AreKept, HasNoOther};
+ghost use Rattle.programs.specs.Listed.{HasOrders};
+ghost use Rattle.programs.specs.Prepared.{AreOrdersAt};
 ghost use Rattle.programs.specs.Programs.{IsActionAt};
 
 use crate::Action;
 use crate::actions::Actions;
+use crate::lists::Lists;
 use expressions::Numbering;
 use format_edit::Format;
 use meaning::ending::StopMessage;
 use meaning::syntax::Tree;
-use postfix::Code;
+use postfix::{Code, Orders};
 use std::alloc::Global;
 use std::marker::Model;
 
-/// A program that keeps the rules, what each statement needs, and the codes of its statement functions.
+/// A program that keeps the rules, what each statement needs, the codes of its statement functions, and the orders of its lists.
 #[derive(Drop)]
 pub(crate) struct Parts {
     pub unit: numbering::Program,
     pub actions: Actions,
     pub functions: Vec<Code>,
+    pub lists: Lists,
 }
 
 /// A program that keeps the rules. Contracts see its tree; what its statements need agrees with what they say.
@@ -54,11 +59,17 @@ impl Model for Program {
 }
 
 impl Program {
-    /// The program with what its statements need, and with the codes of its statement functions.
-    pub fn new(unit: numbering::Program, actions: Actions, functions: Vec<Code>) -> Program
+    /// The program with what its statements need, with the codes of its statement functions, and with the orders of its lists.
+    pub fn new(
+        unit: numbering::Program,
+        actions: Actions,
+        functions: Vec<Code>,
+        lists: Lists,
+    ) -> Program
         requires actions { AreKept unit actions (items_in unit) }
         requires others { HasNoOther actions (items_in unit) }
         requires functions { AreFunctions unit functions.items }
+        requires lists { (ms : Members) → IsListIn unit ms → HasOrders unit lists ms }
         ensures { result ≡ unit }
     {
         Program {
@@ -66,6 +77,7 @@ impl Program {
                 unit,
                 actions,
                 functions,
+                lists,
             },
         }
     }
@@ -136,6 +148,14 @@ impl Program {
         self.parts.actions.at(line)
     }
 
+    /// The orders of the list whose first statement has this initial line.
+    #[inline(always)]
+    pub fn orders(&self, line: u32) -> Option<&Orders>
+        ensures { AreOrdersAt self.now line result }
+    {
+        self.parts.lists.at(line)
+    }
+
     /// How many cells its variables and arrays have.
     #[inline(always)]
     pub fn cells(&self) -> usize
@@ -159,6 +179,7 @@ impl Program {
     {
         &self.parts.functions
     }
+
     /// What the STOP statement with this initial line tells, also one under a logical IF (ANSI X3.9-1978, 11.12). It is moved out
     /// of the program, which is used up: no memory is allocated.
     pub fn into_message(self, alloc: Global, line: u32) -> StopMessage
@@ -169,11 +190,13 @@ impl Program {
             unit,
             mut actions,
             functions,
+            lists,
         } = parts;
         let message = actions.take_message(alloc, line);
         drop(unit);
         drop(actions);
         drop(functions);
+        drop(lists);
         message
     }
 }

@@ -110,6 +110,28 @@ const TURNS: &[(&str, &[u32], &str)] = &[
         &[1, 2, 2, 3, 2, 2, 3, 2],
         "",
     ),
+    // each kind of statement that a range is prepared with: a variable and an element, LOGICAL or not, by itself and under a logical IF
+    (
+        "      INTEGER A(2)\n      LOGICAL L,M(2)\n      DO 10 I=1,2\n      K=K+I\n      A(I)=K\n      L=K.GT.1\n      M(I)=L\n      IF (M(I)) K=K+10\n      IF (L) A(I)=A(I)+1\n      IF (L) M(1)=.TRUE.\n      IF (.NOT.L) L=.TRUE.\n   10 CONTINUE\n      WRITE (6,20) K,A,L,M\n   20 FORMAT (3I4,3L2)\n      END\n",
+        &[
+            3, 4, 5, 6, 7, 8, 9, 10, 11, 11, 12, 4, 5, 6, 7, 8, 8, 9, 9, 10, 10, 11, 12, 13,
+        ],
+        "  13   1   4 T T T\n",
+    ),
+    // transfers within a range, forward and back, by themselves and under a logical IF
+    (
+        "      DO 30 I=1,2\n      J=0\n   10 J=J+1\n      IF (J.LT.I) GO TO 10\n      GO TO 20\n      K=K+100\n   20 IF (I.EQ.1) GO TO 30\n      K=K+J\n   30 CONTINUE\n      WRITE (6,40) K\n   40 FORMAT (I4)\n      END\n",
+        &[1, 2, 3, 4, 5, 7, 7, 9, 2, 3, 4, 4, 3, 4, 5, 7, 8, 9, 10],
+        "   2\n",
+    ),
+    // what a range is not prepared with, among what it is: a statement function, a block IF, a DO statement, a computed GO TO
+    (
+        "      NF(N)=N+1\n      DO 40 I=1,2\n      K=NF(K)\n      IF (I.EQ.2) THEN\n      K=K+10\n      END IF\n      DO 10 J=1,2\n   10 K=K+J\n      GO TO (20,30) I\n   20 K=K+100\n   30 K=K+1000\n   40 CONTINUE\n      WRITE (6,50) K\n   50 FORMAT (I6)\n      END\n",
+        &[
+            2, 3, 4, 7, 8, 8, 9, 10, 11, 12, 3, 4, 5, 7, 8, 8, 9, 11, 12, 13,
+        ],
+        "  2118\n",
+    ),
     // a whole list
     (
         "      DO 10 K=1,2\n   10 I=I+K\n      WRITE (6,20) (I,(J,J=1,2),I=1,2),I\n   20 FORMAT (7I2)\n      END\n",
@@ -141,6 +163,91 @@ fn turns_of_statements(rt: HostRuntime) {
         meets_limits(&rt, rt.alloc(), source, lines);
         let turns = u64::try_from(lines.len()).unwrap_or(MANY);
         comes_to_in(&rt, rt.alloc(), source, turns, &Ending::Ended, records);
+    }
+}
+
+/// Sources whose ranges fault: the fault, its line, and the turns that are taken until it, its own statement's among them.
+const FAULTS: &[(&str, FaultKind, u32, u64)] = &[
+    // an element's subscript, before a value that would fault too; a LOGICAL element's; one of the value
+    (
+        "      INTEGER A(3)\n      DO 10 I=1,5\n   10 A(I)=I\n      END\n",
+        FaultKind::F3,
+        3,
+        5,
+    ),
+    (
+        "      INTEGER A(3)\n      DO 10 I=1,5\n   10 A(I+3)=1/(I-1)\n      END\n",
+        FaultKind::F3,
+        3,
+        2,
+    ),
+    (
+        "      LOGICAL L(2)\n      DO 10 I=1,3\n   10 L(I)=I.GT.1\n      END\n",
+        FaultKind::F3,
+        3,
+        4,
+    ),
+    (
+        "      INTEGER A(3)\n      DO 10 I=1,3\n   10 K=A(4-I)+A(I+1)\n      END\n",
+        FaultKind::F3,
+        3,
+        4,
+    ),
+    // a subscript outside INTEGER, and a value
+    (
+        "      INTEGER A(3)\n      DO 10 I=1,3\n   10 A(I+2147483647)=1\n      END\n",
+        FaultKind::F2,
+        3,
+        2,
+    ),
+    (
+        "      K=1\n      DO 10 I=1,40\n   10 K=K*2\n      END\n",
+        FaultKind::F2,
+        3,
+        33,
+    ),
+    (
+        "      INTEGER A(3)\n      DO 10 I=1,3\n   10 A(I)=6/(I-2)\n      END\n",
+        FaultKind::F1,
+        3,
+        3,
+    ),
+    // the condition of a logical IF, over an assignment and over a transfer; the assignment under it
+    (
+        "      DO 10 I=1,3\n   10 IF (6/(2-I).GT.9) K=1\n      END\n",
+        FaultKind::F1,
+        2,
+        3,
+    ),
+    (
+        "      DO 10 I=1,3\n      IF (MOD(6,I-2).EQ.0) GO TO 10\n      K=K+1\n   10 CONTINUE\n      END\n",
+        FaultKind::F1,
+        2,
+        5,
+    ),
+    (
+        "      INTEGER A(3)\n      DO 10 I=1,5\n   10 IF (I.GT.3) A(I)=I\n      END\n",
+        FaultKind::F3,
+        3,
+        6,
+    ),
+];
+
+/// A fault in a range is told with just enough turns, and the limit at its line with one less.
+#[test]
+fn faults_in_ranges(rt: HostRuntime) {
+    for &(source, kind, line, turns) in FAULTS {
+        let fault = Ending::Fault(Fault { kind, line });
+        comes_to_in(&rt, rt.alloc(), source, turns, &fault, "");
+        comes_to_in(&rt, rt.alloc(), source, MANY, &fault, "");
+        comes_to_in(
+            &rt,
+            rt.alloc(),
+            source,
+            turns.saturating_sub(1),
+            &limit_at(line),
+            "",
+        );
     }
 }
 

@@ -1,3 +1,4 @@
 pub mod Numbers
 pub mod Programs
 pub mod Stacked
+pub mod Ordered

@@ -2,16 +2,14 @@
 use Rattle.std.proofs.Common.{◌≡◌, ℕ, zero, suc, ◌+◌, ◌-◌, ◌<◌, ◌≤◌, Bool, true, false, if◌then◌else◌, List, [], ◌∷◌, length, get_or, drop, Option, Some, None, option_map, refl, sym, ap, ◌∙◌, arith}
 use Rattle.std.proofs.lemmas.Bool.{false≢true}
 use Rattle.meaning.specs.declared.syntax.Arm.{Arm}
-use Rattle.meaning.specs.declared.syntax.Member.{Member, Plain, Loop, Loop', Block}
-use Rattle.meaning.specs.declared.syntax.Tree.{Tree}
+use Rattle.meaning.specs.declared.syntax.Member.{Member, Plain, Loop', Block}
 use Rattle.meaning.specs.declared.syntax.Block.{Block', out-Block, items_shown-the_row-Arm-1}
 use Rattle.meaning.proofs.Ranges.{row_arms-items}
 use Rattle.meaning.specs.Trees.{Members, item_tree, member_before, members_tree, arms_tree, row_arms}
 use Rattle.meaning.specs.LabelRules.{has_label}
 use Rattle.meaning.specs.Execution.{heads, labelled}
-use Rattle.landmarks.specs.Places.{own_place, place_in}
-use Rattle.evaluator.specs.Places.{at_if, entry, is_number, is_entered_at}
-use Rattle.evaluator.specs.Slices.{IsSliceFrom}
+use Rattle.landmarks.specs.Entries.{at_if, entry, is_number, is_entered_at}
+use Rattle.landmarks.specs.Places.{own_place}
 
 -- where a jump into a list goes on, by the entry of its first member: at it, behind it, or in the rest
 abbrev entered : Members → Members → Option Members → Option ℕ → Option Members
@@ -159,38 +157,38 @@ where_entered s (x ∷ ms) i n is =
         let e : i + 1 ≡ n = cc in
         record { further = 1; is = omega arith; there = behind_it 0 refl (entry-near s x k at) }
 
--- ---- in a slice of a program, whose labels lead to their places
+-- ---- in a slice of a list, whose label leads to its place in the list
 
-module _ (t : Tree) (s first : ℕ) (ms : List Member) (slice : IsSliceFrom t first (members_tree ms)) where
-  pub found_at : (p i n : ℕ) → Some p ≡ place_in t s → true ≡ is_entered_at s ms i n → Some (members_tree (drop (p - first) ms)) ≡ labelled s (members_tree ms)
-  found_at p i n place is = by (own_place s first (members_tree ms)) refl
+module _ (place : Option ℕ) (s first : ℕ) (ms : List Member) (own : (n : ℕ) → own_place s first (members_tree ms) ≡ Some n → place ≡ Some n) where
+  pub found_at : (p i n : ℕ) → place ≡ Some p → true ≡ is_entered_at s ms i n → Some (members_tree (drop (p - first) ms)) ≡ labelled s (members_tree ms)
+  found_at p i n led is = by (own_place s first (members_tree ms)) refl
     where
       by : (o : Option ℕ) → own_place s first (members_tree ms) ≡ o → Some (members_tree (drop (p - first) ms)) ≡ labelled s (members_tree ms)
       by None at = absurd (entered_somewhere s ms i first n is at)
       by (Some q) at =
-          let same : Some p ≡ Some q = place ∙ slice.own s q at in
+          let same : Some p ≡ Some q = sym led ∙ own q at in
           ap (λ o. option_map (λ k. members_tree (drop (k - first) ms)) o) (same ∙ sym at) ∙ sym (labelled_is s first ms)
 
-  nowhere : ((p further : ℕ) → place_in t s ≡ Some p → p ≡ first + further → IsEntered s ms further → ⊥) → None ≡ labelled s (members_tree ms)
+  nowhere : ((p further : ℕ) → place ≡ Some p → p ≡ first + further → IsEntered s ms further → ⊥) → None ≡ labelled s (members_tree ms)
   nowhere never = by (own_place s first (members_tree ms)) refl
     where
       by : (o : Option ℕ) → own_place s first (members_tree ms) ≡ o → None ≡ labelled s (members_tree ms)
       by None at = ap (λ o. option_map (λ k. members_tree (drop (k - first) ms)) o) (sym at) ∙ sym (labelled_is s first ms)
       by (Some q) at =
           let h = where_entered s ms first q at in
-          absurd (never q h.further (slice.own s q at) h.is h.there)
+          absurd (never q h.further (own q at) h.is h.there)
 
-  -- a label that leads nowhere in the program, or before the slice, or to a place where no member of it has the label
-  pub found_nowhere : None ≡ place_in t s → None ≡ labelled s (members_tree ms)
+  -- a label that leads nowhere, or before the slice, or to a place where no member of it has the label
+  pub found_nowhere : place ≡ None → None ≡ labelled s (members_tree ms)
   found_nowhere none = nowhere (λ p k is further there. absurd cc)
 
-  pub found_before : (p : ℕ) → Some p ≡ place_in t s → p < first → None ≡ labelled s (members_tree ms)
-  found_before p place lt =
-      nowhere (λ q k is further there. let e : Some p ≡ Some q = place ∙ is in let same : p ≡ q = cc in absurd (omega arith))
+  pub found_before : (p : ℕ) → place ≡ Some p → p < first → None ≡ labelled s (members_tree ms)
+  found_before p led lt =
+      nowhere (λ q k is further there. let e : Some p ≡ Some q = sym led ∙ is in let same : p ≡ q = cc in absurd (omega arith))
 
-  pub not_found : (p : ℕ) → Some p ≡ place_in t s → false ≡ is_entered_at s ms (p - first) 0 → ((i : ℕ) → p - first ≡ i + 1 → false ≡ is_entered_at s ms i 1) → None ≡ labelled s (members_tree ms)
-  not_found p place not_at not_behind =
-      nowhere (λ q k is further there. let e : Some p ≡ Some q = place ∙ is in let same : p ≡ q = cc in by k (omega arith) there)
+  pub not_found : (p : ℕ) → place ≡ Some p → false ≡ is_entered_at s ms (p - first) 0 → ((i : ℕ) → p - first ≡ i + 1 → false ≡ is_entered_at s ms i 1) → None ≡ labelled s (members_tree ms)
+  not_found p led not_at not_behind =
+      nowhere (λ q k is further there. let e : Some p ≡ Some q = sym led ∙ is in let same : p ≡ q = cc in by k (omega arith) there)
     where
       by : (k : ℕ) → p - first ≡ k → IsEntered s ms k → ⊥
       by k same (at_it is) = absurd (false≢true (not_at ∙ ap (λ j. is_entered_at s ms j 0) same ∙ is))

@@ -1,7 +1,7 @@
 use Rattle.std.proofs.Common.{ap, ◌∙◌, arith}
-use Rattle.evaluator.specs.Places.{is_number}
-use Rattle.evaluator.proofs.Labelled.{entered_is, none_entered}
-use Rattle.evaluator.proofs.places.is_entered.Goals as goal
+use Rattle.landmarks.specs.Entries.{is_number}
+use Rattle.landmarks.proofs.Labelled.{entered_is, none_entered}
+use Rattle.landmarks.proofs.entries.is_entered.Goals as goal
 
 pub returns-in-Some : goal.returns-in-Some
 returns-in-Some c =
