@@ -1,5 +1,6 @@
 -- A program and what its statements need may be read by several threads.
-use denote.Param.Send.{IsSync, sendable}
+use denote.Enum.Declared.{shape}
+use denote.Param.Send.{IsSync, enum_sync, sendable}
 use Rattle.std.proofs.Crossing.{crosses}
 use Rattle.std.proofs.MapsCrossing as maps
 use Rattle.block_stage.proofs.Crossing.{Tree_field, Exprs_field}
@@ -13,11 +14,10 @@ use Rattle.postfix.specs.contracts.instruction.VariableSubscript as VariableSubs
 use Rattle.postfix.specs.contracts.instruction.Step as Step
 use Rattle.postfix.specs.contracts.instruction.Change as Change
 use Rattle.postfix.specs.contracts.instruction.Combiner as Combiner
-use Rattle.postfix.specs.contracts.operation.Operation as Operation
 use Rattle.postfix.specs.contracts.code.Code as Code
-use Rattle.postfix.specs.contracts.order.Ending as Ending
+use Rattle.postfix.specs.contracts.ending.Ending as Ending
 use Rattle.postfix.specs.contracts.order.Order as Order
-use Rattle.postfix.specs.contracts.order.Orders as Orders
+use Rattle.postfix.specs.contracts.orders.Orders as Orders
 use Rattle.programs.specs.contracts.action.Target as Target
 use Rattle.programs.specs.contracts.action.Repeat as Repeat
 use Rattle.programs.specs.contracts.action.ListCodes as ListCodes
@@ -56,11 +56,17 @@ Change_field = search (crosses, Subscript_field, sendable) depth 60 fits 20000
 Combiner_field : IsSync Combiner.the_field.row
 Combiner_field = search (crosses, Step_field, sendable) depth 60 fits 20000
 
-Operation_field : IsSync Operation.the_field.row
-Operation_field = search (Subscript_field, Step_field, Change_field, Combiner_field, sendable) depth 200 fits 200000
+Ending_field : IsSync Ending.the_field.row
+Ending_field = search (crosses, Subscript_field, sendable) depth 60 fits 20000
+
+ruleset parts = (Subscript_field, Step_field, Change_field, Combiner_field, Ending_field, sendable)
+
+-- of its many forms the first ones by themselves
+Order_field : IsSync Order.the_field.row
+Order_field = enum_sync (shape Order.the_type) (search parts, (search parts, (search parts, (search parts, (search parts, (search parts, (search parts, (search parts, (search parts, (search parts, (search parts, (search parts, (search parts, (search parts, (search parts, (search parts, (search parts, (search parts, (search parts, (search parts, (search parts, (search parts, (search parts, (search parts, search parts depth 200 fits 200000))))))))))))))))))))))))
 
 Code_field : IsSync Code.the_field.row
-Code_field = search (crosses, Operation_field, sendable) depth 60 fits 20000
+Code_field = search (crosses, Order_field, sendable) depth 60 fits 20000
 
 Target_field : IsSync Target.the_field.row
 Target_field = search (Code_field, sendable) depth 60 fits 20000
@@ -76,12 +82,6 @@ Action_field = search (crosses, action.crosses, Code_field, Target_field, Repeat
 
 Actions_field : IsSync Actions.the_field.row
 Actions_field = search (crosses, Action_field, sendable) depth 60 fits 20000
-
-Ending_field : IsSync Ending.the_field.row
-Ending_field = search (sendable) depth 60 fits 20000
-
-Order_field : IsSync Order.the_field.row
-Order_field = search (Operation_field, Ending_field, sendable) depth 60 fits 20000
 
 Orders_field : IsSync Orders.the_field.row
 Orders_field = search (crosses, Order_field, sendable) depth 60 fits 20000

@@ -1,3 +1,4 @@
+pub mod Assigned
 pub mod Settings
 pub mod Places
 pub mod Kept

@@ -7,6 +7,7 @@ pub mod Picked
 pub mod Preparing
 pub mod Sliced
 pub mod Looped
+pub mod Repeated
 pub mod Onwards
 pub mod Parted
 pub mod Parts

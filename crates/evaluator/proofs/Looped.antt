@@ -34,8 +34,8 @@ use Rattle.evaluator.specs.Quiet.{variable_of}
 use Rattle.evaluator.specs.Member.{member_does}
 use Rattle.evaluator.specs.Over.{condition_tested, loop_as, values_by, trips_as, repeated_as, while_as}
 use Rattle.evaluator.specs.Passed.{PassesBy, passed_behind}
-use Rattle.evaluator.specs.Statements.{Leaves, Passes, Moves, Reaches, Comes, Picks, Adds, GoesAgain}
-use Rattle.evaluator.proofs.Composed.{add_turns, leaves_behind, reaches_end, reaches_more, leaves_on, leaves_along, IsEnd, ends_there, moves_behind, comes_then, reads_and_does}
+use Rattle.evaluator.specs.Statements.{IsEnd, Leaves, Passes, Moves, Reaches, Comes, Picks, Adds, GoesAgain}
+use Rattle.evaluator.proofs.Composed.{add_turns, leaves_behind, reaches_end, reaches_more, leaves_on, leaves_along, ends_there, moves_behind, comes_then, reads_and_does}
 use Rattle.evaluator.proofs.Executed.{added_goes, added_fails, fault_at, one_less, turn_none, turn_fails, turn_goes}
 
 -- ---- what holds of each statement

@@ -1,5 +1,5 @@
 -- What is done between two states of a store, whatever values it stands on.
-use Rattle.std.specs.Prelude.{◌≡◌, ℕ, ℤ, pos, ◌+ℤ◌, ◌*ℤ◌, Bool, true, List, [], map, Result}
+use Rattle.std.specs.Prelude.{◌≡◌, ℕ, ℤ, pos, ◌+ℤ◌, ◌*ℤ◌, Bool, true, List, [], map, Option, Some, None, Result, Ok, Err}
 use Rattle.std.specs.Global.{Vec}
 use Rattle.std.specs.List.{range_with_len}
 use Rattle.meaning.specs.declared.ending.Fault.{Fault}
@@ -18,8 +18,11 @@ use Rattle.meaning.specs.Syntax.{ExprTree, ItemTree, LimitsTree, ListItemsTree, 
 use Rattle.meaning.specs.Trees.{Members, Arms, item_tree, members_tree}
 use Rattle.meaning.specs.Trips.{span_of}
 use Rattle.meaning.specs.Values.{Scope, value}
+use Rattle.numbering.specs.Checked.{items_in}
 use Rattle.numbering.specs.Starts.{map_of}
+use Rattle.programs.specs.Codes.{IsCell}
 use Rattle.values.specs.Programs.{map_at, scope_in}
+use Rattle.evaluator.specs.declared.assignment.Addition.{Addition}
 use Rattle.evaluator.specs.declared.limits.Span.{Span}
 use Rattle.evaluator.specs.declared.passed.Passed.{Passed}
 use Rattle.evaluator.specs.Limited.{SpanIs}
@@ -36,6 +39,13 @@ SetsOver t u v n x = Does u v (λ m k. map_at t k ≡ put (map_at t m) n [] x)
 
 abbrev pub AddsOver : Tree → World → World → List ℕ → ℤ → Result (Unit {0}) FaultKind → Type 0
 AddsOver t u v n by r = Does u v (λ m k. Adds n by (map_at t m) (map_at t k) r)
+
+-- an addition behind a trip, where there is one; its fault has the line
+abbrev pub AddsBehind : Tree → World → World → Option Addition → Result (Unit {0}) Fault → Type 0
+AddsBehind t u v None (Ok x) = v ≡ u
+AddsBehind t u v None (Err f) = ⊥
+AddsBehind t u v (Some a) (Ok x) = (n : List ℕ) → IsCell t n a.variable → AddsOver t u v n a.by (Ok x)
+AddsBehind t u v (Some a) (Err f) = (f.line ≡ a.line) × ((n : List ℕ) → IsCell t n a.variable → AddsOver t u v n a.by (Err f.kind))
 
 -- the values of limits, or their fault
 abbrev pub IsSpanAt : Tree → LimitsTree → Result Span FaultKind → Cells → Type 0
@@ -106,6 +116,12 @@ LeavesAt t does given left o m n = Leaves (does (map_at t m) given) given (map_a
 
 abbrev pub LeavesOver : Tree → World → World → (Map → ℕ → Ran) → ℕ → ℕ → Outcome → Type 0
 LeavesOver t u v does given left o = Does u v (LeavesAt t does given left o)
+
+-- a list so often, with an addition to a DO variable behind each time, whatever it was at first; or once
+abbrev pub RepeatsOver : Tree → World → World → Members → Option Addition → ℕ → ℕ → ℕ → Outcome → Type 0
+RepeatsOver t u v ms None count given left o = count ≡ 1 → LeavesOver t u v (list_as (items_in t) ms) given left o
+RepeatsOver t u v ms (Some a) count given left o =
+    (n : List ℕ) → IsCell t n a.variable → (first : ℤ) → LeavesOver t u v (λ m k. fold_trips (exec (items_in t)) a.line n a.by ms (values_by first a.by count) m k) given left o
 
 -- the same with the turns that it used
 abbrev pub RunsOver : Tree → World → World → (Map → ℕ → Ran) → ℕ → Run → Type 0

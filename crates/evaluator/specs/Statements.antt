@@ -16,6 +16,13 @@ outcome_of (outcomes.Left s) = jump s
 outcome_of (outcomes.Stopped line) = stopped line
 outcome_of (outcomes.Fault f) = fault f.kind f.line
 
+-- an end that isn't normal
+abbrev pub IsEnd : Outcome → Type 0
+IsEnd outcomes.Normal = ⊥
+IsEnd (outcomes.Left s) = Unit {0}
+IsEnd (outcomes.Stopped line) = Unit {0}
+IsEnd (outcomes.Fault f) = Unit {0}
+
 -- a run without output that leaves this map
 abbrev pub ran_by : Run → Map → Ran
 ran_by r m = record { outcome = outcome_of r.outcome; map = m; pieces = []; used = r.turns_used }

@@ -19,8 +19,8 @@ use Rattle.evaluator.specs.declared.passed.Passed.TheVariants as passings
 use Rattle.evaluator.specs.Member.{member_does}
 use Rattle.evaluator.specs.Over.{condition_tested}
 use Rattle.evaluator.specs.Passed.{ended_by as ended_so, passed_behind}
-use Rattle.evaluator.specs.Statements.{outcome_of, Leaves, Moves, Comes, Picks, Adds}
-use Rattle.evaluator.proofs.Composed.{IsEnd, add_turns}
+use Rattle.evaluator.specs.Statements.{outcome_of, IsEnd, Leaves, Moves, Comes, Picks, Adds}
+use Rattle.evaluator.proofs.Composed.{add_turns}
 use Rattle.evaluator.proofs.Executed.{fault_at, one_less, added_goes, added_fails}
 use Rattle.evaluator.proofs.Looped.{from_place, behind_place, at_place, at_end_of, trips_left, behind_range, at_trip, at_last_trip, arms_left, after_test, do_is, while_comes}
 use Rattle.program_runs.specs.declared.halt.Halt.{Halt}

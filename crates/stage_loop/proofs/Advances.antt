@@ -14,8 +14,8 @@ use Rattle.meaning.specs.Syntax.{ItemTree}
 use Rattle.meaning.proofs.Advancing.{fold_trips-goes_on, fold_trips-number, put_again}
 use Rattle.meaning.proofs.Limits.{fold_trips-append}
 use Rattle.evaluator.specs.Over.{repeated_as, trips_as, values_by}
-use Rattle.evaluator.specs.Statements.{Leaves, Reaches, Spends, ran_by}
-use Rattle.evaluator.proofs.Composed.{IsEnd, ends_there, leaves_along, leaves_behind, reaches_end, reaches_more}
+use Rattle.evaluator.specs.Statements.{IsEnd, Leaves, Reaches, Spends, ran_by}
+use Rattle.evaluator.proofs.Composed.{ends_there, leaves_along, leaves_behind, reaches_end, reaches_more}
 use Rattle.block_stage.specs.Jobs.{range_in, variable_in}
 use Rattle.stage_loop.specs.Loops.{AreIntegers}
 

@@ -5,5 +5,5 @@
 mod codes;
 mod listed;
 
-pub use codes::{cell_by, number_in, number_of, value, value_by};
+pub use codes::{cell_by, matrix_in, number_in, number_of, value, value_by, vector_in};
 pub use listed::{add_array, add_value};

@@ -93,7 +93,7 @@ fn item_told(item: &ListCode) -> (&'static str, usize, usize) {
 
 const ITEMS: &[(&str, usize, usize)] = &[
     ("numbers", 1, 3),
-    ("value", 2, 0),
+    ("value", 1, 0),
     ("truths", 4, 4),
     ("loop", 0, 0),
     ("value", 6, 0),

@@ -13,14 +13,16 @@ fn value_at(program: &Program, line: u32) -> Option<&Code> {
     }
 }
 
-/// Constants and operators are an instruction each, but for an operator with a constant or a variable behind it, which are one together
-/// unless it is `**` with a constant. A variable is one alone or as a subscript, and so is an element whose one or two subscripts are
-/// variables, or sums or differences of a variable and a constant behind it.
+/// Constants and operators are an instruction each, but for an operator with a constant or a variable behind it, and `+`, `-` and `*` with
+/// an element of the last kind behind it, which are one together, unless it is `**` with a constant; and one where they stand behind a
+/// variable and a constant. A variable is one alone or as a subscript, and so is an element whose one or two subscripts are variables, or
+/// sums or differences of a variable and a constant behind it. `MOD` of a constant takes that along.
 const LENGTHS: &[(&[u8], usize)] = &[
     (b"I=1", 1),
     (b"I=J", 1),
     (b"I=J+K", 2),
-    (b"I=J+K*7", 4),
+    (b"I=J+7", 1),
+    (b"I=J+K*7", 3),
     (b"I=7*K+J", 3),
     (b"I=J**7", 3),
     (b"I=-J", 2),
@@ -29,8 +31,11 @@ const LENGTHS: &[(&[u8], usize)] = &[
     (b"I=A(J+1)", 1),
     (b"I=B(J-1,K+2)", 1),
     (b"I=A(2+J)", 5),
-    (b"I=A(J*2)", 5),
-    (b"I=A(J)+B(I,J)*B(J,K)", 5),
+    (b"I=A(J*2)", 4),
+    (b"I=A(J)+B(I,J)*B(J,K)", 4),
+    (b"I=J-A(K)/A(J)", 5),
+    (b"I=MOD(J,7)", 2),
+    (b"I=MOD(7,J)", 3),
 ];
 
 #[test]

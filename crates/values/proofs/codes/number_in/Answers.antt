@@ -1,4 +1,4 @@
-use Rattle.std.proofs.Common.{◌≡◌, ◌∷◌, ℕ, List, [], Ok, Err, refl, sym, ap, ◌∙◌, subst, pos}
+use Rattle.std.proofs.Common.{◌≡◌, ◌∷◌, ℕ, List, [], Ok, Err, refl, subst, pos}
 use Rattle.meaning.specs.Stores.{World, IsLater}
 use Rattle.meaning.specs.declared.ending.FaultKind.TheVariants.{F2}
 use Rattle.meaning.specs.declared.syntax.Tree.{Tree}

@@ -4,7 +4,7 @@ use Rattle.std.specs.Option.{option_copied}
 use Rattle.meaning.specs.declared.syntax.Tree.{Tree}
 use Rattle.meaning.specs.Trees.{Members}
 use Rattle.landmarks.specs.Lists.{IsListIn}
-use Rattle.postfix.specs.declared.order.Orders.{Orders}
+use Rattle.postfix.specs.declared.orders.Orders.{Orders}
 use Rattle.programs.specs.declared.lists.Lists.{Lists}
 use Rattle.programs.specs.Listed.{HasOrders, LowersAt, orders_at}
 use Rattle.programs.specs.Prepared.{AreOrdersAt, LowersIf}

@@ -1,0 +1,12 @@
+use Rattle.postfix.specs.declared.instruction.Source.TheVariants.{VectorPlace}
+use Rattle.values.proofs.Placing.{grown, placed_in}
+use Rattle.values.proofs.codes.vector_in.Goals as goal
+
+pub returns-clause-reached : goal.returns-clause-reached
+returns-clause-reached g c =
+    let r = c.frame_of-frame.result in
+    let f = c.frame_of-frame.ensures in
+    placed_in c.args.program.now r.cells r.callable r.functions.now _ _ (VectorPlace c.args.first c.args.subscript.now) c.vector_reached.result f.cells f.callable f.functions c.vector_reached.ensures.reached
+
+pub returns-clause-later : goal.returns-clause-later
+returns-clause-later g c = grown _ _ _ (VectorPlace c.args.first c.args.subscript.now) c.vector_reached.result c.vector_reached.ensures.reached
