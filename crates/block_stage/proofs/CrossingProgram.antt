@@ -63,7 +63,7 @@ ruleset parts = (Subscript_field, Step_field, Change_field, Combiner_field, Endi
 
 -- of its many forms the first ones by themselves
 Order_field : IsSync Order.the_field.row
-Order_field = enum_sync (shape Order.the_type) (search parts, (search parts, (search parts, (search parts, (search parts, (search parts, (search parts, (search parts, (search parts, (search parts, (search parts, (search parts, (search parts, (search parts, (search parts, (search parts, (search parts, (search parts, (search parts, (search parts, (search parts, (search parts, (search parts, (search parts, search parts depth 200 fits 200000))))))))))))))))))))))))
+Order_field = enum_sync (shape Order.the_type) (search parts, (search parts, (search parts, (search parts, (search parts, (search parts, (search parts, (search parts, (search parts, (search parts, (search parts, (search parts, (search parts, (search parts, (search parts, (search parts, (search parts, (search parts, (search parts, (search parts, (search parts, (search parts, (search parts, (search parts, (search parts, (search parts, (search parts, (search parts, (search parts, (search parts, (search parts, (search parts, (search parts, (search parts, (search parts, (search parts, search parts depth 200 fits 200000))))))))))))))))))))))))))))))))))))
 
 Code_field : IsSync Code.the_field.row
 Code_field = search (crosses, Order_field, sendable) depth 60 fits 20000

@@ -8,7 +8,10 @@ use Rattle.postfix.specs.declared.code.Code.{Code}
 use Rattle.postfix.specs.declared.order.Order.{Order}
 use Rattle.postfix.specs.declared.prepared.Reached.{Reached}
 use Rattle.postfix.specs.declared.prepared.Reached.TheVariants as reached
+use Rattle.postfix.specs.Endings.{ended}
 use Rattle.postfix.specs.Machine.{calls_to, run}
+use Rattle.postfix.specs.Orders.{acts}
+use Rattle.postfix.specs.Within.{AreReady, IsEndingWithin}
 use Rattle.postfix.specs.Reached.{IsReached}
 use Rattle.programs.specs.Codes.{callable_in}
 use Rattle.programs.specs.Kept.{AreFunctions}
@@ -21,7 +24,8 @@ reached_in t n k fs u v os (reached.Number x e rest) many all have h =
     record {
       reads = reads_so _ _ _ _ (h.reads (calls_to n fs k)) (λ m is c same. number_is t n k [] fs many all refl have c m (Ok x) (subst (λ l. run n (calls_to n fs k) [] l 0 (pos 0 ∷ []) m ≡ Ok x) same is));
       end = h.end;
-      fits = h.fits;
+      fits = subst (λ j. AreReady j (acts rest.now)) many h.ready;
+      within = subst (λ j. IsEndingWithin j (ended e)) many h.within;
       fewer = h.fewer;
     }
 reached_in t n k fs u v os reached.Otherwise many all have h = h
@@ -30,7 +34,7 @@ pub returns-clause-reached : goal.returns-clause-reached
 returns-clause-reached g c =
     let r = c.frame_of-frame.result in
     let f = c.frame_of-frame.ensures in
-    reached_in c.args.program.now r.cells r.callable r.functions.now _ _ c.args.orders.now c.number_reached.result f.cells f.callable f.functions c.number_reached.ensures.reached
+    reached_in c.args.program.now c.args.cells r.callable r.functions.now _ _ c.args.orders.now c.number_reached.result c.requires.counted f.callable f.functions c.number_reached.ensures.reached
 
 grown : (n : ℕ) (u v : World) (os : List Order) (r : Reached) → IsReached n u v os r → IsLater u v
 grown n u v os (reached.Number x e rest) h = (h.reads (λ at args m. Err F2)).grows

@@ -6,7 +6,7 @@ pub returns-clause-reached : goal.returns-clause-reached
 returns-clause-reached g c =
     let r = c.frame_of-frame.result in
     let f = c.frame_of-frame.ensures in
-    placed_in c.args.program.now r.cells r.callable r.functions.now _ _ (VectorPlace c.args.first c.args.subscript.now) c.vector_reached.result f.cells f.callable f.functions c.vector_reached.ensures.reached
+    placed_in c.args.program.now c.args.cells r.callable r.functions.now _ _ (VectorPlace c.args.first c.args.subscript.now) c.vector_reached.result c.requires.counted f.callable f.functions c.vector_reached.ensures.reached
 
 pub returns-clause-later : goal.returns-clause-later
 returns-clause-later g c = grown _ _ _ (VectorPlace c.args.first c.args.subscript.now) c.vector_reached.result c.vector_reached.ensures.reached

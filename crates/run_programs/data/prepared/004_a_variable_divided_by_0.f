@@ -1,0 +1,5 @@
+      IMPLICIT INTEGER (A-Z)
+      DO 20 I=1,5
+      K=I/0
+   20 CONTINUE
+      END

@@ -1,0 +1,7 @@
+      IMPLICIT INTEGER (A-Z)
+      INTEGER B(4,9)
+      J=2
+      DO 20 I=1,5
+      K=B(I,J)
+   20 CONTINUE
+      END

@@ -1,0 +1,7 @@
+      IMPLICIT INTEGER (A-Z)
+      INTEGER B(9,4)
+      J=2
+      DO 20 I=1,5
+      K=B(J,I-2)
+   20 CONTINUE
+      END
