@@ -10,6 +10,7 @@ use Rattle.numbering.specs.contracts.parts.Entry as Entry
 use Rattle.numbering.specs.contracts.parts.FunctionAt as FunctionAt
 use Rattle.numbering.specs.contracts.parts.Parts as Parts
 use Rattle.numbering.specs.contracts.program.Program as Checked
+use Rattle.postfix.specs.contracts.addends.Addends as Addends
 use Rattle.postfix.specs.contracts.instruction.VariableSubscript as VariableSubscript
 use Rattle.postfix.specs.contracts.instruction.Step as Step
 use Rattle.postfix.specs.contracts.instruction.Change as Change
@@ -50,8 +51,11 @@ Step_field = search (crosses, sendable) depth 60 fits 20000
 Subscript_field : IsSync VariableSubscript.the_field.row
 Subscript_field = search (crosses, Step_field, sendable) depth 60 fits 20000
 
+Addends_field : IsSync Addends.the_field.row
+Addends_field = search (crosses, sendable) depth 60 fits 20000
+
 Change_field : IsSync Change.the_field.row
-Change_field = search (crosses, Subscript_field, sendable) depth 60 fits 20000
+Change_field = search (crosses, Subscript_field, Addends_field, sendable) depth 60 fits 20000
 
 Combiner_field : IsSync Combiner.the_field.row
 Combiner_field = search (crosses, Step_field, sendable) depth 60 fits 20000
@@ -59,11 +63,11 @@ Combiner_field = search (crosses, Step_field, sendable) depth 60 fits 20000
 Ending_field : IsSync Ending.the_field.row
 Ending_field = search (crosses, Subscript_field, sendable) depth 60 fits 20000
 
-ruleset parts = (Subscript_field, Step_field, Change_field, Combiner_field, Ending_field, sendable)
+ruleset parts = (Subscript_field, Addends_field, Step_field, Change_field, Combiner_field, Ending_field, sendable)
 
 -- of its many forms the first ones by themselves
 Order_field : IsSync Order.the_field.row
-Order_field = enum_sync (shape Order.the_type) (search parts, (search parts, (search parts, (search parts, (search parts, (search parts, (search parts, (search parts, (search parts, (search parts, (search parts, (search parts, (search parts, (search parts, (search parts, (search parts, (search parts, (search parts, (search parts, (search parts, (search parts, (search parts, (search parts, (search parts, (search parts, (search parts, (search parts, (search parts, (search parts, (search parts, (search parts, (search parts, (search parts, (search parts, (search parts, (search parts, search parts depth 200 fits 200000))))))))))))))))))))))))))))))))))))
+Order_field = enum_sync (shape Order.the_type) (search parts, (search parts, (search parts, (search parts, (search parts, (search parts, (search parts, (search parts, (search parts, (search parts, (search parts, (search parts, (search parts, (search parts, (search parts, (search parts, (search parts, (search parts, (search parts, (search parts, (search parts, (search parts, (search parts, (search parts, (search parts, (search parts, (search parts, (search parts, (search parts, (search parts, (search parts, (search parts, (search parts, (search parts, (search parts, (search parts, (search parts, (search parts, (search parts, (search parts, (search parts, (search parts, (search parts, (search parts, (search parts, (search parts, (search parts, (search parts, (search parts, (search parts, search parts depth 200 fits 200000))))))))))))))))))))))))))))))))))))))))))))))))))
 
 Code_field : IsSync Code.the_field.row
 Code_field = search (crosses, Order_field, sendable) depth 60 fits 20000

@@ -9,6 +9,7 @@ pub mod Functions
 pub mod Subscripts
 pub mod Places
 pub mod Fused
+pub mod Shortened
 pub mod Results
 pub mod Keeping
 mod RulyExamples
@@ -16,3 +17,4 @@ pub mod Asked
 pub mod Kept
 pub mod Kinded
 pub mod Small
+pub mod Joined

@@ -2,6 +2,7 @@
 //! X3.9-1978, 6.1, 6.3, 6.4, 6.6, 15.2 and 15.4).
 #![tactic(auto)]
 
+mod appended;
 mod appending;
 mod code;
 mod fusing;

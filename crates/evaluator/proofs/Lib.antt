@@ -5,9 +5,11 @@ pub mod Turning
 pub mod Executed
 pub mod Picked
 pub mod Preparing
+pub mod Going
 pub mod Sliced
 pub mod Looped
 pub mod Repeated
 pub mod Onwards
+pub mod Standing
 pub mod Parted
 pub mod Parts

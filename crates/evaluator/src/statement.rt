@@ -18,7 +18,7 @@ ghost use Rattle.evaluator.specs.Statements.{Spends};
 
 use crate::control::{run_bare, take_turn};
 use array_store::Store;
-use expressions::{as_integer, as_logical};
+use expressions::as_logical;
 use meaning::cell::Cell;
 use meaning::ending::{Fault, FaultKind, Outcome};
 use meaning::syntax::Item;
@@ -111,8 +111,7 @@ fn run_codes<S: Store>(
         };
         match part.purpose {
             Purpose::Set(cell) => {
-                let value = value_by(part.code.is_logical(), x);
-                store.write(Cell(cell), as_integer(value))?;
+                store.write(Cell(cell), x)?;
                 return Ok(Outcome::Normal);
             }
             Purpose::Find(code) => match cell_by(x, program.cells()) {

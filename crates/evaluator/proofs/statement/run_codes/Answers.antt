@@ -2,7 +2,7 @@ use Rattle.std.proofs.Common.{rules, Ok, Err, refl, ap, ◌∙◌, subst, arith,
 use Rattle.std.specs.Prelude.{FitsSigned}
 use Rattle.std.specs.Int.{w32}
 use Rattle.std.proofs.lemmas.Int.{to_z-of_z}
-use Rattle.meaning.specs.Values.{as_integer, as_logical}
+use Rattle.meaning.specs.Values.{as_logical}
 use Rattle.meaning.proofs.Stores.{later-later, later-same}
 use Rattle.postfix.specs.Codes.{leaves_logical}
 use Rattle.values.specs.Stacked.{IsCellBy, value_at}
@@ -33,9 +33,7 @@ returns-in-Set-clause-does g c = λ rest is.
     let world = g.S.Store.world in
     let code = c.loop-x.part.code.now in
     let fits : FitsSigned w32 c.in-Ok.x = search rules in
-    let value = c.value_by-value.ensures ∙ ap (λ b. value_at b (to_z w32 (of_z w32 c.in-Ok.x))) c.is_logical.ensures ∙ ap (value_at (leaves_logical code)) (to_z-of_z w32 c.in-Ok.x fits) in
-    let written = to_z-of_z w32 c.as_integer.result (record { sfits = c.as_integer.type_inv }) ∙ c.as_integer.ensures ∙ ap as_integer value in
-    code_sets c.args.program.now c.args.line c.args.first c.loop-x.part (world c.args.store.now) (world c.loop-x.store) (world c.number_of.new.store) c.args.turns.now c.loop-x.turns c.loop-x.invariant rest is (Ok c.in-Ok.x) c.in-Ok.ensures.reads c.in-Ok.x refl c.in-Set.cell _ (world c.write.new.self) c.in-Set.is c.in_ok-write-in-Set.ensures.ok written
+    code_sets c.args.program.now c.args.line c.args.first c.loop-x.part (world c.args.store.now) (world c.loop-x.store) (world c.number_of.new.store) c.args.turns.now c.loop-x.turns c.loop-x.invariant rest is (Ok c.in-Ok.x) c.in-Ok.ensures.reads c.in-Ok.x refl c.in-Set.cell _ (world c.write.new.self) c.in-Set.is c.in_ok-write-in-Set.ensures.ok (to_z-of_z w32 c.in-Ok.x fits)
 
 pub returns-in-Set-clause-later : goal.returns-in-Set-clause-later
 returns-in-Set-clause-later g c =
@@ -68,7 +66,7 @@ returns-then-not-as_logical-clause-does g c = λ rest is.
     let world = g.S.Store.world in
     let code = c.loop-x.part.code.now in
     let fits : FitsSigned w32 c.in-Ok.x = search rules in
-    let value = c.value_by.ensures ∙ ap (λ b. value_at b (to_z w32 (of_z w32 c.in-Ok.x))) c.is_logical-in-Decide.ensures ∙ ap (value_at (leaves_logical code)) (to_z-of_z w32 c.in-Ok.x fits) in
+    let value = c.value_by.ensures ∙ ap (λ b. value_at b (to_z w32 (of_z w32 c.in-Ok.x))) c.is_logical.ensures ∙ ap (value_at (leaves_logical code)) (to_z-of_z w32 c.in-Ok.x fits) in
     code_passes c.args.program.now c.args.line c.args.first c.loop-x.part (world c.args.store.now) (world c.loop-x.store) (world c.number_of.new.store) c.args.turns.now c.loop-x.turns c.loop-x.invariant rest is (Ok c.in-Ok.x) c.in-Ok.ensures.reads c.in-Ok.x refl c.in-Decide.under c.in-Decide.is (c.if-not-as_logical.ensures ∙ ap as_logical value)
 
 pub returns-then-not-take_turn-clause-does : goal.returns-then-not-take_turn-clause-does
@@ -77,7 +75,7 @@ returns-then-not-take_turn-clause-does g c = λ rest is.
     let p = c.args.program.now in
     let code = c.loop-x.part.code.now in
     let fits : FitsSigned w32 c.in-Ok.x = search rules in
-    let value = c.value_by.ensures ∙ ap (λ b. value_at b (to_z w32 (of_z w32 c.in-Ok.x))) c.is_logical-in-Decide.ensures ∙ ap (value_at (leaves_logical code)) (to_z-of_z w32 c.in-Ok.x fits) in
+    let value = c.value_by.ensures ∙ ap (λ b. value_at b (to_z w32 (of_z w32 c.in-Ok.x))) c.is_logical.ensures ∙ ap (value_at (leaves_logical code)) (to_z-of_z w32 c.in-Ok.x fits) in
     code_unexecuted p c.args.line c.args.first c.loop-x.part (world c.args.store.now) (world c.loop-x.store) (world c.number_of.new.store) c.args.turns.now c.loop-x.turns c.loop-x.invariant rest is (Ok c.in-Ok.x) c.in-Ok.ensures.reads c.in-Ok.x refl c.in-Decide.under c.in-Decide.is (c.if-not-as_logical.ensures ∙ ap as_logical value) c.in-Some.next.code.now c.in-Some.next.purpose (λ s acts. c.in-Some.ensures.begins p s c.args.line acts) c.take_turn.new.turns c.if-not-take_turn.ensures.0 c.if-not-take_turn.ensures.1
 
 pub loop-x-smaller : goal.loop-x-smaller
@@ -93,7 +91,7 @@ loop-x-preserved g c =
     let inv = c.loop-x.invariant in
     let code = c.loop-x.part.code.now in
     let fits : FitsSigned w32 c.in-Ok.x = search rules in
-    let value = c.value_by.ensures ∙ ap (λ b. value_at b (to_z w32 (of_z w32 c.in-Ok.x))) c.is_logical-in-Decide.ensures ∙ ap (value_at (leaves_logical code)) (to_z-of_z w32 c.in-Ok.x fits) in
+    let value = c.value_by.ensures ∙ ap (λ b. value_at b (to_z w32 (of_z w32 c.in-Ok.x))) c.is_logical.ensures ∙ ap (value_at (leaves_logical code)) (to_z-of_z w32 c.in-Ok.x fits) in
     let taken = c.if-not-take_turn.ensures in
     let fewer = inv.fewer in
     record {
@@ -109,5 +107,5 @@ returns-in-None-clause-does g c = λ rest is.
     let world = g.S.Store.world in
     let code = c.loop-x.part.code.now in
     let fits : FitsSigned w32 c.in-Ok.x = search rules in
-    let value = c.value_by.ensures ∙ ap (λ b. value_at b (to_z w32 (of_z w32 c.in-Ok.x))) c.is_logical-in-Decide.ensures ∙ ap (value_at (leaves_logical code)) (to_z-of_z w32 c.in-Ok.x fits) in
+    let value = c.value_by.ensures ∙ ap (λ b. value_at b (to_z w32 (of_z w32 c.in-Ok.x))) c.is_logical.ensures ∙ ap (value_at (leaves_logical code)) (to_z-of_z w32 c.in-Ok.x fits) in
     code_decides c.args.program.now c.args.line c.args.first c.loop-x.part (world c.args.store.now) (world c.loop-x.store) (world c.number_of.new.store) c.args.turns.now c.loop-x.turns c.loop-x.invariant rest is (Ok c.in-Ok.x) c.in-Ok.ensures.reads c.in-Ok.x refl c.in-Decide.under c.in-Decide.is (c.if-not-as_logical.ensures ∙ ap as_logical value) (world c.run_bare.new.store) c.run_bare.new.turns c.run_bare.result c.run_bare.ensures.later c.run_bare.ensures.reads

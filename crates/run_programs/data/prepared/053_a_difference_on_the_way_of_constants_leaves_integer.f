@@ -1,0 +1,6 @@
+      IMPLICIT INTEGER (A-Z)
+      DO 20 I=1,5
+      J=6-I
+      K=J*J-2147483640-10+100
+   20 CONTINUE
+      END
