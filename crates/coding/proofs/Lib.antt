@@ -6,3 +6,4 @@ pub mod Listing
 pub mod Ordered
 pub mod Adding
 pub mod Lowered
+pub mod Turned

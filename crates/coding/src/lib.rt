@@ -2,6 +2,8 @@
 //! and 15).
 #![tactic(auto)]
 
+mod arms;
+mod assigning;
 mod codes;
 mod functions;
 mod items;

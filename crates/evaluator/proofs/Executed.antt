@@ -242,7 +242,7 @@ module _ (scope : Scope) (first : Bool) (x : ItemTree) (m : Map) (t : ℕ) where
       or-true false = refl
 
   module _ (e : ExprTree) (is : condition_of x.shape ≡ Some e) where
-    tests-if : (go : Bool → ℕ → Ran) → does go ≡ condition scope e x.line m t go
+    pub tests-if : (go : Bool → ℕ → Ran) → does go ≡ condition scope e x.line m t go
     unfolding tested
     tests-if go =
         ap (λ b. turn_if b x.line m t (λ u. with_ok (holds scope (condition_of x.shape) m) x.line m (λ b. go b u))) (or-some e (condition_of x.shape) is) ∙ ap (λ c. turn x.line m t (λ u. with_ok (holds scope c m) x.line m (λ b. go b u))) is
@@ -253,7 +253,7 @@ module _ (scope : Scope) (first : Bool) (x : ItemTree) (m : Map) (t : ℕ) where
         λ go. subst (λ r. Leaves r t m u (outcomes.Fault f)) (sym (tests-if go)) (h go)
 
   module _ (is : condition_of x.shape ≡ None) where
-    tests-else : (b : Bool) → first ≡ b → (go : Bool → ℕ → Ran) → does go ≡ turn_if (b || false) x.line m t (λ u. go true u)
+    pub tests-else : (b : Bool) → first ≡ b → (go : Bool → ℕ → Ran) → does go ≡ turn_if (b || false) x.line m t (λ u. go true u)
     unfolding tested with_ok
     tests-else b f go =
         ap (λ c. turn_if (first || is_some c) x.line m t (λ u. with_ok (holds scope c m) x.line m (λ b. go b u))) is ∙ ap (λ b. turn_if (b || false) x.line m t (λ u. go true u)) f

@@ -10,6 +10,7 @@ pub mod Sliced
 pub mod Looped
 pub mod Repeated
 pub mod Onwards
+pub mod Counted
 pub mod Standing
 pub mod Parted
 pub mod Parts

@@ -11,7 +11,7 @@ use Rattle.postfix.specs.declared.prepared.Reached.TheVariants as reached
 use Rattle.postfix.specs.Endings.{ended}
 use Rattle.postfix.specs.Machine.{calls_to, run}
 use Rattle.postfix.specs.Orders.{acts}
-use Rattle.postfix.specs.Within.{AreReady, IsEndingWithin}
+use Rattle.postfix.specs.Within.{AreFew, AreReady, IsEndingWithin}
 use Rattle.postfix.specs.Reached.{IsReached}
 use Rattle.programs.specs.Codes.{callable_in}
 use Rattle.programs.specs.Kept.{AreFunctions}
@@ -26,6 +26,7 @@ reached_in t n k fs u v os (reached.Number x e rest) many all have h =
       end = h.end;
       fits = subst (λ j. AreReady j (acts rest.now)) many h.ready;
       within = subst (λ j. IsEndingWithin j (ended e)) many h.within;
+      few = subst AreFew many h.few;
       fewer = h.fewer;
     }
 reached_in t n k fs u v os reached.Otherwise many all have h = h
