@@ -17,7 +17,7 @@ use Rattle.meaning.specs.Uses.{Roles, is_array, is_other, roles_of, uses_at}
 use Rattle.meaning.specs.Values.{Known, dimensions_in}
 use Rattle.roles.specs.TypedNames.{typed_names}
 use Rattle.roles.proofs.Firsts.{declared_append}
-use Rattle.roles.proofs.NameSets.{any_with_names}
+use Rattle.name_maps.proofs.NameSets.{any_with_names}
 use Rattle.checker.specs.Entries.{names_given}
 use Rattle.numbering.specs.Kept.{array_of}
 use Rattle.numbering.specs.Numbered.{appearing_by, is_variable, names_at, names_from, variables_of, with_those}

@@ -5,14 +5,14 @@ use Rattle.meaning.specs.Rules.{checked}
 use Rattle.meaning.specs.Syntax.{exprs_tree, no_exprs}
 use Rattle.meaning.specs.Trees.{members_tree, nested}
 use Rattle.landmarks.specs.Landmarked.{AreLandmarks}
-use Rattle.roles.specs.Keeping.{kept_at}
+use Rattle.name_maps.specs.Keeping.{kept_at}
 use Rattle.statement_rules.specs.declared.reading.Formats.{Formats}
 use Rattle.statement_rules.specs.FormatsFound.{HoldsFormats}
 use Rattle.checker.specs.declared.rules.Kept.{Kept}
 use Rattle.numbering.specs.Agreed.{IsNumbered}
 use Rattle.checker.specs.Built.{parts_by}
 use Rattle.numbering.specs.Checked.{items_in, names_in}
-use Rattle.numbering.specs.FunctionsFound.{AreFound}
+use Rattle.appearances.specs.FunctionsFound.{AreFound}
 use Rattle.checker.proofs.Building.{Naming}
 use Rattle.checker.proofs.Ruled.{functions_at}
 

@@ -20,7 +20,7 @@ use Rattle.meaning.specs.Values.{Arrays, dimensions_in}
 use Rattle.meaning.proofs.Elements.{one_to_one}
 use Rattle.array_store.specs.Whole.{world_of}
 use Rattle.roles.specs.declared.names.Roles.{Roles}
-use Rattle.roles.specs.Keeping.{kept_at}
+use Rattle.name_maps.specs.Keeping.{kept_at}
 use Rattle.roles.specs.Listed.{trees_at}
 use Rattle.roles.specs.RolesAt.{roles_at}
 use Rattle.roles.specs.TypedNames.{implicit_parts, letter_type, typed_names}
@@ -31,7 +31,7 @@ use Rattle.k_rules.specs.Judged.{arrays_in, constant_in, starts_in}
 use Rattle.numbering.specs.declared.parts.Entry.{Entry}
 use Rattle.numbering.specs.declared.parts.Storage.{Storage}
 use Rattle.checker.specs.declared.rules.Names.{Names}
-use Rattle.numbering.specs.Appearing.{variables_at}
+use Rattle.appearances.specs.Appearing.{variables_at}
 use Rattle.checker.specs.Built.{AreNames, count_at}
 use Rattle.numbering.specs.Checked.{count_in, items_in, names_in}
 use Rattle.checker.specs.Entries.{Placed, Said, described, first_of, names_given, place_from, placed, said, stored}

@@ -19,11 +19,12 @@ use Rattle.meaning.specs.Values.{dimensions_in}
 use Rattle.expressions.specs.declared.dimension.Dimension.{Dimension as Own}
 use Rattle.expressions.specs.Dimensions.{dimension}
 use Rattle.roles.specs.declared.names.Roles.{Roles}
-use Rattle.roles.specs.Keeping.{kept_at}
+use Rattle.name_maps.specs.Keeping.{kept_at}
 use Rattle.roles.specs.Listed.{tree_at, trees_at}
-use Rattle.roles.specs.NameSets.{texts}
+use Rattle.name_maps.specs.NameSets.{texts}
 use Rattle.roles.proofs.Defining.{map_or}
-use Rattle.roles.proofs.Firsts.{kept_new, kept_there, or_grouped, or_nothing}
+use Rattle.name_maps.proofs.FirstKept.{kept_new, kept_there}
+use Rattle.roles.proofs.Firsts.{or_grouped, or_nothing}
 use Rattle.roles.proofs.Passes.{map_more, flat_map_last}
 use Rattle.k_rules.specs.declared.verdict.Facts.{Facts}
 use Rattle.k_rules.specs.Judged.{arrays_in}

@@ -23,7 +23,7 @@ use Rattle.meaning.specs.Values.{Arrays}
 use Rattle.roles.proofs.Passes.{flat_map_last}
 use Rattle.roles.proofs.Staging.{behind_one, stands_before}
 use Rattle.numbering.specs.declared.parts.FunctionAt.{FunctionAt}
-use Rattle.numbering.specs.FunctionsFound.{IsFoundAt}
+use Rattle.appearances.specs.FunctionsFound.{IsFoundAt}
 use Rattle.numbering.specs.Kept.{IsFunctionAt, shown_at, shown_by}
 use Rattle.numbering.proofs.Unbroken.{none_front, nothing_broken}
 

@@ -24,7 +24,7 @@ use Rattle.indexmap.specs.IndexMap.{IndexMap}
 use Rattle.numbering.specs.declared.parts.Entry.{Entry}
 use Rattle.checker.specs.Entries.{AreSaid}
 use Rattle.checker.specs.Given.{HasCells, starts_by}
-use Rattle.numbering.specs.Appearing.{variables_at}
+use Rattle.appearances.specs.Appearing.{variables_at}
 use Rattle.numbering.specs.Numbered.{named}
 
 abbrev pub count_at : Facts → Roles → ℕ

@@ -17,9 +17,9 @@ use Rattle.std.specs.Borrow.{Bor}
 use Rattle.meaning.specs.Syntax.{ShapeTree, constant_tree, declarator_tree, shape_tree}
 use Rattle.meaning.specs.Values.{dimensions_in}
 use Rattle.roles.specs.declared.names.Roles.{Roles}
-use Rattle.roles.specs.Keeping.{kept_at}
+use Rattle.name_maps.specs.Keeping.{kept_at}
 use Rattle.roles.specs.Listed.{trees_at}
-use Rattle.roles.specs.NameSets.{texts}
+use Rattle.name_maps.specs.NameSets.{texts}
 use Rattle.roles.specs.RolesAt.{roles_at}
 use Rattle.k_rules.specs.declared.verdict.Facts.{Facts}
 use Rattle.k_rules.specs.Judged.{arrays_in, constant_in}

@@ -5,7 +5,7 @@ ghost use Rattle.meaning.specs.Arrays.{cells_of, size};
 ghost use Rattle.meaning.specs.Scopes.{constants_in};
 ghost use Rattle.meaning.specs.Syntax.{constant_tree, shape_tree};
 ghost use Rattle.expressions.specs.Dimensions.{dimension};
-ghost use Rattle.roles.specs.NameSets.{texts};
+ghost use Rattle.name_maps.specs.NameSets.{texts};
 ghost use Rattle.k_rules.specs.Judged.{constant_in};
 ghost use Rattle.checker.specs.Entries.{AddsOne, AddsCells, AreSaid, AreStored, Tells, given_in, cells_at, declared, defined, dimensions_at, given, named_by, said};
 

@@ -3,7 +3,7 @@
 ghost use Rattle.std.specs.Prelude.{◌≡◌, ◌++◌, ◌<◌, ◌^◌, map, IfOk, OnOk};
 ghost use Rattle.std.specs.List.{AllByRecursion, range_with_len};
 ghost use Rattle.data_rules.specs.Slots.{slot_at};
-ghost use Rattle.roles.specs.NameSets.{texts};
+ghost use Rattle.name_maps.specs.NameSets.{texts};
 ghost use Rattle.checker.specs.Entries.{cells_at, said};
 ghost use Rattle.checker.specs.Given.{HasCells, first_placed, firsts_in, number_given, starts_by, values_in, values_of};
 

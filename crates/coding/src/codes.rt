@@ -4,7 +4,8 @@ ghost use Rattle.std.specs.Prelude.{◌≡◌, IfOk, option_map};
 ghost use Rattle.meaning.specs.Syntax.{expr_tree, limits_tree};
 ghost use Rattle.programs.specs.Codes.{AreLimits, IsCell, IsCode, IsCodeIf};
 
-use compiler::{Frame, NoCode, Scene, code_of, is_logical};
+use code_laws::NoCode;
+use compiler::{Frame, Scene, code_of, is_logical};
 use expressions::Numbering;
 use meaning::syntax::{Expr, Exprs, Limits};
 use numbering::Program;

@@ -4,7 +4,8 @@ ghost use Rattle.std.specs.Prelude.{IfOk};
 ghost use Rattle.programs.specs.Kept.{AreFunctions};
 ghost use Rattle.coding.specs.Functions.{AreFirst, IsBodyCode};
 
-use compiler::{NoCode, Scene, code_of};
+use code_laws::NoCode;
+use compiler::{Scene, code_of};
 use expressions::{Function, Numbering};
 use meaning::syntax::{Item, Shape};
 use numbering::Program;

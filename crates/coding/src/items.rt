@@ -6,7 +6,7 @@ ghost use Rattle.programs.specs.Items.{AreItems, IsItem, IsWholeArray, StandsFor
 ghost use Rattle.coding.specs.Lists.{AreEach, codes_in};
 
 use crate::codes::{code_in, repeat_in};
-use compiler::NoCode;
+use code_laws::NoCode;
 use expressions::{Cells, Numbering};
 use meaning::syntax::{DataType, Expr, Limits, ListItem, ListItems};
 use numbering::Program;

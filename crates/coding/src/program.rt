@@ -11,7 +11,7 @@ ghost use Rattle.programs.specs.Listed.{HasOrders};
 use crate::functions::functions_of;
 use crate::lists::lists_of;
 use crate::statement::action_of;
-use compiler::NoCode;
+use code_laws::NoCode;
 use meaning::syntax::Item;
 use numbering::Program;
 use postfix::Code;

@@ -7,7 +7,7 @@ ghost use Rattle.meaning.specs.Formats.{undoubled};
 ghost use Rattle.meaning.specs.Syntax.{stop_tree, stopping};
 ghost use Rattle.programs.specs.Acts.{Acts};
 
-use compiler::NoCode;
+use code_laws::NoCode;
 use meaning::ending::StopMessage;
 use meaning::syntax::StopText;
 use programs::Action;

@@ -16,9 +16,10 @@ use Rattle.expressions.specs.Calls.{most, IsCallable}
 use Rattle.expressions.specs.Glossaries.{Glossary, scope_in, before}
 use Rattle.expressions.specs.Names.{definition_by}
 use Rattle.expressions.proofs.Calls.{function_of, its_call, dummies_enough}
+use Rattle.code_laws.specs.Kinds.{is_truth, HasKind}
 use Rattle.compiler.specs.declared.kinds.Frame.{Frame}
 use Rattle.compiler.specs.declared.kinds.Kept.{Kept}
-use Rattle.compiler.specs.Kinds.{is_truth, HasKind, IsKind, IsCallKind, IsDummyKind, KeepsKinds, is_arithmetic, is_logical_type, kept_kinds}
+use Rattle.compiler.specs.Kinds.{IsKind, IsCallKind, IsDummyKind, KeepsKinds, is_arithmetic, is_logical_type, kept_kinds}
 use Rattle.compiler.proofs.Kinded.{number_kind, truth_kind, signed_kind, negated_kind, binary_kind, paren_kind, call_kind, element_kind, element_call_kind, intrinsic_call_kind, function_call_kind, known_kind, typed_name_kind}
 use Rattle.compiler.proofs.Kept.{map_take, no_arguments, more_arguments}
 

@@ -9,7 +9,8 @@ use Rattle.meaning.specs.Scopes.{with_dummies}
 use Rattle.meaning.specs.Values.{Known, Scope, value, arguments, and_then}
 use Rattle.std.specs.Borrow.{Bor}
 use Rattle.expressions.specs.Calls.{most, IsNameIn}
-use Rattle.compiler.specs.Kinds.{is_truth, HasKind, IsDummyKind}
+use Rattle.code_laws.specs.Kinds.{is_truth, HasKind}
+use Rattle.compiler.specs.Kinds.{IsDummyKind}
 
 -- ---- the first so many
 

@@ -19,7 +19,8 @@ use Rattle.meaning.specs.Maps.{Map}
 use Rattle.meaning.specs.Scopes.{intrinsic_call}
 use Rattle.meaning.specs.Values.{Scope, Valued, value, subscripts, arguments, called, and_then, integer, is_integer, as_integer, as_logical, logical, with_sign, typed, operated, raised, decided, unless_decided}
 use Rattle.expressions.specs.Calls.{call_value}
-use Rattle.compiler.specs.Kinds.{is_truth, HasKind, is_arithmetic, is_logical_type}
+use Rattle.code_laws.specs.Kinds.{is_truth, HasKind}
+use Rattle.compiler.specs.Kinds.{is_arithmetic, is_logical_type}
 
 ok_kind : (w : Value) → HasKind (Ok w) (is_truth w)
 ok_kind w v h = let same : w ≡ v = cc in ap is_truth (sym same)

@@ -5,7 +5,6 @@ pub mod Single
 pub mod Calls
 pub mod Room
 pub mod Forms
-pub mod Functions
 pub mod Subscripts
 pub mod Places
 pub mod Fused

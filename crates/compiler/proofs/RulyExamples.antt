@@ -7,7 +7,7 @@ use Rattle.meaning.specs.Scopes.{Definition, calls_by}
 use Rattle.meaning.specs.Syntax.{number, name, binary, element, ExprsTree, no_exprs, exprs}
 use Rattle.meaning.specs.declared.syntax.Operator.TheVariants.{Add}
 use Rattle.expressions.specs.Glossaries.{nothing_named}
-use Rattle.compiler.specs.Meant.{Setting}
+use Rattle.code_laws.specs.Meant.{Setting}
 use Rattle.compiler.specs.Ruly.{IsCall, IsRuly, Keeps}
 
 abbrev alone : Setting

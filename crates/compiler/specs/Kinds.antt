@@ -1,7 +1,6 @@
 -- Whether the values of expressions are LOGICAL ones (ANSI X3.9-1978, 6.1, 6.3, 6.4, 15.2 and 15.4).
 use Rattle.std.specs.Prelude.{◌≡◌, ℕ, Bool, true, false, List, take, map, ◌++◌, Option, Some, None, Ok}
 use Rattle.meaning.specs.declared.ending.Value.{Value}
-use Rattle.meaning.specs.declared.ending.Value.TheVariants as values
 use Rattle.meaning.specs.declared.syntax.DataType.{DataType}
 use Rattle.meaning.specs.declared.syntax.DataType.TheVariants as types
 use Rattle.meaning.specs.declared.syntax.Operator.{Operator}
@@ -9,19 +8,12 @@ use Rattle.meaning.specs.declared.syntax.Operator.TheVariants.{Power, Multiply, 
 use Rattle.meaning.specs.Maps.{Map}
 use Rattle.meaning.specs.Scopes.{listed, with_dummies}
 use Rattle.meaning.specs.Syntax.{ExprTree, ExprsTree, exprs_tree}
-use Rattle.meaning.specs.Values.{Known, Scope, Valued, value, arguments}
+use Rattle.meaning.specs.Values.{Known, Scope, value, arguments}
 use Rattle.expressions.specs.Calls.{call_value, most}
 use Rattle.expressions.specs.Glossaries.{Glossary, scope_in}
+use Rattle.code_laws.specs.Kinds.{is_truth, HasKind}
 use Rattle.compiler.specs.declared.kinds.Frame.{Frame}
 use Rattle.compiler.specs.declared.kinds.Kept.{Kept}
-
-abbrev pub is_truth : Value → Bool
-is_truth (values.Bool b) = true
-is_truth (values.Int z) = false
-
--- a value, if there is one, is of this kind
-abbrev pub HasKind : Valued → Bool → Type 0
-HasKind r b = (v : Value) → r ≡ Ok v → is_truth v ≡ b
 
 -- an operator's value is a number
 abbrev pub is_arithmetic : Operator → Bool

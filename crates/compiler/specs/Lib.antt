@@ -1,6 +1,5 @@
 pub mod Meant
 pub mod Coded
-pub mod Functions
 pub mod Ruly
 pub mod Within
 pub mod Kinds

@@ -9,10 +9,8 @@ mod fusing;
 mod kinds;
 pub mod laws;
 mod leaves;
-mod no_code;
 mod scene;
 
 pub use code::{code_of, place_of};
 pub use kinds::{Frame, is_logical};
-pub use no_code::NoCode;
 pub use scene::Scene;

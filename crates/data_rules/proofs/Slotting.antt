@@ -13,7 +13,7 @@ use Rattle.meaning.specs.declared.ending.Value.{Value}
 use Rattle.meaning.specs.Types.{Types}
 use Rattle.meaning.specs.Typing.{SomeType, clash}
 use Rattle.meaning.specs.Initial.{and_also, value_type}
-use Rattle.roles.specs.Keeping.{kept_at}
+use Rattle.name_maps.specs.Keeping.{kept_at}
 use Rattle.data_rules.specs.DataSlots.{Slots, give_next, give_slot, give_slots, with_next, with_slot}
 use Rattle.data_rules.specs.DataStages.{Found, Stage, first_of, give, give_places, give_value, with_found, with_given}
 use Rattle.data_rules.specs.Filled.{Comes}

@@ -18,8 +18,8 @@ use Rattle.meaning.specs.Syntax.{DeclaratorTree, ItemTree, bounds_tree, declarat
 use Rattle.meaning.specs.Types.{Types}
 use Rattle.meaning.specs.Values.{Known}
 use Rattle.meaning.specs.Scopes.{arrays_from, declarators_in, dimension_of, dimensions_in, gives_bounds, known_behind, known_of, nothing_known, or_dimensions}
-use Rattle.roles.specs.Keeping.{kept_at}
-use Rattle.roles.proofs.Firsts.{kept_new}
+use Rattle.name_maps.specs.Keeping.{kept_at}
+use Rattle.name_maps.proofs.FirstKept.{kept_new}
 use Rattle.roles.proofs.Passes.{map_more}
 use Rattle.expressions.specs.declared.dimension.Dimension.{Dimension}
 use Rattle.declarations.specs.ArraysKept.{arrays_kept, dimensions_of}

@@ -14,7 +14,7 @@ use Rattle.meaning.specs.Syntax.{ItemTree, constant_tree, expr_tree}
 use Rattle.meaning.specs.Types.{Types}
 use Rattle.meaning.specs.Values.{Known}
 use Rattle.meaning.specs.Scopes.{constant_value, known_behind, known_of, nothing_known, with_constant}
-use Rattle.roles.specs.Keeping.{kept_at}
+use Rattle.name_maps.specs.Keeping.{kept_at}
 use Rattle.roles.proofs.Passes.{map_more}
 use Rattle.declarations.specs.KnownNames.{known_in, value_kept, with_name}
 

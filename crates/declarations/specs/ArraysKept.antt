@@ -10,7 +10,7 @@ use Rattle.meaning.specs.Syntax.{declarator_tree}
 use Rattle.meaning.specs.Uses.{Roles}
 use Rattle.meaning.specs.Values.{Arrays, Known}
 use Rattle.roles.specs.declared.names.Roles.{Roles as Kept}
-use Rattle.roles.specs.Keeping.{kept_at}
+use Rattle.name_maps.specs.Keeping.{kept_at}
 use Rattle.roles.specs.RolesAt.{roles_at}
 use Rattle.rule_passes.specs.Listed.{tree_at}
 use Rattle.expressions.specs.declared.dimension.Dimension.{Dimension}

@@ -5,7 +5,7 @@ use Rattle.std.specs.Str.{bytes_eq}
 use Rattle.indexmap.specs.IndexMap.{IndexMap}
 use Rattle.meaning.specs.declared.ending.Value.{Value}
 use Rattle.meaning.specs.Values.{Known}
-use Rattle.roles.specs.Keeping.{kept_at}
+use Rattle.name_maps.specs.Keeping.{kept_at}
 
 -- the value that is kept under a name, if there is one
 abbrev pub value_kept : Option (Option Value) → Option Value

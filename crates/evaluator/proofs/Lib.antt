@@ -4,8 +4,12 @@ pub mod Composed
 pub mod Turning
 pub mod Executed
 pub mod Picked
+pub mod Remaining
+pub mod Leading
 pub mod Preparing
+pub mod Arms
 pub mod Going
+pub mod Closed
 pub mod Sliced
 pub mod Looped
 pub mod Repeated

@@ -6,7 +6,7 @@ use Rattle.std.specs.Str.{bytes_eq}
 use Rattle.std.specs.Global.{Vec}
 use Rattle.std.proofs.lemmas.List.{reverse-append}
 use Rattle.indexmap.specs.IndexMap.{IndexMap}
-use Rattle.roles.specs.Keeping.{kept_at}
+use Rattle.name_maps.specs.Keeping.{kept_at}
 use Rattle.function_rules.specs.declared.measures.Measure.{Measure}
 use Rattle.meaning.specs.NameRules.{breaks_function_rules, defined_here, greatest, has_bad_dummies, is_bad_definition, level_by, nodes_by, nodes_in, sets_no_array, uses_dummy_as_function}
 use Rattle.meaning.specs.Scopes.{Definition, defined_before, defined_by, definitions_of, is_specification}

@@ -6,7 +6,7 @@ use Rattle.std.specs.Map.{lookup}
 use Rattle.std.specs.Str.{bytes_eq}
 use Rattle.std.proofs.lemmas.Slice.Eq.{bytes_eq-Decides}
 use Rattle.indexmap.specs.IndexMap.{IndexMap, insert_entry}
-use Rattle.roles.specs.Keeping.{kept_at}
+use Rattle.name_maps.specs.Keeping.{kept_at}
 
 module _ {V : Type 0} (n : List ℕ) (own : Vec ℕ) (v : V) where
   looked_put : (es : List (Vec ℕ × V)) → lookup (λ k. bytes_eq n k.items) (insert_entry (λ a b. bytes_eq a.items b.items) es own v) ≡ (if bytes_eq n own.items then Some v else lookup (λ k. bytes_eq n k.items) es)

@@ -11,7 +11,7 @@ use Rattle.roles.specs.declared.names.Roles.{Roles}
 use Rattle.roles.specs.declared.stage.Stage.{Stage}
 use Rattle.name_uses.specs.declared.uses.NameUse.{NameUse}
 use Rattle.roles.specs.Functions.{definition_at}
-use Rattle.roles.specs.Keeping.{kept_at}
+use Rattle.name_maps.specs.Keeping.{kept_at}
 use Rattle.roles.specs.RolesAt.{roles_at}
 use Rattle.roles.specs.Stages.{IsBehind}
 use Rattle.name_uses.specs.UsesAt.{uses_at}

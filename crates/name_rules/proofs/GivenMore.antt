@@ -11,7 +11,7 @@ use Rattle.meaning.specs.Syntax.{DeclaratorTree, ItemTree}
 use Rattle.meaning.specs.Types.{typed_as}
 use Rattle.meaning.specs.NameRules.{Given, given_by, given_from, given_twice, has_two_roles, is_logical_type}
 use Rattle.meaning.specs.Uses.{Roles, is_defining, is_one_of}
-use Rattle.roles.specs.NameSets.{texts, with_names}
+use Rattle.name_maps.specs.NameSets.{texts, with_names}
 use Rattle.roles.proofs.Passes.{flat_map_last}
 use Rattle.name_uses.specs.Held.{Holds}
 use Rattle.name_rules.specs.HeldNames.{HoldsGiven, is_given_twice, is_two_things}

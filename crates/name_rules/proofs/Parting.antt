@@ -10,8 +10,8 @@ use Rattle.std.proofs.lemmas.List.Folds.{list_any-append}
 use Rattle.meaning.specs.Syntax.{ItemTree}
 use Rattle.meaning.specs.NameRules.{is_both, is_function_use, is_intrinsic_use, is_logical_function, is_variable_use, logical_names, names_used}
 use Rattle.meaning.specs.Uses.{Parts, Roles, Use, is_one_of, joined, parts_at, parts_from}
-use Rattle.roles.specs.NameSets.{texts, with_names}
-use Rattle.roles.proofs.NameSets.{any_with_names}
+use Rattle.name_maps.specs.NameSets.{texts, with_names}
+use Rattle.name_maps.proofs.NameSets.{any_with_names}
 use Rattle.roles.proofs.Passes.{flat_map_last}
 use Rattle.name_uses.specs.Held.{Holds}
 use Rattle.name_rules.specs.HeldNames.{HoldsLogical, HoldsUsed}

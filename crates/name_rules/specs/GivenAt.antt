@@ -7,7 +7,7 @@ use Rattle.meaning.specs.NameRules.{Given, given_from}
 use Rattle.meaning.specs.Syntax.{ItemTree}
 use Rattle.roles.specs.declared.names.Roles.{Roles}
 use Rattle.roles.specs.declared.stage.Stage.{Stage}
-use Rattle.roles.specs.NameSets.{texts}
+use Rattle.name_maps.specs.NameSets.{texts}
 use Rattle.roles.specs.RolesAt.{roles_at}
 use Rattle.roles.specs.Stages.{IsBehind}
 use Rattle.name_rules.specs.declared.given.Given.{Given as Found}

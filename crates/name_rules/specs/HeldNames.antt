@@ -8,7 +8,7 @@ use Rattle.meaning.specs.declared.syntax.Shape.{Shape}
 use Rattle.meaning.specs.Syntax.{ItemTree, shape_tree}
 use Rattle.meaning.specs.Uses.{Roles, is_one_of, parts_from}
 use Rattle.roles.specs.declared.names.Roles.{Roles as Kept}
-use Rattle.roles.specs.NameSets.{texts}
+use Rattle.name_maps.specs.NameSets.{texts}
 use Rattle.roles.specs.RolesAt.{roles_at}
 use Rattle.roles.specs.Stages.{IsBehind}
 use Rattle.name_uses.specs.Held.{Holds, names_at}

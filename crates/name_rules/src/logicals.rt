@@ -4,7 +4,7 @@ ghost use Rattle.std.specs.Prelude.{◌≡◌, IfOk, OnOk};
 ghost use Rattle.meaning.specs.NameRules.{is_intrinsic_use as is_intrinsic_use_by};
 ghost use Rattle.meaning.specs.Refusals.{least};
 ghost use Rattle.meaning.specs.Syntax.{shape_tree};
-ghost use Rattle.roles.specs.NameSets.{texts};
+ghost use Rattle.name_maps.specs.NameSets.{texts};
 ghost use Rattle.roles.specs.RolesAt.{roles_at};
 ghost use Rattle.name_rules.specs.Disputed.{is_logical_intrinsic};
 ghost use Rattle.rule_passes.specs.Telling.{IsLeast};

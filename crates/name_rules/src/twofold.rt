@@ -3,7 +3,7 @@
 ghost use Rattle.std.specs.Prelude.{◌≡◌, IfOk, OnOk};
 ghost use Rattle.meaning.specs.NameRules.{is_function_use as is_function_use_by, is_variable_use as is_variable_use_by};
 ghost use Rattle.meaning.specs.Refusals.{least};
-ghost use Rattle.roles.specs.NameSets.{texts};
+ghost use Rattle.name_maps.specs.NameSets.{texts};
 ghost use Rattle.roles.specs.RolesAt.{roles_at};
 ghost use Rattle.name_rules.specs.Disputed.{is_used_twofold};
 ghost use Rattle.name_uses.specs.Held.{AreNames, Joins};

@@ -8,8 +8,8 @@ use Rattle.std.proofs.lemmas.List.{drop_more, drop_all, get_or_default}
 use Rattle.std.proofs.lemmas.List.Folds.{list_any-append}
 use Rattle.meaning.specs.NameRules.{repeats}
 use Rattle.meaning.specs.Uses.{is_one_of}
-use Rattle.roles.specs.NameSets.{texts, with_name, with_names}
-use Rattle.roles.proofs.NameSets.{any_with_names}
+use Rattle.name_maps.specs.NameSets.{texts, with_name, with_names}
+use Rattle.name_maps.proofs.NameSets.{any_with_names}
 use Rattle.name_uses.specs.Held.{Holds, names_at}
 
 -- ---- sets

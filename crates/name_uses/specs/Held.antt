@@ -5,7 +5,7 @@ use Rattle.std.specs.Global.{Vec}
 use Rattle.indexmap.specs.IndexSet.{IndexSet}
 use Rattle.meaning.specs.Uses.{Use, is_one_of}
 use Rattle.name_uses.specs.declared.uses.NameUse.{NameUse}
-use Rattle.roles.specs.NameSets.{texts, with_names}
+use Rattle.name_maps.specs.NameSets.{texts, with_names}
 use Rattle.name_uses.specs.UsesAt.{uses_at}
 
 -- names behind references

@@ -4,13 +4,13 @@ ghost use Rattle.std.specs.Prelude.{◌≡◌, IfOk, OnOk};
 ghost use Rattle.std.specs.List.{list_any};
 ghost use Rattle.meaning.specs.NameRules.{names_used, repeats as repeats_among};
 ghost use Rattle.meaning.specs.Uses.{is_one_of};
-ghost use Rattle.roles.specs.NameSets.{texts};
+ghost use Rattle.name_maps.specs.NameSets.{texts};
 ghost use Rattle.name_uses.specs.UsesAt.{uses_at};
 ghost use Rattle.name_uses.specs.Held.{Adds, AreNames, Holds, names_at};
 
 use crate::uses::{NameUse, Sought};
 use indexmap::IndexSet;
-use roles::{add_name, has_name};
+use name_maps::{add_name, has_name};
 use std::alloc::{AllocError, Global};
 
 /// Puts names to those that were seen.

@@ -12,7 +12,7 @@ use Rattle.expressions.specs.declared.numbering.Cells.{Cells}
 use Rattle.expressions.specs.declared.place.Place.{Place}
 use Rattle.numbering.specs.declared.parts.Storage.{Storage}
 use Rattle.numbering.specs.Checked.{names_in, numbers_in, count_in}
-use Rattle.roles.specs.Keeping.{kept_at}
+use Rattle.name_maps.specs.Keeping.{kept_at}
 use Rattle.numbering.specs.declared.parts.Entry.{Entry}
 use Rattle.numbering.specs.declared.parts.Parts.{Parts}
 use Rattle.numbering.specs.Agreed.{IsNumbered}

@@ -13,7 +13,7 @@ use Rattle.format_edit.specs.declared.format.Format.{Format}
 use Rattle.format_edit.specs.Constants.{constant_format}
 use Rattle.format_edit.specs.Formatted.{descriptors}
 use Rattle.landmarks.specs.Landmarked.{AreLandmarks}
-use Rattle.roles.specs.Keeping.{kept_at}
+use Rattle.name_maps.specs.Keeping.{kept_at}
 use Rattle.numbering.specs.declared.parts.Parts.{Parts}
 use Rattle.numbering.specs.Checked.{items_in, names_in, count_in}
 use Rattle.numbering.specs.Starts.{map_of, start_in}

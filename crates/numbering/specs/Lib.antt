@@ -1,7 +1,5 @@
 pub mod Agreed
-pub mod Appearing
 pub mod Checked
-pub mod FunctionsFound
 pub mod Kept
 pub mod Numbered
 pub mod Starts

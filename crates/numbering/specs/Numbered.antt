@@ -7,7 +7,7 @@ use Rattle.meaning.specs.Arrays.{Named}
 use Rattle.meaning.specs.Values.{Arrays, dimensions_in}
 use Rattle.meaning.specs.Scopes.{declarators_in, arrays_of}
 use Rattle.meaning.specs.Uses.{Roles, roles_of, is_array, is_other, uses_at}
-use Rattle.roles.specs.NameSets.{with_names}
+use Rattle.name_maps.specs.NameSets.{with_names}
 
 -- the names that a statement declares, and then those that it sets and has values of
 abbrev pub names_at : Roles → List ItemTree → ItemTree → List (List ℕ)

@@ -114,7 +114,7 @@ impl<'a> View<'a> {
 impl<'a> Store for View<'a> {
     ghost world = { world_seen };
 
-    #[inline(always)]
+    #[inline(never)]
     fn read(&mut self, cell: Cell) -> i32 {
         match self.front.value(cell.0) {
             Some(value) => value,

@@ -6,7 +6,7 @@ ghost use Rattle.programs.specs.Kept.{Adds, IsNowhere, StayIn, action_at, told_i
 
 use crate::Action;
 use crate::action::silence;
-use compiler::NoCode;
+use code_laws::NoCode;
 use meaning::ending::StopMessage;
 use std::alloc::Global;
 

@@ -1,78 +1,30 @@
 -- The first value that statements give a name.
-use Rattle.std.proofs.Common.{◌≡◌, ℕ, ◌+◌, ◌<◌, Bool, true, false, List, [], ◌∷◌, ◌++◌, length, get_or, take, map, Option, Some, None, refl, sym, ap, subst, ◌∙◌, cond, arith}
-use Rattle.std.specs.Prelude.{if◌then◌else◌, is_some}
+use Rattle.std.proofs.Common.{◌≡◌, ℕ, ◌+◌, ◌<◌, Bool, true, false, List, [], ◌∷◌, ◌++◌, length, get_or, take, map, Option, Some, None, refl, sym, ap, subst, ◌∙◌, arith}
+use Rattle.std.specs.Prelude.{if◌then◌else◌}
 use Rattle.std.specs.Option.{option_or}
-use Rattle.std.specs.Global.{Vec}
-use Rattle.std.specs.Map.{lookup}
 use Rattle.std.specs.Str.{bytes_eq}
-use Rattle.std.proofs.lemmas.Slice.Eq.{bytes_eq-Decides}
 use Rattle.std.specs.Borrow.{Bor}
 use Rattle.std.specs.List.{range_with_len, slice_get}
 use Rattle.std.proofs.lemmas.List.{map-append}
 use Rattle.std.proofs.lemmas.List.FromFn.{map-range_with_len_more, length-map-range_with_len, get_or-map-range_with_len}
 use Rattle.std.proofs.lemmas.Option.{slice_get-get_or}
-use Rattle.indexmap.specs.IndexMap.{IndexMap, insert_entry}
-use Rattle.indexmap.proofs.CallerLemmas.{insert_entry-new}
 use Rattle.meaning.specs.declared.syntax.DataType.{DataType}
 use Rattle.meaning.specs.declared.syntax.Declarator.{Declarator}
 use Rattle.meaning.specs.declared.syntax.Item.{Item}
 use Rattle.meaning.specs.Syntax.{declarator_tree}
 use Rattle.meaning.specs.Types.{TypedName, declared_by, typed_as, typed_in}
 use Rattle.roles.specs.TypedNames.{typed_names}
-use Rattle.roles.specs.Keeping.{kept_at}
+use Rattle.name_maps.proofs.FirstKept.{or_none}
 use Rattle.roles.specs.Listed.{tree_at, trees_at}
 use Rattle.roles.proofs.Passes.{taken_more, flat_map_last}
-
-or_none : {V : Type 0} (o : Option V) → o ≡ option_or o None
-or_none None = refl
-or_none (Some v) = refl
 
 pub or_grouped : {V : Type 0} (a b c : Option V) → option_or (option_or a b) c ≡ option_or a (option_or b c)
 or_grouped None b c = refl
 or_grouped (Some v) b c = refl
 
--- ---- a map from names to what they are first given
-
 -- a value for one name
 abbrev pub if_named : {V : Type 0} → List ℕ → V → List ℕ → Option V
 if_named name v n = if bytes_eq n name then Some v else None
-
-or_there : {V : Type 0} (o p : Option V) → is_some o ≡ true → o ≡ option_or o p
-or_there (Some v) p h = refl
-or_there None p h = absurd cc
-
-none_there : {V : Type 0} (o : Option V) → is_some o ≡ false → o ≡ None
-none_there None h = refl
-none_there (Some k) h = absurd cc
-
--- a look-up in entries with one put last
-looked_push : {V : Type 0} (test : Vec ℕ → Bool) (es : List (Vec ℕ × V)) (k : Vec ℕ) (v : V) → lookup test (es ++ (k, v) ∷ []) ≡ option_or (lookup test es) (if test k then Some v else None)
-looked_push test [] k v = by_test (test k)
-  where
-    by_test : (b : Bool) → cond b (Some v) None ≡ (if b then Some v else None)
-    by_test true = refl
-    by_test false = refl
-looked_push test (e ∷ es) k v = by_test (test e.0) (looked_push test es k v)
-  where
-    by_test : (b : Bool) → lookup test (es ++ (k, v) ∷ []) ≡ option_or (lookup test es) (if test k then Some v else None) → cond b (Some e.1) (lookup test (es ++ (k, v) ∷ [])) ≡ option_or (cond b (Some e.1) (lookup test es)) (if test k then Some v else None)
-    by_test true h = refl
-    by_test false h = h
-
--- a name that is there keeps what it has
-pub kept_there : {V S : Type 0} (m : IndexMap (Vec ℕ) V S) (name : List ℕ) (v : V) (n : List ℕ) → is_some (kept_at m name) ≡ true → kept_at m n ≡ option_or (kept_at m n) (if bytes_eq n name then Some v else None)
-kept_there m name v n there = by_test (bytes_eq n name) refl
-  where
-    by_test : (b : Bool) → bytes_eq n name ≡ b → kept_at m n ≡ option_or (kept_at m n) (if b then Some v else None)
-    by_test true same = or_there (kept_at m n) (Some v) (ap (λ k. is_some (kept_at m k)) ((bytes_eq-Decides n name).0 same) ∙ there)
-    by_test false other = or_none (kept_at m n)
-
--- a new name goes last
-pub kept_new : {V S : Type 0} (m new : IndexMap (Vec ℕ) V S) (own : Vec ℕ) (name : List ℕ) (v : V) (n : List ℕ) → own.items ≡ name → is_some (kept_at m name) ≡ false → new.entries ≡ insert_entry (λ a b. bytes_eq a.items b.items) m.entries own v → kept_at new n ≡ option_or (kept_at m n) (if bytes_eq n name then Some v else None)
-kept_new m new own name v n same unknown added =
-    let none : kept_at m own.items ≡ None = ap (kept_at m) same ∙ none_there (kept_at m name) unknown in
-    ap (lookup (λ k. bytes_eq n k.items)) (added ∙ insert_entry-new (λ a b. bytes_eq a.items b.items) m own v none)
-    ∙ looked_push (λ k. bytes_eq n k.items) m.entries own v
-    ∙ ap (λ x. option_or (kept_at m n) (if bytes_eq n x then Some v else None)) same
 
 -- ---- one more that may give one
 

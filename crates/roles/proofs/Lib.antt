@@ -3,6 +3,5 @@ pub mod Passes
 pub mod Firsts
 pub mod Ranking
 pub mod Defining
-pub mod NameSets
 pub mod Valued
 pub mod Staging

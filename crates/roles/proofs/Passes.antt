@@ -3,6 +3,8 @@ use Rattle.std.proofs.Common.{◌≡◌, ℕ, ◌+◌, ◌<◌, List, [], ◌∷
 use Rattle.std.specs.Prelude.{flat_map}
 use Rattle.std.proofs.lemmas.List.{take_more, drop_more, map-append, append-nil}
 use Rattle.std.proofs.lemmas.Grind.{flat_map-append}
+use Rattle.name_maps.specs.NameSets.{with_names}
+use Rattle.name_maps.proofs.NameSets.{with_names_append}
 
 -- what is behind, one more
 pub taken_more : {X : Type 0} (xs : List X) (i : ℕ) (x : X) → i < length xs → x ≡ get_or xs i x → take (i + 1) xs ≡ take i xs ++ x ∷ []
@@ -30,6 +32,12 @@ pub joined_more : {X Y Z : Type 0} (f : Y → List Z) (g : X → Y) (xs : List X
 joined_more f g xs i x front now next lt is so_far added =
     added ∙ ap (λ ys. ys ++ f (g x)) so_far ∙ append_assoc front (flat_map f (map g (take i xs))) (f (g x))
     ∙ ap (λ ys. front ++ ys) (sym (flat_map_last f (map g (take i xs)) (g x)) ∙ ap (flat_map f) (sym (map_more g xs i x lt is)))
+
+-- sets of names, the names of one element more; f gives those of an element
+pub names_more : {X : Type 0} (f : List X → List (List ℕ)) (one : X → List (List ℕ)) → ((xs : List X) (x : X) → f (xs ++ x ∷ []) ≡ f xs ++ one x) → (xs : List X) (i : ℕ) (x : X) (front now next : List (List ℕ)) → i < length xs → x ≡ get_or xs i x → now ≡ with_names front (f (take i xs)) → next ≡ with_names now (one x) → next ≡ with_names front (f (take (i + 1) xs))
+names_more f one law xs i x front now next lt is so_far added =
+    added ∙ ap (λ ns. with_names ns (one x)) so_far ∙ sym (with_names_append front (f (take i xs)) (one x))
+    ∙ ap (with_names front) (sym (law (take i xs) x) ∙ ap f (sym (taken_more xs i x lt is)))
 
 -- lists behind a list
 pub appended : {X : Type 0} (a b c : List X) → (a ++ b) ++ c ≡ a ++ (b ++ c)

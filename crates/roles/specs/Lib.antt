@@ -1,10 +1,8 @@
 pub mod Listed
-pub mod Keeping
 pub mod TypedNames
 pub mod RankBy
 pub mod RanksAt
 pub mod Functions
-pub mod NameSets
 pub mod RolesBy
 pub mod RolesAt
 pub mod Stages

@@ -5,13 +5,13 @@ ghost use Rattle.std.specs.Option.{option_or};
 ghost use Rattle.meaning.specs.NameRules.{length_if};
 ghost use Rattle.meaning.specs.Scopes.{arrays_of, declarators_in as declarators_within};
 ghost use Rattle.meaning.specs.Syntax.{declarator_tree, shape_tree};
-ghost use Rattle.roles.specs.Keeping.{kept_at};
+ghost use Rattle.name_maps.specs.Keeping.{kept_at};
 ghost use Rattle.roles.specs.Listed.{trees_at};
 ghost use Rattle.roles.specs.RankBy.{declarators_of, rank_by, rank_in};
 
-use crate::keeping::add_first;
 use indexmap::IndexMap;
 use meaning::syntax::{Declarator, Item, Shape};
+use name_maps::add_first;
 use std::alloc::{AllocError, Global};
 
 /// The declarators of a type or DIMENSION statement.

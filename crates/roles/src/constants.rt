@@ -5,11 +5,11 @@ ghost use Rattle.meaning.specs.Scopes.{constants_in};
 ghost use Rattle.meaning.specs.Syntax.{constant_tree, shape_tree};
 ghost use Rattle.meaning.specs.Uses.{defined_constants};
 ghost use Rattle.roles.specs.Listed.{trees_at};
-ghost use Rattle.roles.specs.NameSets.{texts, with_names};
+ghost use Rattle.name_maps.specs.NameSets.{texts, with_names};
 
-use crate::sets::add_name;
 use indexmap::IndexSet;
 use meaning::syntax::{Item, NamedConstant, Shape};
+use name_maps::add_name;
 use std::alloc::{AllocError, Global};
 
 /// Puts the names of constants behind those that are there.

@@ -6,12 +6,12 @@ ghost use Rattle.std.specs.List.{list_any};
 ghost use Rattle.meaning.specs.Syntax.{declarator_tree, implicit_tree, letters_tree, shape_tree};
 ghost use Rattle.meaning.specs.Types.{by_first_letter, declared_by, has_implicit_none as is_without_letters, implied_in, is_among, is_implicit_none as implicit_none_is, typed_as, typed_in, types_of};
 ghost use Rattle.roles.specs.TypedNames.{implicit_parts, letter_type, part_at, typed_names};
-ghost use Rattle.roles.specs.Keeping.{kept_at};
+ghost use Rattle.name_maps.specs.Keeping.{kept_at};
 ghost use Rattle.roles.specs.Listed.{trees_at};
 
-use crate::keeping::add_first;
 use indexmap::IndexMap;
 use meaning::syntax::{DataType, Declarator, ImplicitPart, Item, Letters, Shape};
+use name_maps::add_first;
 use std::alloc::{AllocError, Global};
 
 /// Keeps the type of the names that declarators are the first to give one.

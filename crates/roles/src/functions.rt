@@ -4,14 +4,14 @@ ghost use Rattle.std.specs.Prelude.{◌≡◌, ℕ, List, is_some, map, option_m
 ghost use Rattle.meaning.specs.Scopes.{defined_by as definition_by, definition_if, definitions_of, is_specification as is_specification_statement};
 ghost use Rattle.meaning.specs.Syntax.{expr_tree, shape_tree};
 ghost use Rattle.roles.specs.Functions.{definition_at, definition_named, dummies_at};
-ghost use Rattle.roles.specs.Keeping.{kept_at};
+ghost use Rattle.name_maps.specs.Keeping.{kept_at};
 ghost use Rattle.roles.specs.Listed.{trees_at};
 ghost use Rattle.roles.specs.RanksAt.{arrays_at};
 
 use crate::arrays::{Ranks, has_rank};
-use crate::keeping::add_first;
 use indexmap::IndexMap;
 use meaning::syntax::{Expr, Exprs, Item, Shape};
+use name_maps::add_first;
 use std::alloc::{AllocError, Global};
 
 /// A statement function: its name, its dummies, if it has any, and its expression.

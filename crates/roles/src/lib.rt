@@ -7,9 +7,7 @@ mod declared;
 mod functions;
 mod intrinsics;
 mod items;
-mod keeping;
 mod names;
-mod sets;
 mod stage;
 
 pub use arrays::{Ranks, declarators_in};
@@ -17,10 +15,8 @@ pub use declared::{Types, is_implicit_none};
 pub use functions::{Function, defined_by, is_specification};
 pub use intrinsics::is_intrinsic;
 pub use items::items_of;
-pub use keeping::add_first;
 pub use names::{
     Roles, function_named, is_array_name, is_constant_name, is_function_name, is_other_name,
     letter_types_of, rank_of_name, type_of_name,
 };
-pub use sets::{add_name, has_name};
 pub use stage::Stage;

@@ -7,9 +7,9 @@ ghost use Rattle.meaning.specs.NameRules.{length_if};
 ghost use Rattle.meaning.specs.Scopes.{arrays_of, definitions_of};
 ghost use Rattle.meaning.specs.Uses.{defined_constants, is_array, is_constant, is_function, is_other};
 ghost use Rattle.roles.specs.Functions.{definition_at, definition_named, dummies_at};
-ghost use Rattle.roles.specs.Keeping.{kept_at};
+ghost use Rattle.name_maps.specs.Keeping.{kept_at};
 ghost use Rattle.roles.specs.Listed.{trees_at};
-ghost use Rattle.roles.specs.NameSets.{texts, with_names};
+ghost use Rattle.name_maps.specs.NameSets.{texts, with_names};
 ghost use Rattle.roles.specs.RolesBy.{roles_by};
 ghost use Rattle.meaning.specs.Types.{has_implicit_none};
 ghost use Rattle.roles.specs.TypedNames.{implicit_parts, letter_type};
@@ -18,9 +18,9 @@ use crate::arrays::{Ranks, has_rank, rank};
 use crate::constants::constants_of;
 use crate::declared::{Types, data_type, types_by_letter};
 use crate::functions::{Function, functions_by_name, functions_of};
-use crate::sets::has_name;
 use indexmap::{IndexMap, IndexSet};
 use meaning::syntax::{DataType, Item};
+use name_maps::has_name;
 use std::alloc::{AllocError, Global};
 
 /// What the statements of a program unit say of names.

@@ -15,7 +15,7 @@ use Rattle.meaning.specs.Syntax.{ItemTree, ShapeTree, format}
 use Rattle.format_edit.specs.Constants.{constant_format, has_constant, stands_in}
 use Rattle.format_edit.specs.Formatted.{descriptors}
 use Rattle.format_edit.specs.declared.format.Format.{Format}
-use Rattle.roles.specs.Keeping.{kept_at}
+use Rattle.name_maps.specs.Keeping.{kept_at}
 use Rattle.rule_passes.proofs.Membership.{or_swap, or_false}
 use Rattle.statement_rules.specs.declared.reading.Formats.{Formats}
 use Rattle.statement_rules.specs.FormatLabels.{is_unread}

@@ -14,7 +14,7 @@ use Rattle.meaning.specs.Syntax.{ItemTree, ShapeTree, format, format_tree, shape
 use Rattle.format_edit.specs.Constants.{constant_format, has_constant, is_constant}
 use Rattle.format_edit.specs.Formatted.{descriptors}
 use Rattle.format_edit.specs.declared.format.Format.{Format}
-use Rattle.roles.specs.Keeping.{kept_at}
+use Rattle.name_maps.specs.Keeping.{kept_at}
 use Rattle.statement_rules.specs.declared.reading.Formats.{Formats}
 
 -- ---- behind labels

@@ -6,7 +6,7 @@ ghost use Rattle.meaning.specs.LabelRules.{is_label_at};
 ghost use Rattle.meaning.specs.Syntax.{format_tree, shape_tree};
 ghost use Rattle.meaning.specs.Trees.{item_tree};
 ghost use Rattle.format_edit.specs.Formatted.{descriptors};
-ghost use Rattle.roles.specs.Keeping.{kept_at};
+ghost use Rattle.name_maps.specs.Keeping.{kept_at};
 ghost use Rattle.rule_passes.specs.Listed.{tree_at};
 ghost use Rattle.rule_passes.specs.Telling.{IsLeast, Passes};
 ghost use Rattle.statement_rules.specs.FormatLabels.{FindsOk, breaks_reading, is_unread, is_unread_source};

@@ -1,6 +1,6 @@
 use Rattle.std.proofs.Common.{◌≡◌, ℕ, List, take}
 use Rattle.meaning.specs.Arrays.{cells_of}
-use Rattle.roles.specs.NameSets.{texts}
+use Rattle.name_maps.specs.NameSets.{texts}
 use Rattle.k_rules.specs.Judged.{arrays_in}
 use Rattle.checker.specs.Entries.{said_at, stored_in}
 use Rattle.numbering.specs.Numbered.{named}

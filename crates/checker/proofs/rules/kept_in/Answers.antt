@@ -5,7 +5,7 @@ use Rattle.meaning.specs.Trees.{flat, members_tree}
 use Rattle.landmarks.specs.Landmarked.{AreLandmarks}
 use Rattle.roles.specs.Functions.{definition_at}
 use Rattle.numbering.specs.Checked.{items_in}
-use Rattle.numbering.specs.FunctionsFound.{AreFound}
+use Rattle.appearances.specs.FunctionsFound.{AreFound}
 use Rattle.checker.proofs.Agreeing.{numbered}
 use Rattle.checker.proofs.Building.{naming}
 use Rattle.checker.proofs.rules.kept_in.Goals as goal

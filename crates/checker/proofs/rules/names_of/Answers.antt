@@ -1,5 +1,5 @@
 use Rattle.std.proofs.Common.{subst, ap, ◌∙◌}
-use Rattle.roles.specs.NameSets.{texts}
+use Rattle.name_maps.specs.NameSets.{texts}
 use Rattle.checker.specs.Built.{AreStarted}
 use Rattle.checker.proofs.rules.names_of.Goals as goal
 

@@ -1,5 +1,5 @@
 use Rattle.std.proofs.Common.{◌≡◌, take}
-use Rattle.roles.specs.NameSets.{texts}
+use Rattle.name_maps.specs.NameSets.{texts}
 use Rattle.checker.specs.Given.{starts_by}
 use Rattle.checker.proofs.starts.starts_of.Given as goal
 

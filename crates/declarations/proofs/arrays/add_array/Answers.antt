@@ -2,7 +2,7 @@ use Rattle.std.proofs.Common.{map, sym, ap, ◌∙◌}
 use Rattle.std.specs.Prelude.{is_some}
 use Rattle.meaning.specs.Scopes.{dimension_of}
 use Rattle.meaning.specs.Syntax.{bounds_tree, declarator_tree}
-use Rattle.roles.specs.Keeping.{kept_at}
+use Rattle.name_maps.specs.Keeping.{kept_at}
 use Rattle.declarations.specs.Tables.{known_at, types_in}
 use Rattle.declarations.proofs.ArraysBy.{kept_first, kept_there, kept_without}
 use Rattle.declarations.proofs.arrays.add_array.Goals as goal

@@ -1,7 +1,7 @@
 use Rattle.std.proofs.Common.{◌||◌, ap, ◌∙◌}
 use Rattle.std.specs.List.{list_any}
 use Rattle.meaning.specs.Uses.{is_one_of}
-use Rattle.roles.specs.NameSets.{texts}
+use Rattle.name_maps.specs.NameSets.{texts}
 use Rattle.name_uses.specs.Held.{names_at}
 use Rattle.name_rules.proofs.Parting.{held_same}
 use Rattle.name_rules.proofs.logicals.is_logical.Goals as goal

@@ -1,5 +1,5 @@
 use Rattle.std.proofs.Common.{◌≡◌, take}
-use Rattle.roles.specs.NameSets.{texts, with_names}
+use Rattle.name_maps.specs.NameSets.{texts, with_names}
 use Rattle.name_uses.specs.Held.{names_at}
 use Rattle.name_uses.proofs.seen.add_names.Given as goal
 

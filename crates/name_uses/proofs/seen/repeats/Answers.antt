@@ -1,5 +1,5 @@
 use Rattle.std.proofs.Common.{sym, get_or, ◌∙◌}
-use Rattle.roles.specs.NameSets.{texts}
+use Rattle.name_maps.specs.NameSets.{texts}
 use Rattle.name_uses.proofs.Seeing.{goes_on, nameless, read_is}
 use Rattle.name_uses.proofs.seen.repeats.Goals as goal
 

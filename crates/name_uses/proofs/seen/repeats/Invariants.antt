@@ -1,6 +1,6 @@
 use Rattle.std.proofs.Common.{◌≡◌, ◌++◌, drop}
 use Rattle.meaning.specs.NameRules.{repeats}
-use Rattle.roles.specs.NameSets.{texts}
+use Rattle.name_maps.specs.NameSets.{texts}
 use Rattle.name_uses.specs.Held.{names_at}
 use Rattle.name_uses.proofs.seen.repeats.Given as goal
 

@@ -1,6 +1,6 @@
 use Rattle.std.proofs.Common.{◌≡◌, Some, None, sym, ap, subst, ◌∙◌}
 use Rattle.std.specs.Option.{option_copied}
-use Rattle.roles.specs.Keeping.{kept_at}
+use Rattle.name_maps.specs.Keeping.{kept_at}
 use Rattle.numbering.specs.Kept.{IsStored, storage_kept}
 use Rattle.numbering.specs.Whereabouts.{where_in}
 use Rattle.numbering.proofs.Placing.{no_place}

@@ -1,7 +1,7 @@
 use Rattle.std.proofs.Common.{◌≡◌, Some, None, sym, ap, subst, ◌∙◌}
 use Rattle.std.specs.Option.{option_copied}
 use Rattle.std.specs.Prelude.{slice_get}
-use Rattle.roles.specs.Keeping.{kept_at}
+use Rattle.name_maps.specs.Keeping.{kept_at}
 use Rattle.numbering.specs.Checked.{names_in}
 use Rattle.numbering.specs.Kept.{IsFunctionAt, IsThere, shown_at}
 use Rattle.numbering.proofs.Calling.{is_function}

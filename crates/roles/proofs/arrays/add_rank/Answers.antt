@@ -1,6 +1,6 @@
 use Rattle.std.proofs.Common.{ap, ◌∙◌}
 use Rattle.std.specs.Option.{option_or}
-use Rattle.roles.specs.Keeping.{kept_at}
+use Rattle.name_maps.specs.Keeping.{kept_at}
 use Rattle.roles.proofs.Firsts.{if_named}
 use Rattle.roles.proofs.Ranking.{rank_none, rank_some}
 use Rattle.roles.proofs.arrays.add_rank.Goals as goal

@@ -1,6 +1,6 @@
 use Rattle.std.proofs.Common.{map}
 use Rattle.meaning.specs.Syntax.{declarator_tree}
-use Rattle.roles.specs.Keeping.{kept_at}
+use Rattle.name_maps.specs.Keeping.{kept_at}
 use Rattle.roles.specs.RankBy.{rank_by, rank_in}
 use Rattle.roles.proofs.Firsts.{first_more, or_nothing}
 use Rattle.roles.proofs.Ranking.{rank_law}

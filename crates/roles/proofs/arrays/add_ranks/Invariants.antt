@@ -1,7 +1,7 @@
 use Rattle.std.proofs.Common.{◌≡◌, ℕ, List, map, take}
 use Rattle.std.specs.Option.{option_or}
 use Rattle.meaning.specs.Syntax.{declarator_tree}
-use Rattle.roles.specs.Keeping.{kept_at}
+use Rattle.name_maps.specs.Keeping.{kept_at}
 use Rattle.roles.specs.RankBy.{rank_by}
 use Rattle.roles.proofs.arrays.add_ranks.Given as goal
 

@@ -2,7 +2,7 @@ use Rattle.meaning.specs.Syntax.{shape_tree}
 use Rattle.std.proofs.Common.{None, ap, ◌∙◌}
 use Rattle.std.specs.Option.{option_or}
 use Rattle.meaning.specs.Scopes.{declarators_in}
-use Rattle.roles.specs.Keeping.{kept_at}
+use Rattle.name_maps.specs.Keeping.{kept_at}
 use Rattle.roles.specs.Listed.{tree_at, trees_at}
 use Rattle.roles.specs.RankBy.{declarators_of, rank_by}
 use Rattle.roles.proofs.Firsts.{first_more}

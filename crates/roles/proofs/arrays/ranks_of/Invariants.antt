@@ -1,5 +1,5 @@
 use Rattle.std.proofs.Common.{◌≡◌, ℕ, List, take}
-use Rattle.roles.specs.Keeping.{kept_at}
+use Rattle.name_maps.specs.Keeping.{kept_at}
 use Rattle.roles.specs.Listed.{trees_at}
 use Rattle.roles.specs.RankBy.{declarators_of, rank_by}
 use Rattle.roles.proofs.arrays.ranks_of.Given as goal

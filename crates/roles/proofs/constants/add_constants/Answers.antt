@@ -1,8 +1,8 @@
 use Rattle.std.proofs.Common.{[], ◌∷◌, map, ap, ◌∙◌}
 use Rattle.meaning.specs.Syntax.{constant_tree}
-use Rattle.roles.specs.NameSets.{texts, with_name}
+use Rattle.name_maps.specs.NameSets.{texts, with_name}
 use Rattle.roles.proofs.Valued.{constant_law}
-use Rattle.roles.proofs.NameSets.{names_more}
+use Rattle.roles.proofs.Passes.{names_more}
 use Rattle.roles.proofs.constants.add_constants.Goals as goal
 
 pub loop-constant-preserved : goal.loop-constant-preserved

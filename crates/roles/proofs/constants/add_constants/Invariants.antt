@@ -1,6 +1,6 @@
 use Rattle.std.proofs.Common.{◌≡◌, map, take}
 use Rattle.meaning.specs.Syntax.{constant_tree}
-use Rattle.roles.specs.NameSets.{texts, with_names}
+use Rattle.name_maps.specs.NameSets.{texts, with_names}
 use Rattle.roles.proofs.constants.add_constants.Given as goal
 
 abbrev pub invariant-loop-constant : goal.invariant-loop-constant

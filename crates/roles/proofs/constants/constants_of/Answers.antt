@@ -1,11 +1,11 @@
-use Rattle.roles.specs.NameSets.{texts, with_names}
+use Rattle.name_maps.specs.NameSets.{texts, with_names}
 use Rattle.meaning.specs.Syntax.{shape_tree}
 use Rattle.std.proofs.Common.{[], map, ap, ◌∙◌}
 use Rattle.meaning.specs.Scopes.{constants_in}
 use Rattle.meaning.specs.Uses.{defined_constants}
 use Rattle.roles.specs.Listed.{tree_at, trees_at}
 use Rattle.roles.proofs.Valued.{constants_law}
-use Rattle.roles.proofs.NameSets.{names_more}
+use Rattle.roles.proofs.Passes.{names_more}
 use Rattle.roles.proofs.constants.constants_of.Goals as goal
 
 pub loop-item-preserved : goal.loop-item-preserved

@@ -2,7 +2,7 @@ use Rattle.std.proofs.Common.{map, ap, ◌∙◌}
 use Rattle.std.specs.Option.{option_or}
 use Rattle.meaning.specs.Syntax.{declarator_tree}
 use Rattle.meaning.specs.Types.{declared_by, typed_as}
-use Rattle.roles.specs.Keeping.{kept_at}
+use Rattle.name_maps.specs.Keeping.{kept_at}
 use Rattle.roles.proofs.Firsts.{first_more, if_named, or_nothing, typed_law}
 use Rattle.roles.proofs.declared.add_typed.Goals as goal
 

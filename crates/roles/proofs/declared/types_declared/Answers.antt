@@ -1,4 +1,4 @@
-use Rattle.roles.specs.Keeping.{kept_at}
+use Rattle.name_maps.specs.Keeping.{kept_at}
 use Rattle.std.specs.Option.{option_or}
 use Rattle.meaning.specs.Syntax.{shape_tree}
 use Rattle.std.proofs.Common.{None, ap, ◌∙◌}

@@ -1,7 +1,7 @@
 use Rattle.std.proofs.Common.{◌≡◌, ℕ, List, take}
 use Rattle.meaning.specs.Types.{declared_by}
 use Rattle.roles.specs.TypedNames.{typed_names}
-use Rattle.roles.specs.Keeping.{kept_at}
+use Rattle.name_maps.specs.Keeping.{kept_at}
 use Rattle.roles.specs.Listed.{trees_at}
 use Rattle.roles.proofs.declared.types_declared.Given as goal
 

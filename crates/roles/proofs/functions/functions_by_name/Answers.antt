@@ -1,6 +1,6 @@
 use Rattle.std.proofs.Common.{None, map, option_map, ap, ◌∙◌}
 use Rattle.roles.specs.Functions.{definition_at, definition_named}
-use Rattle.roles.specs.Keeping.{kept_at}
+use Rattle.name_maps.specs.Keeping.{kept_at}
 use Rattle.roles.proofs.Firsts.{first_more, if_named}
 use Rattle.roles.proofs.Defining.{definition_law, map_or}
 use Rattle.roles.proofs.functions.functions_by_name.Goals as goal

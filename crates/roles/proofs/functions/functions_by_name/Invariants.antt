@@ -1,6 +1,6 @@
 use Rattle.std.proofs.Common.{◌≡◌, ℕ, List, map, option_map, take}
 use Rattle.roles.specs.Functions.{definition_at, definition_named}
-use Rattle.roles.specs.Keeping.{kept_at}
+use Rattle.name_maps.specs.Keeping.{kept_at}
 use Rattle.roles.proofs.functions.functions_by_name.Given as goal
 
 abbrev pub invariant-loop-function : goal.invariant-loop-function

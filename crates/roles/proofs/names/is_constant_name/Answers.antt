@@ -3,7 +3,7 @@ use Rattle.std.specs.List.{list_any}
 use Rattle.std.specs.Str.{bytes_eq}
 use Rattle.meaning.specs.Uses.{defined_constants}
 use Rattle.roles.specs.Listed.{trees_at}
-use Rattle.roles.proofs.NameSets.{any_with_names}
+use Rattle.name_maps.proofs.NameSets.{any_with_names}
 use Rattle.roles.proofs.names.is_constant_name.Goals as goal
 
 pub returns : goal.returns

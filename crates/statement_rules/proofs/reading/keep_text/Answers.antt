@@ -1,4 +1,4 @@
-use Rattle.roles.proofs.Firsts.{kept_new}
+use Rattle.name_maps.proofs.FirstKept.{kept_new}
 use Rattle.statement_rules.proofs.Found.{texts_more}
 use Rattle.statement_rules.proofs.reading.keep_text.Goals as goal
 

@@ -3,7 +3,7 @@ use Rattle.std.proofs.Common.{[], ◌∷◌, ◌++◌, refl, ap, ◌∙◌}
 use Rattle.meaning.specs.NameRules.{is_intrinsic_use, names_used}
 use Rattle.meaning.specs.Syntax.{shape_tree}
 use Rattle.meaning.specs.Trees.{item_tree}
-use Rattle.roles.specs.NameSets.{texts, with_names}
+use Rattle.name_maps.specs.NameSets.{texts, with_names}
 use Rattle.roles.specs.RolesAt.{roles_at}
 use Rattle.roles.specs.Stages.{IsBehind}
 use Rattle.name_uses.specs.UsesIn.{reads_in}

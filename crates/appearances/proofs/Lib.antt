@@ -1,0 +1,2 @@
+pub mod Appearance
+pub mod Finding

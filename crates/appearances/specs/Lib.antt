@@ -1,0 +1,2 @@
+pub mod Appearing
+pub mod FunctionsFound

@@ -1,0 +1,4 @@
+pub mod Meant
+pub mod Coded
+pub mod Functions
+pub mod Kinds

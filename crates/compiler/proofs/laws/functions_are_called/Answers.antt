@@ -1,5 +1,0 @@
-use Rattle.compiler.proofs.Functions.{called_before}
-use Rattle.compiler.proofs.laws.functions_are_called.Goals as goal
-
-pub returns : goal.returns
-returns c = λ s fs codes. called_before s.names s.numbers s.cells fs codes s.callable s.dummies

@@ -1,0 +1,2 @@
+pub mod FirstKept
+pub mod NameSets

@@ -1,7 +1,0 @@
-use Rattle.roles.specs.RolesAt.{roles_at}
-use Rattle.numbering.proofs.Finding.{plain_passes}
-use Rattle.numbering.proofs.functions.pass_member.Goals as goal
-
-pub returns-in-Plain : goal.returns-in-Plain
-returns-in-Plain c =
-    plain_passes (roles_at c.args.roles.now).names.arrays c.args.functions.now c.pass_statement.new.functions c.args.at c.args.member c.args.one.now c.in-Plain.item c.in-Plain.is c.pass_statement.result c.pass_statement.ensures
