@@ -145,6 +145,8 @@ impl Arguments {
     }
 
     /// The value of the function where these are all.
+    #[cold]
+    #[inline(never)]
     pub fn value(self, function: Intrinsic) -> Result<Value, FaultKind>
         ensures { result ≡ value_from (intrinsic function) self [] }
     {

@@ -122,6 +122,8 @@ fn divided(x: i32, y: i32) -> Result<Value, FaultKind>
 }
 
 // A power; with a negative exponent the quotient of 1 by it.
+#[cold]
+#[inline(never)]
 fn raised(x: i32, y: i32) -> Result<Value, FaultKind>
     ensures { result ≡ raised_to x y }
 {
