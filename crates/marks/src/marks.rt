@@ -1,6 +1,6 @@
 //! A set of cells.
 
-ghost use Rattle.std.specs.Prelude.{◌≡◌, ◌≢◌, ◌↔◌, ◌==◌, ◌||◌, ◌<◌, ◌≤◌, ◌+◌, ◌*◌, ◌/◌, length, min, ◌^◌, ℕ, IsTrue, OnOk, OnErr, vec_len};
+ghost use Rattle.std.specs.Prelude.{true, false, ◌≡◌, ◌≢◌, ◌↔◌, ◌==◌, ◌||◌, ◌<◌, ◌≤◌, ◌+◌, ◌*◌, ◌/◌, length, min, ◌^◌, ℕ, IsTrue, OnOk, OnErr, vec_len};
 ghost use Rattle.std.specs.Ordering.{nat_cmp};
 ghost use Rattle.std.specs.FinSet as set;
 ghost use Rattle.std.specs.Coded.{coded_ℕ};
@@ -242,16 +242,39 @@ impl Marks {
         self.put_in(cell)
     }
 
+    /// Adds a cell where its word is there and its group is raised, and tells whether it did; else the set stays as it was. It takes no
+    /// memory.
+    #[inline(always)]
+    pub fn set_at_hand(&mut self, cell: Cell) -> bool
+        ensures yes { result ≡ true → self.new ≡ set.insert self.old cell.0 }
+        ensures no { result ≡ false → self.new ≡ self.old }
+    {
+        if cell.0 / 64 < self.words.len() && is_told(&self.groups, cell.0 / 512) {
+            put(&mut self.words, cell.0);
+            return true;
+        }
+        false
+    }
+
     // Adds a cell, which may take memory. It stands by itself, so that a cell that is in the set is passed over quickly.
     #[inline(never)]
     fn put_in(&mut self, cell: Cell) -> Result<(), AllocError>
         ensures ok { OnOk result (self.new ≡ set.insert self.old cell.0) }
         ensures err { OnErr result (self.new ≡ self.old) }
     {
-        if cell.0 / 64 < self.words.len() && is_told(&self.groups, cell.0 / 512) {
-            put(&mut self.words, cell.0);
+        if self.set_at_hand(cell) {
             return Ok(());
         }
+        self.raise(cell)
+    }
+
+    // The same of one whose word isn't there, or whose group isn't raised.
+    #[cold]
+    #[inline(never)]
+    fn raise(&mut self, cell: Cell) -> Result<(), AllocError>
+        ensures ok { OnOk result (self.new ≡ set.insert self.old cell.0) }
+        ensures err { OnErr result (self.new ≡ self.old) }
+    {
         grow_to(&mut self.words, cell.0 / 64)?;
         grow_to(&mut self.groups, cell.0 / 512 / 64)?;
         put(&mut self.groups, cell.0 / 512);

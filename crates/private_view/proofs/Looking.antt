@@ -1,6 +1,7 @@
 -- A view among stores, when a cell is read or written.
 use Rattle.std.proofs.Common.{◌≡◌, ℕ, ℤ, pos, ◌==◌, ◌||◌, Bool, true, false, cond, List, [], ◌∷◌, Option, Some, None, is_some, unwrap_or, slice_get, refl, sym, ap, ◌∙◌, inl, inr}
 use Rattle.std.proofs.Math.Path.{fun_ext}
+use Rattle.std.proofs.lemmas.Bool.{eqb-true}
 use Rattle.std.specs.Ordering.{nat_cmp, is_eq}
 use Rattle.std.specs.Cmp.{nat_cmp_total, unsigned_tied}
 use Rattle.std.specs.Map.{lookup}
@@ -81,6 +82,19 @@ known_base s c v none e =
 
 contains_marked : (s : set.FinSet nat_cmp) (c q : ℕ) → set.contains (set.insert s c) q ≡ ((q == c) || set.contains s q)
 contains_marked s c q = set.contains-insert nat_cmp_total s c q ∙ ap (λ b. b || set.contains s q) (unsigned_tied q c)
+
+-- a mark that is there is set again
+pub marks_same : (s : set.FinSet nat_cmp) (k : ℕ) → set.contains s k ≡ true → (q : ℕ) → set.contains s q ≡ (q == k || set.contains s q)
+marks_same s k there q = by (q == k) refl
+  where
+    by : (b : Bool) → (q == k) ≡ b → set.contains s q ≡ (b || set.contains s q)
+    by true e = ap (set.contains s) (eqb-true q k e) ∙ there
+    by false e = refl
+
+pub leaves_shown : (s : Seen) (c : ℕ) → map.get s.written c ≡ None → set.contains s.exposed c ≡ true → LeavesRead c (world_seen s) (world_seen s)
+unfolding after_read
+leaves_shown s c none there =
+    inl (ap (λ f. record (world_seen s) { exposed = f }) (fun_ext (marks_same s.exposed c there)) ∙ sym (ap (λ o. record (world_seen s) { exposed = with_exposed c o (set.contains s.exposed) }) none))
 
 pub leaves_marked : (s : Seen) (c : ℕ) (e : set.FinSet nat_cmp) → map.get s.written c ≡ None → e ≡ set.insert s.exposed c → LeavesRead c (world_seen s) (world_seen (record s { exposed = e }))
 unfolding after_read

@@ -49,14 +49,7 @@ module _ (s t : set.FinSet nat_cmp) (f g : ℕ → ℤ) (k : ℕ) (v : ℤ) (mar
   writes_more seen is =
       ap (λ w. record (world_seen seen) { written = w }) (fun_ext (λ q. written_more q ∙ ap (λ m. if q == k then Some v else map.get m q) is))
 
--- marks, when one that is there is set again, and when one is added
-pub marks_same : (s : set.FinSet nat_cmp) (k : ℕ) → set.contains s k ≡ true → (q : ℕ) → set.contains s q ≡ (q == k || set.contains s q)
-marks_same s k there q = by (q == k) refl
-  where
-    by : (b : Bool) → (q == k) ≡ b → set.contains s q ≡ (b || set.contains s q)
-    by true e = ap (set.contains s) (eqb-true q k e) ∙ there
-    by false e = refl
-
+-- marks, when one is added
 pub marks_more : (s t : set.FinSet nat_cmp) (k : ℕ) → t ≡ set.insert s k → (q : ℕ) → set.contains t q ≡ (q == k || set.contains s q)
 marks_more s t k is q =
     ap (λ r. set.contains r q) is ∙ set.contains-insert nat_cmp_total s k q ∙ ap (λ b. b || set.contains s q) (unsigned_tied q k)

@@ -1,11 +1,11 @@
 //! A view of a whole store by its pages.
 
-ghost use Rattle.std.specs.Prelude.{◌≢◌, ◌||◌, true, ◌-◌, min, ◌↔◌, IsTrue, OnErr, [], ◌∷◌, ◌⊎◌, vec_len, vec_capacity, slice_set, slice_get, ◌≡◌, ◌<◌, ◌≤◌, ◌+◌, ◌*◌, ◌/◌, ◌%◌, ◌++◌, ◌^◌, ℕ, ℤ, pos, Some, length, is_some, IfOk, IfSome, OnOk, IsSome, slice_index_or};
+ghost use Rattle.std.specs.Prelude.{◌≢◌, ◌||◌, true, None, ◌-◌, min, ◌↔◌, IsTrue, OnErr, [], ◌∷◌, ◌⊎◌, vec_len, vec_capacity, slice_set, slice_get, ◌≡◌, ◌<◌, ◌≤◌, ◌+◌, ◌*◌, ◌/◌, ◌%◌, ◌++◌, ◌^◌, ℕ, ℤ, pos, Some, length, is_some, IfOk, IfSome, OnOk, IsSome, slice_index_or};
 ghost use Rattle.std.specs.FinSet as set;
 ghost use Rattle.std.specs.FinMap as map;
 ghost use Rattle.marks.specs.Words.{tells, word_at};
 ghost use Rattle.std.specs.Int.{bit_at};
-ghost use Rattle.meaning.specs.Stores.{after_write, known, overlay};
+ghost use Rattle.meaning.specs.Stores.{after_write, known, overlay, LeavesRead};
 ghost use Rattle.array_store.specs.Whole.{world_of};
 ghost use Rattle.private_view.specs.Fronts.{with_first};
 ghost use Rattle.private_view.specs.Views.{ArePaged, ArePlaced, HasSome, TakesAll, TakesPage, Wrote, coded_wrote, is_in, of_page, IsCopied, IsKept, Seen, ShowsPage, WroteIn, coded_seen, new_view, slot_at, value_at, world_seen, written_by};
@@ -137,9 +137,45 @@ impl<'a> Paged<'a> {
         self.lost
     }
 
+    // Reads a cell that wasn't written, and marks it, which may take memory. It stands by itself, so that a cell that is marked is read
+    // quickly.
+    #[inline(never)]
+    fn read_new(&mut self, cell: Cell) -> i32
+        requires inside { cell.0 < length self.old.base }
+        requires unwritten { map.get self.old.written cell.0 ≡ None }
+        ensures value { result ≡ known (world_seen self.old) cell.0 }
+        ensures after { LeavesRead cell.0 (world_seen self.old) (world_seen self.new) }
+        ensures base { self.new.base ≡ self.old.base }
+    {
+        let value = self.base.read(cell);
+        match self.exposed.set(cell) {
+            Ok(()) => value,
+            Err(_) => {
+                self.lost = true;
+                value
+            }
+        }
+    }
+
     // Writes a cell for the first time, which may take memory. It stands by itself, so that a cell that was written is written quickly.
     #[inline(never)]
     fn write_new(&mut self, cell: Cell, value: i32) -> Result<(), AllocError>
+        requires { cell.0 < length self.old.base }
+        ensures ok { OnOk result (world_seen self.new ≡ after_write cell.0 value (world_seen self.old)) }
+        ensures err { OnErr result (world_seen self.new ≡ world_seen self.old) }
+        ensures base { self.new.base ≡ self.old.base }
+    {
+        if is_copied(&self.slots, &self.numbers, cell.0 / 64) && self.written.set_at_hand(cell) {
+            put_value(&self.slots, &self.numbers, &mut self.values, cell.0, value);
+            return Ok(());
+        }
+        self.write_first(cell, value)
+    }
+
+    // The same where its page isn't copied, or its mark takes memory.
+    #[cold]
+    #[inline(never)]
+    fn write_first(&mut self, cell: Cell, value: i32) -> Result<(), AllocError>
         requires { cell.0 < length self.old.base }
         ensures ok { OnOk result (world_seen self.new ≡ after_write cell.0 value (world_seen self.old)) }
         ensures err { OnErr result (world_seen self.new ≡ world_seen self.old) }
@@ -475,14 +511,10 @@ impl<'a> Store for Paged<'a> {
         if is_own {
             return value_of(&self.slots, &self.numbers, &self.values, cell.0);
         }
-        let value = self.base.read(cell);
-        match self.exposed.set(cell) {
-            Ok(()) => value,
-            Err(_) => {
-                self.lost = true;
-                value
-            }
+        if self.exposed.has(cell) {
+            return self.base.read(cell);
         }
+        self.read_new(cell)
     }
 
     #[inline(always)]

@@ -119,9 +119,8 @@ impl<'a> Store for View<'a> {
         match self.front.value(cell.0) {
             Some(value) => value,
             None => {
-                let value = self.paged.read(cell);
                 self.front.show(cell.0);
-                value
+                self.paged.read(cell)
             }
         }
     }

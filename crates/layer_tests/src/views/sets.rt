@@ -146,3 +146,28 @@ fn refused(rt: HostRuntime) {
         set_next(&rt, &mut marks, number);
     }
 }
+
+/// Cells that are to be set where words for the first 704 are there, and whether that takes no memory.
+const AT_HAND: &[(usize, bool)] = &[
+    (63, true),
+    (511, true),
+    (512, true),
+    (700, true),
+    (703, true),
+    (704, false),
+    (16_777_215, false),
+];
+
+#[test]
+fn at_hand(rt: HostRuntime) -> Result<(), Fail> {
+    let mut marks = set_of(rt.alloc(), &[0, 700])?;
+    for &(number, want) in AT_HAND {
+        let was_set = marks.set_at_hand(Cell(number));
+        assert!(rt;
+            was_set == want && marks.has(Cell(number)) == want,
+            "{number}"
+        );
+    }
+    check_has(&rt, &marks, &[1, 62, 64, 510, 513, 699, 702], false);
+    Ok(())
+}

@@ -5,9 +5,9 @@ use Rattle.std.proofs.lemmas.Int.{to_z-of_z}
 use Rattle.std.specs.FinSet as set
 use Rattle.std.specs.FinMap as map
 use Rattle.private_view.specs.Views.{IsCopied, IsKept, Seen, value_at, written_by}
-use Rattle.private_view.proofs.Looking.{marked_is}
+use Rattle.private_view.proofs.Looking.{marked_is, marks_same}
 use Rattle.private_view.proofs.Fronts.{given_one}
-use Rattle.private_view.proofs.Putting.{index, kept_put, marks_same, puts_more}
+use Rattle.private_view.proofs.Putting.{index, kept_put, puts_more}
 use Rattle.private_view.proofs.paged.Paged.put_again.Goals as goal
 
 pub put_value-requires-clause-copied : goal.put_value-requires-clause-copied

@@ -1,11 +1,10 @@
-use Rattle.std.proofs.Common.{rules, ◌≡◌, Some, None, true, slice_get, sym, ap, subst, ◌∙◌, FitsSigned}
+use Rattle.std.proofs.Common.{rules, ◌≡◌, Some, None, slice_get, sym, ap, ◌∙◌, FitsSigned}
 use Rattle.std.specs.Int.{w32}
 use Rattle.std.proofs.lemmas.Int.{to_z-of_z}
 use Rattle.std.specs.FinSet as set
 use Rattle.std.specs.FinMap as map
-use Rattle.meaning.specs.Stores.{LeavesRead}
 use Rattle.private_view.specs.Views.{Seen, world_seen, value_at}
-use Rattle.private_view.proofs.Looking.{has_value, has_none, known_written, leaves_written, known_base, leaves_marked, leaves_lost}
+use Rattle.private_view.proofs.Looking.{has_value, has_none, known_written, leaves_written, known_base, leaves_shown}
 use Rattle.private_view.proofs.paged.PagedStore.read.Goals as goal
 
 pub returns-then-is_own-clause-value : goal.returns-then-is_own-clause-value
@@ -28,46 +27,30 @@ returns-then-is_own-clause-after c =
     let i = c.self.inside in
     leaves_written (world_seen s) k (value_at i.slots.items i.values.items k) (has_value i.written (value_at i.slots.items i.values.items) s.written (ap (λ (t : Seen). t.written) c.self.view_is) k (sym c.has-is_own.ensures ∙ c.if-is_own.true))
 
-pub returns-in-Ok-clause-value : goal.returns-in-Ok-clause-value
-returns-in-Ok-clause-value c =
+pub returns-then-has-clause-value : goal.returns-then-has-clause-value
+returns-then-has-clause-value c =
     let s = c.args.self.now in
     let k = c.args.cell.0 in
     let i = c.self.inside in
     let none : map.get s.written k ≡ None =
     has_none i.written (value_at i.slots.items i.values.items) s.written (ap (λ (t : Seen). t.written) c.self.view_is) k (sym c.has-is_own.ensures ∙ c.if-is_own.false) in
-    let x = c.read-value.result in
+    let x = c.read.result in
     let f : FitsSigned w32 x = search rules in
-    let is : slice_get s.base k ≡ Some x = ap (λ (t : Seen). slice_get t.base k) (sym c.self.view_is) ∙ c.read-value.ensures in
+    let is : slice_get s.base k ≡ Some x = ap (λ (t : Seen). slice_get t.base k) (sym c.self.view_is) ∙ c.read.ensures in
     to_z-of_z w32 x f ∙ known_base s k x none is
 
-pub returns-in-Ok-clause-after : goal.returns-in-Ok-clause-after
-returns-in-Ok-clause-after c =
+pub returns-then-has-clause-after : goal.returns-then-has-clause-after
+returns-then-has-clause-after c =
     let s = c.args.self.now in
     let k = c.args.cell.0 in
     let i = c.self.inside in
     let none : map.get s.written k ≡ None =
     has_none i.written (value_at i.slots.items i.values.items) s.written (ap (λ (t : Seen). t.written) c.self.view_is) k (sym c.has-is_own.ensures ∙ c.if-is_own.false) in
-    let e = c.set.new.self in
-    subst (λ (t : Seen). LeavesRead k (world_seen s) (world_seen (record t { exposed = e }))) (sym c.self.view_is) (leaves_marked s k e none (c.in-Ok.ensures.ok ∙ ap (λ (t : Seen). set.insert t.exposed k) c.self.view_is))
+    leaves_shown s k none (ap (λ (t : Seen). set.contains t.exposed k) (sym c.self.view_is) ∙ sym c.has.ensures ∙ c.if-has.true)
 
-pub returns-in-Err-clause-value : goal.returns-in-Err-clause-value
-returns-in-Err-clause-value c =
+pub read_new-requires-clause-unwritten : goal.read_new-requires-clause-unwritten
+read_new-requires-clause-unwritten c =
     let s = c.args.self.now in
     let k = c.args.cell.0 in
     let i = c.self.inside in
-    let none : map.get s.written k ≡ None =
-    has_none i.written (value_at i.slots.items i.values.items) s.written (ap (λ (t : Seen). t.written) c.self.view_is) k (sym c.has-is_own.ensures ∙ c.if-is_own.false) in
-    let x = c.read-value.result in
-    let f : FitsSigned w32 x = search rules in
-    let is : slice_get s.base k ≡ Some x = ap (λ (t : Seen). slice_get t.base k) (sym c.self.view_is) ∙ c.read-value.ensures in
-    to_z-of_z w32 x f ∙ known_base s k x none is
-
-pub returns-in-Err-clause-after : goal.returns-in-Err-clause-after
-returns-in-Err-clause-after c =
-    let s = c.args.self.now in
-    let k = c.args.cell.0 in
-    let i = c.self.inside in
-    let none : map.get s.written k ≡ None =
-    has_none i.written (value_at i.slots.items i.values.items) s.written (ap (λ (t : Seen). t.written) c.self.view_is) k (sym c.has-is_own.ensures ∙ c.if-is_own.false) in
-    let e = c.set.new.self in
-    subst (λ (t : Seen). LeavesRead k (world_seen s) (world_seen (record t { exposed = e; lost = true }))) (sym c.self.view_is) (leaves_lost s k e none (c.in-Err.ensures.err ∙ ap (λ (t : Seen). t.exposed) c.self.view_is))
+    has_none i.written (value_at i.slots.items i.values.items) s.written (ap (λ (t : Seen). t.written) c.self.view_is) k (sym c.has-is_own.ensures ∙ c.if-is_own.false)

@@ -5,7 +5,8 @@ use Rattle.std.proofs.lemmas.Int.{to_z-of_z}
 use Rattle.std.specs.FinSet as set
 use Rattle.meaning.specs.Stores.{after_write}
 use Rattle.private_view.specs.Views.{Seen, value_at, world_seen, written_by}
-use Rattle.private_view.proofs.Putting.{index, marks_same, puts_more}
+use Rattle.private_view.proofs.Looking.{marks_same}
+use Rattle.private_view.proofs.Putting.{index, puts_more}
 use Rattle.private_view.proofs.paged.PagedStore.write.Goals as goal
 
 pub returns-then-has-clause-ok : goal.returns-then-has-clause-ok
