@@ -433,3 +433,12 @@ module _ (mask : ℕ) (values : List ℤ) (w : Written) where
   pub left_some : (left at : ℕ) (now : Written) → at < 64 → bit_at left at ≡ 1 → ArePutBack mask left values w now → is_some (map.get w at) ≡ true → is_some (map.get now at) ≡ true
   left_some left at now small has back some =
       ap is_some (back at ∙ ap (λ b. if b then map.get w at else map.get (given_first 64 mask values w) at) (within_first left at small ∙ is_one (bit_at left at) has)) ∙ some
+
+-- a cell behind the first 64 gets a value
+pub far_noted : (shown written : ℕ) (values : List ℤ) (w : World) → IsFront shown written values w → (c : ℕ) (x : ℤ) → 64 ≤ c → IsFront shown written values (after_write c x w)
+far_noted shown written values w front c x far =
+    front_noted shown written values w front c x shown written values (λ d other. refl) (λ d lt other. refl) (λ d lt other. refl) (λ lt. absurd (not_less c far lt)) (λ lt. absurd (not_less c far lt))
+
+pub far_world : (written : ℕ) (values : List ℤ) (c : ℕ) (x : ℤ) (w : World) → 64 ≤ c → world_with_first written values (after_write c x w) ≡ after_write c x (world_with_first written values w)
+far_world written values c x w far =
+    world_noted written written values values c x (λ d other. refl) (λ d other. refl) w (λ there. absurd (not_less c far (first_lt written c there)))

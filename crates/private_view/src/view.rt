@@ -1,9 +1,9 @@
 //! A view of a whole store.
 
-ghost use Rattle.std.specs.Prelude.{◌↔◌, IsTrue, ◌≡◌, ℕ, is_some, IfSome, length};
+ghost use Rattle.std.specs.Prelude.{◌↔◌, ◌<◌, IsTrue, OnErr, OnOk, ◌≡◌, ℕ, is_some, IfSome, length};
 ghost use Rattle.std.specs.FinSet as set;
 ghost use Rattle.std.specs.FinMap as map;
-ghost use Rattle.meaning.specs.Stores.{known, overlay};
+ghost use Rattle.meaning.specs.Stores.{known, overlay, after_write, LeavesRead};
 ghost use Rattle.array_store.specs.Whole.{world_of};
 ghost use Rattle.private_view.specs.Fronts.{IsFront, with_first};
 ghost use Rattle.private_view.specs.Views.{Seen, ShowsPage, WroteIn, coded_seen, new_view, world_seen};
@@ -90,6 +90,57 @@ impl<'a> View<'a> {
         self.paged.is_lost()
     }
 
+    // Reads a cell that isn't shown without a mark, or any other one. It stands by itself, and so does what is rare in it, so that it
+    // has no call, and that one of the first cells is read where it is wanted.
+    #[inline(never)]
+    fn read_behind(&mut self, cell: Cell) -> i32
+        requires { cell.0 < length self.old.base }
+        ensures value { result ≡ known (world_seen self.old) cell.0 }
+        ensures after { LeavesRead cell.0 (world_seen self.old) (world_seen self.new) }
+        ensures cells { length self.new.base ≡ length self.old.base }
+    {
+        if cell.0 >= 64 {
+            return self.paged.read(cell);
+        }
+        self.read_first(cell)
+    }
+
+    // Reads a cell, and shows it without a mark from then on, if it is one of the first.
+    #[cold]
+    #[inline(never)]
+    fn read_first(&mut self, cell: Cell) -> i32
+        requires { cell.0 < length self.old.base }
+        ensures value { result ≡ known (world_seen self.old) cell.0 }
+        ensures after { LeavesRead cell.0 (world_seen self.old) (world_seen self.new) }
+        ensures cells { length self.new.base ≡ length self.old.base }
+    {
+        match self.front.value(cell.0) {
+            Some(value) => value,
+            None => {
+                let value = self.paged.read(cell);
+                self.front.show(cell.0);
+                value
+            }
+        }
+    }
+
+    // Writes a cell, and notes it, if it is one of the first.
+    #[cold]
+    #[inline(never)]
+    fn write_first(&mut self, cell: Cell, value: i32) -> Result<(), AllocError>
+        requires { cell.0 < length self.old.base }
+        ensures ok { OnOk result (world_seen self.new ≡ after_write cell.0 value (world_seen self.old)) }
+        ensures err { OnErr result (world_seen self.new ≡ world_seen self.old) }
+        ensures cells { length self.new.base ≡ length self.old.base }
+    {
+        if self.front.put(cell.0, value) {
+            return Ok(());
+        }
+        self.paged.write(cell, value)?;
+        self.front.note(cell.0, value);
+        Ok(())
+    }
+
     /// Lets the whole store go, and keeps what was written. It takes no memory.
     pub fn into_changes(self) -> Changes
         ensures { result ≡ record { cells = length self.entry.base; written = self.entry.written } }
@@ -114,14 +165,11 @@ impl<'a> View<'a> {
 impl<'a> Store for View<'a> {
     ghost world = { world_seen };
 
-    #[inline(never)]
+    #[inline]
     fn read(&mut self, cell: Cell) -> i32 {
         match self.front.value(cell.0) {
             Some(value) => value,
-            None => {
-                self.front.show(cell.0);
-                self.paged.read(cell)
-            }
+            None => self.read_behind(cell),
         }
     }
 
@@ -130,8 +178,10 @@ impl<'a> Store for View<'a> {
         if self.front.put(cell.0, value) {
             return Ok(());
         }
-        self.paged.write(cell, value)?;
-        self.front.note(cell.0, value);
-        Ok(())
+        if cell.0 >= 64 {
+            self.paged.write(cell, value)?;
+            return Ok(());
+        }
+        self.write_first(cell, value)
     }
 }

@@ -1,9 +1,9 @@
-use Rattle.std.proofs.Common.{rules, ◌<◌, ◌==◌, ◌&&◌, nat_lt, pos, length, refl, ap, ◌∙◌, to_z, of_z}
+use Rattle.std.proofs.Common.{rules, ◌<◌, ◌==◌, ◌&&◌, nat_lt, pos, length, ap, ◌∙◌, to_z, of_z}
 use Rattle.std.specs.Prelude.{slice_set}
 use Rattle.std.specs.Int.{w32}
 use Rattle.std.proofs.lemmas.Int.{to_z-of_z}
 use Rattle.std.proofs.lemmas.List.{get_or-set_same, get_or-set_other}
-use Rattle.private_view.proofs.Fronts.{first_lt, not_less, front_noted, world_noted}
+use Rattle.private_view.proofs.Fronts.{far_noted, far_world, front_noted, world_noted}
 use Rattle.private_view.proofs.front.Front.note.Goals as goal
 
 pub returns-then-cell-lt64-clause-front : goal.returns-then-cell-lt64-clause-front
@@ -29,11 +29,9 @@ returns-then-cell-lt64-clause-world c w =
 pub returns-else-cell-lt64-clause-front : goal.returns-else-cell-lt64-clause-front
 returns-else-cell-lt64-clause-front c w front =
     let f = c.args.self.now in
-    let k = c.args.cell in
-    front_noted f.shown f.written f.values w front k c.args.value f.shown f.written f.values (λ d other. refl) (λ d lt other. refl) (λ d lt other. refl) (λ lt. absurd (not_less k c.if-cell-lt64.false lt)) (λ lt. absurd (not_less k c.if-cell-lt64.false lt))
+    far_noted f.shown f.written f.values w front c.args.cell c.args.value c.if-cell-lt64.false
 
 pub returns-else-cell-lt64-clause-world : goal.returns-else-cell-lt64-clause-world
 returns-else-cell-lt64-clause-world c w =
     let f = c.args.self.now in
-    let k = c.args.cell in
-    world_noted f.written f.written f.values f.values k c.args.value (λ d other. refl) (λ d other. refl) w (λ there. absurd (not_less k c.if-cell-lt64.false (first_lt f.written k there)))
+    far_world f.written f.values c.args.cell c.args.value w c.if-cell-lt64.false
