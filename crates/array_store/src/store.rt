@@ -21,6 +21,18 @@ pub trait Store {
         ensures after { LeavesRead cell.0 (world self.old) (world self.new) }
         ensures cells { (world self.new).cells ≡ (world self.old).cells };
 
+    /// The value of an element of an array by its cell, as `read` tells it. A store may find elements otherwise than variables, which
+    /// have the first cells.
+    #[inline(always)]
+    fn read_element(&mut self, cell: Cell) -> i32
+        requires { cell.0 < (world self.old).cells }
+        ensures value { result ≡ known (world self.old) cell.0 }
+        ensures after { LeavesRead cell.0 (world self.old) (world self.new) }
+        ensures cells { (world self.new).cells ≡ (world self.old).cells }
+    {
+        self.read(cell)
+    }
+
     /// Writes a value to a cell. The `AllocError` comes where memory was refused, and nothing is written then.
     fn write(&mut self, cell: Cell, value: i32) -> Result<(), AllocError>
         requires { cell.0 < (world self.old).cells }

@@ -1,17 +1,19 @@
 -- The first cells, at hand.
-use Rattle.std.proofs.Common.{◌≡◌, ◌≢◌, ℕ, ℤ, zero, suc, pos, ◌<◌, ◌≤◌, ◌==◌, ◌&&◌, ◌||◌, Bool, true, false, cond, nat_lt, List, length, if◌then◌else◌, Option, Some, None, is_some, unwrap_or, refl, sym, ap, ◌∙◌, subst, arith, inl, inr}
-use Rattle.std.specs.Prelude.{◌⊎◌, slice_get, slice_index_or}
+use Rattle.std.proofs.Common.{◌≡◌, ◌≢◌, ℕ, ℤ, zero, suc, pos, ◌<◌, ◌≤◌, ◌%◌, ◌==◌, ◌&&◌, ◌||◌, Bool, true, false, cond, nat_lt, List, length, if◌then◌else◌, Option, Some, None, is_some, unwrap_or, refl, sym, ap, ◌∙◌, subst, arith, inl, inr}
+use Rattle.std.specs.Prelude.{◌⊎◌, slice_get, slice_index_or, slice_set}
 use Rattle.std.specs.Int.{bit_at}
 use Rattle.std.specs.Ordering.{nat_cmp}
 use Rattle.std.specs.Cmp.{nat_cmp_total, unsigned_tied}
 use Rattle.std.specs.FinMap as map
+use Rattle.std.proofs.Math.ListN.{replicate}
 use Rattle.std.proofs.Math.Path.{fun_ext}
 use Rattle.std.proofs.lemmas.Bool.{true≢false, eqb-true, eqb-false, lt-ltb, le-ltb, cases_lt}
+use Rattle.std.proofs.lemmas.List.{get_or-replicate, get_or-set_other}
 use Rattle.std.proofs.lemmas.Nat.Bits.{bit_at-zero}
 use Rattle.meaning.specs.Stores.{World, LeavesRead, after_read, after_write, known, lose, overlay, with_exposed}
 use Rattle.std.specs.FinSet.{nat_cmp-IsAntisymmetric}
 use Rattle.private_view.specs.Views.{Seen, Written, new_view, world_seen}
-use Rattle.private_view.specs.Fronts.{IsFront, given_first, is_first, with_first, world_with_first}
+use Rattle.private_view.specs.Fronts.{AreFirst, IsFront, given_first, is_first, is_shown, with_first, world_with_first}
 use Rattle.private_view.proofs.Looking.{known_written, leaves_written}
 use Rattle.private_view.proofs.Marked.{both_true}
 use Rattle.private_view.proofs.Pages.{either_page}
@@ -35,11 +37,73 @@ first_lt mask c h = by (cases_lt c 64)
 pub first_bit : (mask c : ℕ) → is_first mask c ≡ true → bit_at mask c ≡ 1
 first_bit mask c h = eqb-true (bit_at mask c) 1 (both_true (nat_lt c 64) (bit_at mask c == 1) h).1
 
+-- the same of a list of them
+pub beyond_shown : (shown : List ℕ) (c : ℕ) → 64 ≤ c → is_shown shown c ≡ false
+beyond_shown shown c le = ap (λ b. b && (slice_index_or shown c 0 == c)) (le-ltb c 64 le)
+
+within_shown : (shown : List ℕ) (c : ℕ) → c < 64 → is_shown shown c ≡ (slice_index_or shown c 0 == c)
+within_shown shown c lt = ap (λ b. b && (slice_index_or shown c 0 == c)) (lt-ltb c 64 lt)
+
+pub shown_lt : (shown : List ℕ) (c : ℕ) → is_shown shown c ≡ true → c < 64
+shown_lt shown c h = by (cases_lt c 64)
+  where
+    by : (c < 64) ⊎ (64 ≤ c) → c < 64
+    by (inl lt) = lt
+    by (inr le) = absurd (true≢false (sym h ∙ beyond_shown shown c le))
+
+shown_there : (shown : List ℕ) (c : ℕ) → is_shown shown c ≡ true → slice_index_or shown c 0 ≡ c
+shown_there shown c h = eqb-true (slice_index_or shown c 0) c (both_true (nat_lt c 64) (slice_index_or shown c 0 == c) h).1
+
+-- no cell is in its place
+abbrev elsewhere : ℕ → ℕ
+elsewhere zero = 1
+elsewhere (suc b) = 0
+
+no_places : List ℕ
+no_places = slice_set (replicate 64 0) 0 1
+
+place_is : (b : ℕ) → b < 64 → slice_index_or no_places b 0 ≡ elsewhere b
+unfolding no_places
+place_is zero lt = refl
+place_is (suc b) lt =
+    get_or-set_other (replicate 64 0) 0 (suc b) 1 0 (λ e. absurd (omega (arith, e))) ∙ get_or-replicate 64 (suc b) 0 0 lt
+
+pub none_there : (b : ℕ) → b < 64 → slice_index_or (slice_set (replicate 64 0) 0 1) b 0 ≢ b
+unfolding no_places
+none_there zero lt there = let is = place_is zero lt in absurd (omega (arith, there, is))
+none_there (suc b) lt there = let is = place_is (suc b) lt in absurd (omega (arith, is, there))
+
+pub places_first : AreFirst (slice_set (replicate 64 0) 0 1)
+unfolding no_places
+places_first zero lt = subst (λ k. k < 64) (sym (place_is zero lt)) (omega arith)
+places_first (suc b) lt = subst (λ k. k < 64) (sym (place_is (suc b) lt)) (omega arith)
+
+-- a cell in the place of those that leave the same rest is that one
+pub shown_by : (shown : List ℕ) (c place : ℕ) → place ≡ c % 64 → AreFirst shown → place < 64 → (slice_index_or shown place 0 == c) ≡ is_shown shown c
+shown_by shown c place is first small = of (cases_lt c 64)
+  where
+    of : (c < 64) ⊎ (64 ≤ c) → (slice_index_or shown place 0 == c) ≡ is_shown shown c
+    of (inl lt) =
+        let same : place ≡ c = omega (arith, is, lt) in
+        ap (λ k. slice_index_or shown k 0 == c) same ∙ sym (within_shown shown c lt)
+    of (inr le) = no (slice_index_or shown place 0 == c) refl ∙ sym (beyond_shown shown c le)
+      where
+        no : (b : Bool) → (slice_index_or shown place 0 == c) ≡ b → b ≡ false
+        no true e = (let lt = first place small in let same = eqb-true (slice_index_or shown place 0) c e in absurd (omega (arith, lt, same, le)))
+        no false e = refl
+
 pub not_less : (c : ℕ) → 64 ≤ c → c < 64 → ⊥
 not_less c le lt = absurd (omega arith)
 
 pub is_one : (n : ℕ) → n ≡ 1 → (n == 1) ≡ true
 is_one n e = ap (λ m. m == 1) e
+
+is_same : (n c : ℕ) → n ≡ c → (n == c) ≡ true
+is_same n c e = of (n == c) refl
+  where
+    of : (b : Bool) → (n == c) ≡ b → b ≡ true
+    of true s = refl
+    of false s = absurd (eqb-false n c s e)
 
 -- ---- what the first cells were given
 
@@ -170,9 +234,17 @@ write_here c x w b same = of (b == c) refl
 some_not_none : (v : ℤ) (o : Option ℤ) → o ≡ Some v → o ≡ None → ⊥
 some_not_none v o s n = true≢false (sym (ap is_some s) ∙ ap is_some n)
 
-module _ (shown written : ℕ) (values : List ℤ) (w : World) (front : IsFront shown written values w) where
-  -- of any cell, which is in both masks from then on if it is one of the first 64
-  module _ (c : ℕ) (x : ℤ) (shows next : ℕ) (after : List ℤ) (kept : (d : ℕ) → d ≢ c → slice_index_or after d (pos 0) ≡ slice_index_or values d (pos 0)) (shown_same : (d : ℕ) → d < 64 → d ≢ c → bit_at shows d ≡ bit_at shown d) (same : (d : ℕ) → d < 64 → d ≢ c → bit_at next d ≡ bit_at written d) (shown_has : c < 64 → bit_at shows c ≡ 1) (has : c < 64 → bit_at next c ≡ 1) where
+module _ (shown : List ℕ) (written : ℕ) (values : List ℤ) (w : World) (front : IsFront shown written values w) where
+  -- a cell that is in its place, and whichever is in another one
+  shown_at : (shows : List ℕ) (c b : ℕ) → b ≡ c → b < 64 → (c < 64 → slice_index_or shows c 0 ≡ c) → slice_index_or shows b 0 ≡ b
+  shown_at shows c b e lt has = ap (λ k. slice_index_or shows k 0) e ∙ has (subst (λ k. k < 64) e lt) ∙ sym e
+
+  still_first : (c : ℕ) (shows : List ℕ) → ((d : ℕ) → d < 64 → d ≢ c → slice_index_or shows d 0 ≡ slice_index_or shown d 0) → (c < 64 → slice_index_or shows c 0 ≡ c) → (b : ℕ) → b < 64 → (b ≡ c) ⊎ (b ≢ c) → slice_index_or shows b 0 < 64
+  still_first c shows same has b lt (inl e) = subst (λ k. k < 64) (sym (shown_at shows c b e lt has)) lt
+  still_first c shows same has b lt (inr other) = subst (λ k. k < 64) (sym (same b lt other)) (front.first b lt)
+
+  -- of any cell, which is shown and in the mask from then on if it is one of the first 64
+  module _ (c : ℕ) (x : ℤ) (shows : List ℕ) (next : ℕ) (after : List ℤ) (kept : (d : ℕ) → d ≢ c → slice_index_or after d (pos 0) ≡ slice_index_or values d (pos 0)) (shown_same : (d : ℕ) → d < 64 → d ≢ c → slice_index_or shows d 0 ≡ slice_index_or shown d 0) (same : (d : ℕ) → d < 64 → d ≢ c → bit_at next d ≡ bit_at written d) (shown_has : c < 64 → slice_index_or shows c 0 ≡ c) (has : c < 64 → bit_at next c ≡ 1) where
     own : (b : ℕ) → b < 64 → (b ≡ c) ⊎ (b ≢ c) → is_some ((after_write c x w).written b) ≡ (bit_at next b == 1)
     own b lt (inl e) =
         ap is_some (write_here c x w b e) ∙ sym (is_one (bit_at next b) (ap (bit_at next) e ∙ has (subst (λ k. k < 64) e lt)))
@@ -184,13 +256,13 @@ module _ (shown written : ℕ) (values : List ℤ) (w : World) (front : IsFront 
     based b lt cells none (inr other) =
         front.based b lt cells (sym (write_other c x w b other) ∙ none) ∙ sym (kept b other)
 
-    marked : (b : ℕ) → b < 64 → bit_at shows b ≡ 1 → (after_write c x w).written b ≡ None → (b ≡ c) ⊎ (b ≢ c) → (w.exposed b ≡ true) ⊎ (w.lost ≡ true)
+    marked : (b : ℕ) → b < 64 → slice_index_or shows b 0 ≡ b → (after_write c x w).written b ≡ None → (b ≡ c) ⊎ (b ≢ c) → (w.exposed b ≡ true) ⊎ (w.lost ≡ true)
     marked b lt bit none (inl e) = absurd (some_not_none x ((after_write c x w).written b) (write_here c x w b e) none)
     marked b lt bit none (inr other) =
         front.marked b lt (sym (shown_same b lt other) ∙ bit) (sym (write_other c x w b other) ∙ none)
 
-    both : (b : ℕ) → b < 64 → bit_at next b ≡ 1 → (b ≡ c) ⊎ (b ≢ c) → bit_at shows b ≡ 1
-    both b lt bit (inl e) = ap (bit_at shows) e ∙ shown_has (subst (λ k. k < 64) e lt)
+    both : (b : ℕ) → b < 64 → bit_at next b ≡ 1 → (b ≡ c) ⊎ (b ≢ c) → slice_index_or shows b 0 ≡ b
+    both b lt bit (inl e) = shown_at shows c b e lt shown_has
     both b lt bit (inr other) = shown_same b lt other ∙ front.both b lt (sym (same b lt other) ∙ bit)
 
     pub front_noted : IsFront shows next after (after_write c x w)
@@ -200,6 +272,7 @@ module _ (shown written : ℕ) (values : List ℤ) (w : World) (front : IsFront 
       based = λ b lt cells none. based b lt cells none (either_page b c);
       marked = λ b lt bit none. marked b lt bit none (either_page b c);
       both = λ b lt bit. both b lt bit (either_page b c);
+      first = λ b lt. still_first c shows shown_same shown_has b lt (either_page b c);
     }
 
   -- ---- when a cell is read
@@ -220,15 +293,15 @@ module _ (shown written : ℕ) (values : List ℤ) (w : World) (front : IsFront 
       of true s = refl
       of false s = absurd (eqb-false b c s e)
 
-  pub front_shown : (c shows : ℕ) (next : World) → ((d : ℕ) → d < 64 → d ≢ c → bit_at shows d ≡ bit_at shown d) → (c < 64 → bit_at shows c ≡ 1) → LeavesRead c w next → IsFront shows written values next
+  pub front_shown : (c : ℕ) (shows : List ℕ) (next : World) → ((d : ℕ) → d < 64 → d ≢ c → slice_index_or shows d 0 ≡ slice_index_or shown d 0) → (c < 64 → slice_index_or shows c 0 ≡ c) → LeavesRead c w next → IsFront shows written values next
   unfolding after_read lose
   front_shown c shows next same has leaves = by leaves
     where
-      both_still : (b : ℕ) → b < 64 → bit_at written b ≡ 1 → (b ≡ c) ⊎ (b ≢ c) → bit_at shows b ≡ 1
-      both_still b lt bit (inl e) = ap (bit_at shows) e ∙ has (subst (λ k. k < 64) e lt)
+      both_still : (b : ℕ) → b < 64 → bit_at written b ≡ 1 → (b ≡ c) ⊎ (b ≢ c) → slice_index_or shows b 0 ≡ b
+      both_still b lt bit (inl e) = shown_at shows c b e lt has
       both_still b lt bit (inr other) = same b lt other ∙ front.both b lt bit
 
-      mark : (b : ℕ) → b < 64 → bit_at shows b ≡ 1 → w.written b ≡ None → (b ≡ c) ⊎ (b ≢ c) → ((after_read c w).exposed b ≡ true) ⊎ (w.lost ≡ true)
+      mark : (b : ℕ) → b < 64 → slice_index_or shows b 0 ≡ b → w.written b ≡ None → (b ≡ c) ⊎ (b ≢ c) → ((after_read c w).exposed b ≡ true) ⊎ (w.lost ≡ true)
       mark b lt bit none (inl e) = inl (is_exposed c (w.written c) b (ap w.written (sym e) ∙ none) e)
       mark b lt bit none (inr other) = of (front.marked b lt (sym (same b lt other) ∙ bit) none)
         where
@@ -242,6 +315,7 @@ module _ (shown written : ℕ) (values : List ℤ) (w : World) (front : IsFront 
         based = front.based;
         marked = λ b lt bit none. mark b lt bit none (either_page b c);
         both = λ b lt bit. both_still b lt bit (either_page b c);
+        first = λ b lt. still_first c shows same has b lt (either_page b c);
       }
 
       lost : IsFront shows written values (lose w)
@@ -250,6 +324,7 @@ module _ (shown written : ℕ) (values : List ℤ) (w : World) (front : IsFront 
         based = front.based;
         marked = λ b lt bit none. inr refl;
         both = λ b lt bit. both_still b lt bit (either_page b c);
+        first = λ b lt. still_first c shows same has b lt (either_page b c);
       }
 
       by : LeavesRead c w next → IsFront shows written values next
@@ -257,12 +332,12 @@ module _ (shown written : ℕ) (values : List ℤ) (w : World) (front : IsFront 
       by (inr e) = subst (IsFront shows written values) (sym e.1) lost
 
   -- a cell that isn't shown wasn't written
-  pub not_own : (c : ℕ) → is_first shown c ≡ false → is_first written c ≡ false
+  pub not_own : (c : ℕ) → is_shown shown c ≡ false → is_first written c ≡ false
   not_own c off = of (is_first written c) refl
     where
       of : (b : Bool) → is_first written c ≡ b → b ≡ false
       of true h =
-          absurd (true≢false (sym (within_first shown c (first_lt written c h) ∙ is_one (bit_at shown c) (front.both c (first_lt written c h) (first_bit written c h))) ∙ off))
+          absurd (true≢false (sym (within_shown shown c (first_lt written c h) ∙ is_same (slice_index_or shown c 0) c (front.both c (first_lt written c h) (first_bit written c h))) ∙ off))
       of false h = refl
 
   pub unwritten : (c : ℕ) → c < 64 → is_first written c ≡ false → w.written c ≡ None
@@ -302,7 +377,7 @@ module _ (shown written : ℕ) (values : List ℤ) (w : World) (front : IsFront 
           base_known e = ap (λ o. unwrap_or o (w.base c)) e
 
   -- and may be shown
-  pub front_leaves : (c : ℕ) → is_first shown c ≡ true → LeavesRead c (world_with_first written values w) (world_with_first written values w)
+  pub front_leaves : (c : ℕ) → is_shown shown c ≡ true → LeavesRead c (world_with_first written values w) (world_with_first written values w)
   unfolding after_read lose world_with_first
   front_leaves c on = of (is_first written c) refl
     where
@@ -312,8 +387,8 @@ module _ (shown written : ℕ) (values : List ℤ) (w : World) (front : IsFront 
       of : (b : Bool) → is_first written c ≡ b → LeavesRead c f f
       of true h = leaves_written f c (slice_index_or values c (pos 0)) (written_is c true h)
       of false h =
-          let none = unwritten c (first_lt shown c on) h in
-          by none (written_is c false h ∙ none) (front.marked c (first_lt shown c on) (first_bit shown c on) none)
+          let none = unwritten c (shown_lt shown c on) h in
+          by none (written_is c false h ∙ none) (front.marked c (shown_lt shown c on) (shown_there shown c on) none)
         where
           again : w.exposed c ≡ true → (d : ℕ) → (d == c || w.exposed d) ≡ w.exposed d
           again h d = at (d == c) refl
@@ -328,17 +403,17 @@ module _ (shown written : ℕ) (values : List ℤ) (w : World) (front : IsFront 
           by none fnone (inr h) = inr (fnone, ap (λ l. record f { lost = l }) h)
 
   -- any other cell is read as from what stands behind
-  pub other_written : (c : ℕ) → is_first shown c ≡ false → (world_with_first written values w).written c ≡ w.written c
+  pub other_written : (c : ℕ) → is_shown shown c ≡ false → (world_with_first written values w).written c ≡ w.written c
   other_written c off = written_is c false (not_own c off)
 
-  pub other_known : (c : ℕ) → is_first shown c ≡ false → known (world_with_first written values w) c ≡ known w c
+  pub other_known : (c : ℕ) → is_shown shown c ≡ false → known (world_with_first written values w) c ≡ known w c
   unfolding known overlay world_with_first
   other_known c off = ap (λ b. unwrap c b) (not_own c off)
     where
       unwrap : ℕ → Bool → ℤ
       unwrap c b = known (record w { written = λ d. if b then Some (slice_index_or values c (pos 0)) else w.written c }) c
 
-  pub other_leaves : (c : ℕ) (next : World) → is_first shown c ≡ false → LeavesRead c w next → LeavesRead c (world_with_first written values w) (world_with_first written values next)
+  pub other_leaves : (c : ℕ) (next : World) → is_shown shown c ≡ false → LeavesRead c w next → LeavesRead c (world_with_first written values w) (world_with_first written values next)
   unfolding after_read lose world_with_first
   other_leaves c next off (inl e) =
       inl (ap (world_with_first written values) e ∙ ap (λ o. record (world_with_first written values w) { exposed = with_exposed c o w.exposed }) (sym (other_written c off)))
@@ -350,17 +425,48 @@ module _ (written : ℕ) (values : List ℤ) (p now : Seen) (see : with_first wr
   pub world_now : world_seen now ≡ world_with_first written values (world_seen p)
   world_now = ap world_seen (sym see) ∙ world_first written values p
 
+  -- a cell got a value, by what the first cells show of it
+  pub put_now : (c : ℕ) (y : ℤ) (mask : ℕ) (after : List ℤ) → ((w : World) → world_with_first mask after w ≡ after_write c y (world_with_first written values w)) → world_seen (with_first mask after p) ≡ after_write c y (world_seen now)
+  put_now c y mask after is = world_first mask after p ∙ is (world_seen p) ∙ ap (after_write c y) (sym world_now)
+
+  -- nothing was written, and the first cells are as they were
+  pub same_now : (mask : ℕ) (after : List ℤ) (next : Seen) → mask ≡ written → after ≡ values → world_seen next ≡ world_seen p → world_seen (with_first mask after next) ≡ world_seen now
+  same_now mask after next masks list same =
+      world_first mask after next ∙ ap (λ m. world_with_first m after (world_seen next)) masks ∙ ap (λ l. world_with_first written l (world_seen next)) list ∙ ap (world_with_first written values) same ∙ sym world_now
+
+  -- what is known of a cell of it, and how it is left when one is read
+  module _ (shown : List ℕ) (front : IsFront shown written values (world_seen p)) (c : ℕ) where
+    pub shown_known : is_shown shown c ≡ true → c < length now.base → slice_index_or values c (pos 0) ≡ known (world_seen now) c
+    shown_known on cells =
+        front_known shown written values (world_seen p) front c (shown_lt shown c on) (subst (λ (t : Seen). c < length t.base) (sym see) cells) ∙ ap (λ u. known u c) (sym world_now)
+
+    pub shown_leaves : is_shown shown c ≡ true → LeavesRead c (world_seen now) (world_seen now)
+    shown_leaves on = subst (λ u. LeavesRead c u u) (sym world_now) (front_leaves shown written values (world_seen p) front c on)
+
+    pub behind_known : is_shown shown c ≡ false → known (world_seen p) c ≡ known (world_seen now) c
+    behind_known off = sym (other_known shown written values (world_seen p) front c off) ∙ ap (λ u. known u c) (sym world_now)
+
+    pub behind_leaves : (next : Seen) → is_shown shown c ≡ false → LeavesRead c (world_seen p) (world_seen next) → LeavesRead c (world_seen now) (world_seen (with_first written values next))
+    behind_leaves next off leaves =
+        subst (λ u. LeavesRead c u (world_seen (with_first written values next))) (sym world_now) (subst (λ u. LeavesRead c (world_with_first written values (world_seen p)) u) (sym (world_first written values next)) (other_leaves shown written values (world_seen p) front c (world_seen next) off leaves))
+
+    -- one behind the first was read
+    pub behind_front : (next : Seen) → 64 ≤ c → LeavesRead c (world_seen p) (world_seen next) → IsFront shown written values (world_seen next)
+    behind_front next far leaves =
+        front_shown shown written values (world_seen p) front c shown (world_seen next) (λ d lt other. refl) (λ lt. absurd (not_less c far lt)) leaves
+
 -- nothing was written
 pub new_first : (mask : ℕ) (values base : List ℤ) → mask ≡ 0 → with_first mask values (new_view base) ≡ new_view base
 new_first mask values base none = ap (λ w. record (new_view base) { written = w }) (none_first values mask 64 map.empty none)
 
-pub nothing_shown : (values base : List ℤ) → ((b : ℕ) → b < 64 → b < length base → slice_get base b ≡ Some (slice_index_or values b (pos 0))) → IsFront 0 0 values (world_seen (new_view base))
+pub nothing_shown : (none : List ℕ) (values base : List ℤ) → ((b : ℕ) → b < 64 → slice_index_or none b 0 ≢ b) → AreFirst none → ((b : ℕ) → b < 64 → b < length base → slice_get base b ≡ Some (slice_index_or values b (pos 0))) → IsFront none 0 values (world_seen (new_view base))
 unfolding known overlay
-nothing_shown values base is = record {
+nothing_shown none values base off first is = record {
   own = λ b lt. ap is_some (map.get-empty nat_cmp b) ∙ sym (ap (λ o. o == 1) (bit_at-zero b));
   based = λ b lt cells none. ap (λ o. unwrap_or o (pos 0)) (is b lt cells);
-  marked = λ b lt bit none. (let z = bit_at-zero b in absurd (omega (arith, z, bit)));
-  both = λ b lt bit. bit;
+  marked = λ b lt there none. absurd (off b lt there);
+  both = λ b lt bit. (let z = bit_at-zero b in absurd (omega (arith, z, bit)));
+  first = first;
 }
 
 -- ---- what is at hand put back into the view
@@ -435,7 +541,7 @@ module _ (mask : ℕ) (values : List ℤ) (w : Written) where
       ap is_some (back at ∙ ap (λ b. if b then map.get w at else map.get (given_first 64 mask values w) at) (within_first left at small ∙ is_one (bit_at left at) has)) ∙ some
 
 -- a cell behind the first 64 gets a value
-pub far_noted : (shown written : ℕ) (values : List ℤ) (w : World) → IsFront shown written values w → (c : ℕ) (x : ℤ) → 64 ≤ c → IsFront shown written values (after_write c x w)
+pub far_noted : (shown : List ℕ) (written : ℕ) (values : List ℤ) (w : World) → IsFront shown written values w → (c : ℕ) (x : ℤ) → 64 ≤ c → IsFront shown written values (after_write c x w)
 far_noted shown written values w front c x far =
     front_noted shown written values w front c x shown written values (λ d other. refl) (λ d lt other. refl) (λ d lt other. refl) (λ lt. absurd (not_less c far lt)) (λ lt. absurd (not_less c far lt))
 

@@ -80,6 +80,10 @@ unfolding known overlay
 known_base s c v none e =
     sym (ap (λ o. unwrap_or o (unwrap_or (slice_get s.base c) (pos 0))) none ∙ ap (λ o. unwrap_or o (pos 0)) e)
 
+-- the same of one that is kept so
+pub known_kept : (s t : Seen) (c : ℕ) (v : ℤ) → t ≡ s → map.get s.written c ≡ None → slice_get t.base c ≡ Some v → v ≡ known (world_seen s) c
+known_kept s t c v same none e = known_base s c v none (ap (λ (u : Seen). slice_get u.base c) (sym same) ∙ e)
+
 contains_marked : (s : set.FinSet nat_cmp) (c q : ℕ) → set.contains (set.insert s c) q ≡ ((q == c) || set.contains s q)
 contains_marked s c q = set.contains-insert nat_cmp_total s c q ∙ ap (λ b. b || set.contains s q) (unsigned_tied q c)
 

@@ -9,6 +9,14 @@ use Rattle.private_view.specs.Views.{Seen, Written}
 abbrev pub is_first : ℕ → ℕ → Bool
 is_first mask c = nat_lt c 64 && (bit_at mask c == 1)
 
+-- so has a list that keeps each of its cells in its place, and others elsewhere
+abbrev pub is_shown : List ℕ → ℕ → Bool
+is_shown shown c = nat_lt c 64 && (slice_index_or shown c 0 == c)
+
+-- those of the first 64 only
+abbrev pub AreFirst : List ℕ → Type 0
+AreFirst shown = (b : ℕ) → b < 64 → slice_index_or shown b 0 < 64
+
 -- the cells of a mask are given their values, of the first so many
 unfoldable pub given_first : ℕ → ℕ → List ℤ → Written → Written
 given_first zero mask values w = w
@@ -28,12 +36,13 @@ world_with_first mask values w = record w {
 }
 
 -- what is at hand of the first 64 cells beside a store: which may be shown, which were written, and the value of each
-pub record IsFront (shown written : ℕ) (values : List ℤ) (w : World) : Type 0 where
+pub record IsFront (shown : List ℕ) (written : ℕ) (values : List ℤ) (w : World) : Type 0 where
   -- those that were written
   pub own : (b : ℕ) → b < 64 → is_some (w.written b) ≡ (bit_at written b == 1)
   -- each other one has the value that the store stands on
   pub based : (b : ℕ) → b < 64 → b < w.cells → w.written b ≡ None → w.base b ≡ slice_index_or values b (pos 0)
   -- to show one marks nothing that isn't marked
-  pub marked : (b : ℕ) → b < 64 → bit_at shown b ≡ 1 → w.written b ≡ None → (w.exposed b ≡ true) ⊎ (w.lost ≡ true)
+  pub marked : (b : ℕ) → b < 64 → slice_index_or shown b 0 ≡ b → w.written b ≡ None → (w.exposed b ≡ true) ⊎ (w.lost ≡ true)
   -- what was written may be shown
-  pub both : (b : ℕ) → b < 64 → bit_at written b ≡ 1 → bit_at shown b ≡ 1
+  pub both : (b : ℕ) → b < 64 → bit_at written b ≡ 1 → slice_index_or shown b 0 ≡ b
+  pub first : AreFirst shown

@@ -1,8 +1,8 @@
 //! The values of the first cells, at hand.
 
-ghost use Rattle.std.specs.Prelude.{◌≡◌, ◌<◌, ◌≤◌, ℕ, ℤ, pos, true, false, Some, List, IfSome, IsTrue, is_some, length, slice_get, slice_index_or, slice_set};
+ghost use Rattle.std.specs.Prelude.{◌≡◌, ◌≢◌, ◌<◌, ◌≤◌, ℕ, ℤ, pos, true, false, Some, List, IfSome, IsTrue, is_some, length, slice_get, slice_index_or, slice_set};
 ghost use Rattle.meaning.specs.Stores.{World, LeavesRead, after_write};
-ghost use Rattle.private_view.specs.Fronts.{IsFront, is_first, world_with_first};
+ghost use Rattle.private_view.specs.Fronts.{AreFirst, IsFront, is_first, is_shown, world_with_first};
 ghost use Rattle.private_view.specs.Views.{new_view, world_seen};
 
 use array_store::Whole;
@@ -12,7 +12,8 @@ use marks::{has_bit, with_bit};
 /// shown without a mark.
 #[derive(Clone, Copy)]
 pub(crate) struct Front {
-    pub shown: u64,
+    // In the place of each cell itself where it may be shown, else another one: so one comparison tells whether a cell is one of these.
+    pub shown: [u32; 64],
     pub written: u64,
     pub values: [i32; 64],
 }
@@ -29,6 +30,16 @@ fn first_values(base: &Whole) -> [i32; 64]
     values
 }
 
+// No cell may be shown.
+fn none_shown() -> [u32; 64]
+    ensures none { (b : ℕ) → b < 64 → slice_index_or result b 0 ≢ b }
+    ensures first { AreFirst result }
+{
+    let mut shown = [0; 64];
+    shown[0] = 1;
+    shown
+}
+
 impl Front {
     /// Nothing was written or shown.
     #[inline(always)]
@@ -37,7 +48,7 @@ impl Front {
         ensures front { IsFront result.shown result.written result.values (world_seen (new_view base.now)) }
     {
         Front {
-            shown: 0,
+            shown: none_shown(),
             written: 0,
             values: first_values(base),
         }
@@ -46,11 +57,13 @@ impl Front {
     /// The value of a cell, if it is one that may be shown without a mark.
     #[inline(always)]
     pub fn value(&self, cell: usize) -> Option<i32>
-        ensures some { is_some result ≡ is_first self.now.shown cell }
+        requires { AreFirst self.now.shown }
+        ensures some { is_some result ≡ is_shown self.now.shown cell }
         ensures value { IfSome result (λ x. x ≡ slice_index_or self.now.values cell (pos 0)) }
     {
-        if cell < 64 && has_bit(self.shown, cell) {
-            Some(self.values[cell])
+        let place = cell % 64;
+        if self.shown[place] as usize == cell {
+            Some(self.values[place])
         } else {
             None
         }
@@ -76,7 +89,7 @@ impl Front {
         ensures values { self.new.values ≡ self.old.values }
     {
         if cell < 64 {
-            self.shown = with_bit(self.shown, cell);
+            self.shown[cell] = cell as u32;
         }
     }
 
@@ -111,7 +124,7 @@ impl Front {
             after_write cell value (world_with_first self.old.written self.old.values w) }
     {
         if cell < 64 {
-            self.shown = with_bit(self.shown, cell);
+            self.shown[cell] = cell as u32;
             self.written = with_bit(self.written, cell);
             self.values[cell] = value;
         }

@@ -137,10 +137,25 @@ impl<'a> Paged<'a> {
         self.lost
     }
 
-    // Reads a cell that wasn't written, and marks it, which may take memory. It stands by itself, so that a cell that is marked is read
-    // quickly.
+    // Reads a cell that wasn't written, and marks it. It stands by itself, so that a cell that is marked is read quickly.
     #[inline(never)]
     fn read_new(&mut self, cell: Cell) -> i32
+        requires inside { cell.0 < length self.old.base }
+        requires unwritten { map.get self.old.written cell.0 ≡ None }
+        ensures value { result ≡ known (world_seen self.old) cell.0 }
+        ensures after { LeavesRead cell.0 (world_seen self.old) (world_seen self.new) }
+        ensures base { self.new.base ≡ self.old.base }
+    {
+        if self.exposed.set_at_hand(cell) {
+            return self.base.read(cell);
+        }
+        self.read_first(cell)
+    }
+
+    // The same where its mark takes memory.
+    #[cold]
+    #[inline(never)]
+    fn read_first(&mut self, cell: Cell) -> i32
         requires inside { cell.0 < length self.old.base }
         requires unwritten { map.get self.old.written cell.0 ≡ None }
         ensures value { result ≡ known (world_seen self.old) cell.0 }

@@ -90,8 +90,9 @@ impl<'a> View<'a> {
         self.paged.is_lost()
     }
 
-    // Reads a cell that isn't shown without a mark, or any other one. It stands by itself, and so does what is rare in it, so that it
-    // has no call, and that one of the first cells is read where it is wanted.
+    // Reads a cell that isn't shown without a mark, or any other one. It stands by itself, so that one of the first cells is read where
+    // it is wanted.
+    #[cold]
     #[inline(never)]
     fn read_behind(&mut self, cell: Cell) -> i32
         requires { cell.0 < length self.old.base }
@@ -171,6 +172,14 @@ impl<'a> Store for View<'a> {
             Some(value) => value,
             None => self.read_behind(cell),
         }
+    }
+
+    #[inline]
+    fn read_element(&mut self, cell: Cell) -> i32 {
+        if cell.0 < 64 {
+            return self.read(cell);
+        }
+        self.paged.read(cell)
     }
 
     #[inline(always)]

@@ -1,20 +1,21 @@
 //! What statements need, by their lines.
 
-ghost use Rattle.std.specs.Prelude.{◌≡◌, ◌≢◌, ◌≤◌, ℕ, IfOk, [], Some, length, slice_get};
+ghost use Rattle.std.specs.Prelude.{◌≡◌, ◌≢◌, ◌≤◌, ℕ, IfErr, IfOk, [], Some, length, slice_get};
 ghost use Rattle.std.specs.Option.{option_copied};
-ghost use Rattle.programs.specs.Kept.{Adds, IsNowhere, StayIn, action_at, told_in};
+ghost use Rattle.code_laws.specs.declared.no_code.NoCode.TheVariants.{Unruly};
+ghost use Rattle.programs.specs.Kept.{Adds, IsBarred, IsNowhere, StayIn, action_at, told_in};
 
 use crate::Action;
 use crate::action::silence;
 use code_laws::NoCode;
 use meaning::ending::StopMessage;
-use std::alloc::Global;
+use std::alloc::{AllocError, Global};
 
 // No statement begins there.
 const NOWHERE: u32 = 0xffff_ffff;
 
 // Puts a number in the place of a line, behind those of all lines before it.
-pub(crate) fn put_at(places: &mut Vec<u32>, line: u32, place: u32) -> Result<(), NoCode>
+pub(crate) fn put_at(places: &mut Vec<u32>, line: u32, place: u32) -> Result<(), AllocError>
     requires free { length places.old.items ≤ line }
     ensures put { IfOk result (λ _. slice_get places.new.items line ≡ Some place) }
     ensures kept { IfOk result (λ _. StayIn places.old.items places.new.items) }
@@ -55,9 +56,12 @@ impl Actions {
         }
     }
 
-    /// Keeps what the statement at a line behind all others needs.
+    /// Keeps what the statement at a line behind all others needs. `Unruly` where it isn't behind them, or there are 2,147,483,648
+    /// already.
     pub fn add(&mut self, line: u32, action: Action) -> Result<(), NoCode>
-        ensures { IfOk result (λ _. Adds self.old line action self.new) }
+        ensures ok { IfOk result (λ _. Adds self.old line action self.new) }
+        ensures err { IfErr result (λ e. e ≡ Unruly →
+            IsBarred line self.old.places.items (length self.old.actions.items)) }
     {
         if self.places.len() > line as usize || self.actions.len() > 0x7fff_ffff {
             drop(action);
@@ -69,9 +73,9 @@ impl Actions {
                 self.actions.push(action)?;
                 Ok(())
             }
-            Err(reason) => {
+            Err(_) => {
                 drop(action);
-                Err(reason)
+                Err(NoCode::Memory)
             }
         }
     }

@@ -15,11 +15,13 @@ use std::test::*;
 enum Step {
     /// This value is read.
     Reads(usize, i32),
+    /// This value is read as that of an element of an array.
+    Finds(usize, i32),
     /// This value is written.
     Writes(usize, i32),
 }
 
-use Step::{Reads, Writes};
+use Step::{Finds, Reads, Writes};
 
 /// What a view is asked to do, and which cells it then exposes and has written.
 struct Course {
@@ -53,8 +55,8 @@ const STORY: &[Step] = &[
     Writes(9, 2_147_483_647),
     Writes(4, 41),
     Reads(4, 41),
-    Reads(6, 16),
-    Reads(9, 2_147_483_647),
+    Finds(6, 16),
+    Finds(9, 2_147_483_647),
 ];
 
 /// Cells 1 and 2 are written; the value that cell 1 has in the base is read before, and nothing is read of cell 0.
@@ -125,6 +127,11 @@ fn play<S: Store>(
             Reads(number, want) => {
                 assert!(rt; number < count, "{step:?}");
                 let value = store.read(Cell(number));
+                assert!(rt; value == want, "{step:?}");
+            }
+            Finds(number, want) => {
+                assert!(rt; number < count, "{step:?}");
+                let value = store.read_element(Cell(number));
                 assert!(rt; value == want, "{step:?}");
             }
             Writes(number, value) => {
@@ -264,9 +271,12 @@ const BORDERS: Course = Course {
         Reads(64, 1),
         Reads(MOST - 1, 2),
         Reads(0, 3),
-        Reads(63, 7),
-        Reads(62, 7),
-        Reads(65, 7),
+        Finds(63, 7),
+        Finds(62, 7),
+        Finds(65, 7),
+        Finds(65, 7),
+        Finds(64, 1),
+        Finds(MOST - 1, 2),
     ],
     exposed: &[0, 62, 63, 65, MOST - 1],
     written: &[0, 64, MOST - 1],

@@ -1,4 +1,4 @@
-use Rattle.std.proofs.Common.{◌≡◌, ◌∷◌, ℕ, List, [], Ok, Err, refl, subst, pos}
+use Rattle.std.proofs.Common.{◌≡◌, ◌∷◌, ℕ, List, [], Ok, Err, inl, inr, refl, subst, pos}
 use Rattle.meaning.specs.Stores.{World, IsLater}
 use Rattle.meaning.specs.declared.ending.FaultKind.TheVariants.{F2}
 use Rattle.meaning.specs.declared.syntax.Tree.{Tree}
@@ -12,7 +12,7 @@ use Rattle.postfix.specs.Endings.{ended}
 use Rattle.postfix.specs.Machine.{calls_to, run}
 use Rattle.postfix.specs.Orders.{acts}
 use Rattle.postfix.specs.Within.{AreFew, AreReady, IsEndingWithin}
-use Rattle.postfix.specs.Reached.{IsReached}
+use Rattle.postfix.specs.Reached.{ComesToCall, IsReached}
 use Rattle.programs.specs.Codes.{callable_in}
 use Rattle.programs.specs.Kept.{AreFunctions}
 use Rattle.values.specs.Ordered.{IsReachedIn}
@@ -29,7 +29,12 @@ reached_in t n k fs u v os (reached.Number x e rest) many all have h =
       few = subst AreFew many h.few;
       fewer = h.fewer;
     }
-reached_in t n k fs u v os reached.Otherwise many all have h = h
+reached_in t n k fs u v os reached.Otherwise many all have (inl f) =
+    inl (record {
+      kind = f.kind;
+      reads = reads_so _ _ _ _ (f.reads (calls_to n fs k)) (λ m is c same. number_is t n k [] fs many all refl have c m (Err f.kind) (subst (λ l. run n (calls_to n fs k) [] l 0 (pos 0 ∷ []) m ≡ Err f.kind) same is));
+    })
+reached_in t n k fs u v os reached.Otherwise many all have (inr call) = inr (subst (λ j. ComesToCall j u v os) many call)
 
 pub returns-clause-reached : goal.returns-clause-reached
 returns-clause-reached g c =
@@ -39,7 +44,8 @@ returns-clause-reached g c =
 
 grown : (n : ℕ) (u v : World) (os : List Order) (r : Reached) → IsReached n u v os r → IsLater u v
 grown n u v os (reached.Number x e rest) h = (h.reads (λ at args m. Err F2)).grows
-grown n u v os reached.Otherwise h = h.grows
+grown n u v os reached.Otherwise (inl f) = (f.reads (λ at args m. Err F2)).grows
+grown n u v os reached.Otherwise (inr call) = (call.reads (λ at args m. Err F2)).grows
 
 pub returns-clause-later : goal.returns-clause-later
 returns-clause-later g c = grown _ _ _ c.args.orders.now c.number_reached.result c.number_reached.ensures.reached

@@ -3,7 +3,7 @@ use Rattle.std.proofs.lemmas.Bool.{true≢false}
 use Rattle.std.specs.FinMap as map
 use Rattle.meaning.specs.Stores.{World, known}
 use Rattle.private_view.specs.Views.{Seen, world_seen}
-use Rattle.private_view.proofs.Fronts.{beyond, front_known, other_known, same_cells, world_now}
+use Rattle.private_view.proofs.Fronts.{beyond_shown, front_known, other_known, same_cells, world_now}
 use Rattle.private_view.proofs.view.View.page.Goals as goal
 
 pub returns-in-None-clause-some : goal.returns-in-None-clause-some
@@ -56,4 +56,4 @@ returns-in-Some-2-clause-values c =
     let now = world_now f.written f.values p c.args.self.now c.self.view_is in
     let bases : length p.base ≡ length c.args.self.now.base = ap (λ (t : Seen). length t.base) c.self.view_is in
     let far : (b : ℕ) → 64 ≤ 64 * k + b = λ b. (let other = c.if-page-eq0.false in omega (arith, other)) in
-    (c.in-Some.ensures.values.0 ∙ ap (λ l. min 64 (l - 64 * k)) bases, λ b lt. c.in-Some.ensures.values.1 b lt ∙ ap Some (sym (other_known f.shown f.written f.values (world_seen p) c.self.invariant (64 * k + b) (beyond f.shown (64 * k + b) (far b))) ∙ ap (λ u. known u (64 * k + b)) (sym now)))
+    (c.in-Some.ensures.values.0 ∙ ap (λ l. min 64 (l - 64 * k)) bases, λ b lt. c.in-Some.ensures.values.1 b lt ∙ ap Some (sym (other_known f.shown f.written f.values (world_seen p) c.self.invariant (64 * k + b) (beyond_shown f.shown (64 * k + b) (far b))) ∙ ap (λ u. known u (64 * k + b)) (sym now)))
