@@ -29,9 +29,9 @@ use Rattle.clap.specs.declared.parser.matches.ValueSource.{ValueSource}
 use Rattle.clap.specs.declared.parser.matches.ValueSource.TheVariants.{CommandLine, DefaultValue}
 use Rattle.clap.specs.declared.builder.value_parser.Reading.{Reading}
 use Rattle.clap.specs.declared.builder.value_parser.Reading.TheVariants.{AsWritten}
-use Rattle.command_line.specs.Command.{count_rule, f77run, fault_for, file_rule, number_rule}
-use Rattle.command_line.specs.CommandLine.{Given, Line, Part, Text, Texts, Word, alone, asked_by, asked_for, asks, behind, block, closed, counts, default_of, ends, errs, file, first, give, gives, greatest, holding, letter_word, long_or_short, long_word, meet, moved, nothing_read, read, short_word, take, is_in, is_number, name_of, number_in, number_of, put, put_count, put_if, turns, values, window, with_text, word_of, workers}
-use Rattle.command_line.specs.Matches.{AreGiven, Fits_all, HoldTexts, IsGiven, IsNumber, as_flag, as_seen, fits, fits_under, seen}
+use Rattle.command_line.specs.Command.{count_rule, f77run, fault_for, file_rule, name_rule, number_rule}
+use Rattle.command_line.specs.CommandLine.{Given, Line, Part, Text, Texts, Word, alone, asked_by, asked_for, asks, behind, block, closed, counts, default_of, ends, errs, file, first, fits_under, give, gives, greatest, holding, letter_word, long_or_short, long_word, meet, moved, nothing_read, read, short_word, take, is_in, is_number, name_of, number_in, number_of, put, put_count, put_if, rule, turns, values, window, with_text, word_of, workers}
+use Rattle.command_line.specs.Matches.{AreGiven, Fits_all, HoldTexts, IsGiven, IsNumber, as_flag, as_seen, fits, seen}
 use Rattle.command_line.specs.declared.asked.OptionsFault.{OptionsFault}
 use Rattle.command_line.specs.declared.asked.OptionsFault.TheVariants as fault
 
@@ -141,6 +141,7 @@ no_flag workers = refl
 no_flag block = refl
 no_flag window = refl
 no_flag turns = refl
+no_flag rule = refl
 no_flag file = refl
 
 -- the flag has a row where it was given, until the defaults are put in
@@ -173,6 +174,7 @@ texts_beside_flag s v given rows h other =
     apart block = refl
     apart window = refl
     apart turns = refl
+    apart rule = refl
     apart file = refl
 
 flag_seen : (s : ValueSource) (v : Text) (rows : List Row) → seen (codes "count") rows ≡ None
@@ -245,11 +247,33 @@ numbered_put part most v given rows known small h all =
     )
     go false false a g i = (kind.ValueValidation, ap₂ kinds a g, refl)
 
+-- an option that takes any text is given once
+abbrev name_at : Rule
+name_at = with_index 1 (filled name_rule)
+
+named_put : (v : Text) (given : Given) (rows : List Row) → Rows given rows → Fits_all given
+    → Comes (put rule v given) (use_fault false name_at (v ∷ []) rows) (used name_at (v ∷ []) rows)
+named_put v given rows h all =
+    go (is_some (first rule given)) (has_row-seen (codes "rule") rows ∙ ap is_some (h.0 rule) ∙ first_seen (values rule given.texts))
+  where
+    kinds : Bool → Kinds
+    kinds again = or_else (cond (again && true) (kind.ArgumentConflict ∷ []) []) []
+
+    go : (again : Bool) → has_row (codes "rule") rows ≡ again
+        → Comes (put_if again true rule v given) (use_fault false name_at (v ∷ []) rows) (used name_at (v ∷ []) rows)
+    go true a = (kind.ArgumentConflict, ap kinds a, refl)
+    go false a = (
+      ap kinds a,
+      subst (λ l. Rows (with_text rule v given) (put_row CommandLine (codes "rule") v l)) (sym (without_none (codes "rule") rows a)) (rows_put rule v given rows h),
+      all_put fits given.texts (rule, v) all refl,
+    )
+
 abbrev rule_at : Part → Rule
 rule_at workers = number_at (codes "workers") 64
 rule_at block = number_at (codes "block") 1000000
 rule_at window = number_at (codes "window") 256
 rule_at turns = number_at (codes "turns") 1000000000000
+rule_at rule = name_at
 rule_at file = file_at
 
 put_told : (part : Part) (v : Text) (given : Given) (rows : List Row) → Rows given rows → Fits_all given
@@ -258,6 +282,7 @@ put_told workers v given rows h all = numbered_put workers 64 v given rows refl 
 put_told block v given rows h all = numbered_put block 1000000 v given rows refl (omega arith) h all
 put_told window v given rows h all = numbered_put window 256 v given rows refl (omega arith) h all
 put_told turns v given rows h all = numbered_put turns 1000000000000 v given rows refl (omega arith) h all
+put_told rule v given rows h all = named_put v given rows h all
 put_told file v given rows h all = (refl, rows_put file v given rows h, all_put fits given.texts (file, v) all refl)
 
 abbrev count_at : Rule
@@ -296,11 +321,13 @@ closed_told given (Some (workers, None)) rows h all = (kind.InvalidValue, refl, 
 closed_told given (Some (block, None)) rows h all = (kind.InvalidValue, refl, refl)
 closed_told given (Some (window, None)) rows h all = (kind.InvalidValue, refl, refl)
 closed_told given (Some (turns, None)) rows h all = (kind.InvalidValue, refl, refl)
+closed_told given (Some (rule, None)) rows h all = (kind.InvalidValue, refl, refl)
 closed_told given (Some (file, None)) rows h all = (kind.InvalidValue, refl, refl)
 closed_told given (Some (workers, Some v)) rows h all = put_told workers v given rows h all
 closed_told given (Some (block, Some v)) rows h all = put_told block v given rows h all
 closed_told given (Some (window, Some v)) rows h all = put_told window v given rows h all
 closed_told given (Some (turns, Some v)) rows h all = put_told turns v given rows h all
+closed_told given (Some (rule, Some v)) rows h all = put_told rule v given rows h all
 closed_told given (Some (file, Some v)) rows h all = put_told file v given rows h all
 
 -- ---- a word
@@ -403,11 +430,13 @@ part_told workers None word given held rows waiting h all = started_told workers
 part_told block None word given held rows waiting h all = started_told block given held rows h all
 part_told window None word given held rows waiting h all = started_told window given held rows h all
 part_told turns None word given held rows waiting h all = started_told turns given held rows h all
+part_told rule None word given held rows waiting h all = started_told rule given held rows h all
 part_told file None word given held rows waiting h all = started_told file given held rows h all
 part_told workers (Some v) word given held rows waiting h all = valued_told workers v given held rows h all
 part_told block (Some v) word given held rows waiting h all = valued_told block v given held rows h all
 part_told window (Some v) word given held rows waiting h all = valued_told window v given held rows h all
 part_told turns (Some v) word given held rows waiting h all = valued_told turns v given held rows h all
+part_told rule (Some v) word given held rows waiting h all = valued_told rule v given held rows h all
 part_told file (Some v) word given held rows waiting h all = valued_told file v given held rows h all
 
 count_told : (value : Option Text) (word : Text) (given : Given) (held : Held_part) (rows : List Row) (waiting : Waiting)
@@ -442,22 +471,23 @@ named_told : (name : Text) (value : Option Text) (word : Text) (given : Given) (
     → Rows given rows → Fits_all given → Named (long_word name value) (arg_by_long rules name) value word given held rows waiting
 named_told name value word given held rows waiting h all =
     pick (bytes_eq (codes "workers") name) (bytes_eq (codes "block") name) (bytes_eq (codes "window") name) (bytes_eq (codes "turns") name)
-    (bytes_eq (codes "count") name) (bytes_eq (codes "help") name) (bytes_eq (codes "version") name)
+    (bytes_eq (codes "rule") name) (bytes_eq (codes "count") name) (bytes_eq (codes "help") name) (bytes_eq (codes "version") name)
   where
-    pick : (a b c d e f g : Bool) → Named
-        (cond a (gives workers value) (cond b (gives block value) (cond c (gives window value) (cond d (gives turns value)
-        (cond e (alone counts value) (cond f (alone (asks fault.Help) value) (cond g (alone (asks fault.Version) value) (errs fault.NoSuchOption))))))))
+    pick : (a b c d r e f g : Bool) → Named
+        (cond a (gives workers value) (cond b (gives block value) (cond c (gives window value) (cond d (gives turns value) (cond r (gives rule value)
+        (cond e (alone counts value) (cond f (alone (asks fault.Help) value) (cond g (alone (asks fault.Version) value) (errs fault.NoSuchOption)))))))))
         (cond (a || false) (Some (rule_at workers)) (cond (b || false) (Some (rule_at block)) (cond (c || false) (Some (rule_at window)) (cond (d || false) (Some (rule_at turns))
-        (cond (e || false) (Some count_at) (cond (f || false) (Some help_at) (cond (g || false) (Some version_at) None)))))))
+        (cond (r || false) (Some (rule_at rule)) (cond (e || false) (Some count_at) (cond (f || false) (Some help_at) (cond (g || false) (Some version_at) None))))))))
         value word given held rows waiting
-    pick true b c d e f g = part_told workers value word given held rows waiting h all
-    pick false true c d e f g = part_told block value word given held rows waiting h all
-    pick false false true d e f g = part_told window value word given held rows waiting h all
-    pick false false false true e f g = part_told turns value word given held rows waiting h all
-    pick false false false false true f g = count_told value word given held rows waiting h all
-    pick false false false false false true g = help_told value word given held rows waiting h all
-    pick false false false false false false true = version_told value word given held rows waiting h all
-    pick false false false false false false false = (kind.UnknownArgument, refl, refl)
+    pick true b c d r e f g = part_told workers value word given held rows waiting h all
+    pick false true c d r e f g = part_told block value word given held rows waiting h all
+    pick false false true d r e f g = part_told window value word given held rows waiting h all
+    pick false false false true r e f g = part_told turns value word given held rows waiting h all
+    pick false false false false true e f g = part_told rule value word given held rows waiting h all
+    pick false false false false false true f g = count_told value word given held rows waiting h all
+    pick false false false false false false true g = help_told value word given held rows waiting h all
+    pick false false false false false false false true = version_told value word given held rows waiting h all
+    pick false false false false false false false false = (kind.UnknownArgument, refl, refl)
 
 -- ---- a file, or a value
 
@@ -490,6 +520,7 @@ value_told workers word given rows h all = (refl, (rows, idle, refl, h, all, inl
 value_told block word given rows h all = (refl, (rows, idle, refl, h, all, inl refl))
 value_told window word given rows h all = (refl, (rows, idle, refl, h, all, inl refl))
 value_told turns word given rows h all = (refl, (rows, idle, refl, h, all, inl refl))
+value_told rule word given rows h all = (refl, (rows, idle, refl, h, all, inl refl))
 value_told file word given rows h all = (refl, (rows, idle, refl, h, all, inl refl))
 
 loose_told : (held : Held_part) (waiting : Waiting) (word : Text) (given : Given) (rows : List Row) → Waits held waiting → Rows given rows → Fits_all given
@@ -725,7 +756,7 @@ four a b c d e is_b is_d is_e =
     ∙ ap (λ l. or_else a (or_else c l)) is_e ∙ ap (or_else a) (nil_behind c)
 
 abbrev before_count : List Rule
-before_count = rule_at workers ∷ rule_at block ∷ rule_at window ∷ rule_at turns ∷ []
+before_count = rule_at workers ∷ rule_at block ∷ rule_at window ∷ rule_at turns ∷ rule_at rule ∷ []
 
 abbrev after_count : List Rule
 after_count = rule_at file ∷ help_at ∷ version_at ∷ []
@@ -805,11 +836,11 @@ flag_is given m result h on off = go given.count refl
 abbrev pub texts_of : List Text → Option (List Text)
 texts_of vs = option_map (λ (s : List Text × Reading). s.0) (as_seen vs)
 
--- and so the files
-pub files_given : (given : Given) (m : ArgMatches) → IsGiven given m
-    → option_map raw_values (matched_of (found_of m) (codes "FILE")) ≡ texts_of (values file given.texts)
-files_given given m h =
-    raw_values-rows (found_of m) (codes "FILE") ∙ all_of-seen (codes "FILE") (rows_of (found_of m)) ∙ ap (option_map (λ (s : List Text × Reading). s.0)) (h.0 file)
+-- and so the texts
+pub texts_given : (given : Given) (m : ArgMatches) (part : Part) → IsGiven given m
+    → option_map raw_values (matched_of (found_of m) (name_of part)) ≡ texts_of (values part given.texts)
+texts_given given m part h =
+    raw_values-rows (found_of m) (name_of part) ∙ all_of-seen (name_of part) (rows_of (found_of m)) ∙ ap (option_map (λ (s : List Text × Reading). s.0)) (h.0 part)
 
 pub no_file : (vs : List Text) → None ≡ texts_of vs → (nat_lt 1 (length vs) ≡ false) × (None ≡ slice_get vs 0)
 no_file [] e = (refl, refl)
@@ -823,6 +854,10 @@ first_now : (files : List (Bor Text)) → option_map (λ s. s.now) (slice_get fi
 first_now [] = refl
 first_now (f ∷ fs) = refl
 
+-- the first of them
+pub first_of_files : (files : List (Bor Text)) (vs : List Text) → Some (map (λ s. s.now) files) ≡ texts_of vs → option_map (λ s. s.now) (slice_get files 0) ≡ slice_get vs 0
+first_of_files files vs e = first_now files ∙ ap (λ l. slice_get l 0) (same_files files vs e)
+
 pub many_files : (files : List (Bor Text)) (vs : List Text) → Some (map (λ s. s.now) files) ≡ texts_of vs → 1 < length files → nat_lt 1 (length vs) ≡ true
 many_files files vs e lt =
     ap (λ l. nat_lt 1 (length l)) (sym (same_files files vs e)) ∙ ap (nat_lt 1) (length-map files (λ s. s.now)) ∙ lt-ltb 1 (length files) lt
@@ -831,7 +866,7 @@ pub lone_file : (files : List (Bor Text)) (vs : List Text) → Some (map (λ s. 
     → (nat_lt 1 (length vs) ≡ false) × (option_map (λ s. s.now) (slice_get files 0) ≡ slice_get vs 0)
 lone_file files vs e le = (
   ap (λ l. nat_lt 1 (length l)) (sym (same_files files vs e)) ∙ ap (nat_lt 1) (length-map files (λ s. s.now)) ∙ le-ltb 1 (length files) le,
-  first_now files ∙ ap (λ l. slice_get l 0) (same_files files vs e),
+  first_of_files files vs e,
 )
 
 pub ok_half : {X Y E : Type 0} (r : Result X E) (f : X → Y) (whole half : Result Y E) → whole ≡ half
@@ -849,6 +884,7 @@ same_greatest workers workers e = refl
 same_greatest block block e = refl
 same_greatest window window e = refl
 same_greatest turns turns e = refl
+same_greatest rule rule e = refl
 same_greatest file file e = refl
 same_greatest a b e = absurd (true≢false (sym e))
 
@@ -878,6 +914,7 @@ small_enough workers most e = rw (← ap (λ o. unwrap_or o 0) e) (omega arith)
 small_enough block most e = rw (← ap (λ o. unwrap_or o 0) e) (omega arith)
 small_enough window most e = rw (← ap (λ o. unwrap_or o 0) e) (omega arith)
 small_enough turns most e = rw (← ap (λ o. unwrap_or o 0) e) (omega arith)
+small_enough rule most e = absurd (true≢false (sym (ap is_some e)))
 small_enough file most e = absurd (true≢false (sym (ap is_some e)))
 
 -- the number that is read of an option, or its default

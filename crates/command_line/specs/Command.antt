@@ -24,6 +24,13 @@ count_rule = record (new_rule (codes "count")) {
   action = Some SetTrue;
 }
 
+-- the option that takes a name
+abbrev pub name_rule : Rule
+name_rule = record (new_rule (codes "rule")) {
+  long = Some (codes "rule");
+  action = Some Set;
+}
+
 abbrev pub file_rule : Rule
 file_rule = record (new_rule (codes "FILE")) { action = Some Append }
 
@@ -34,14 +41,14 @@ abbrev pub versioned : App
 versioned = record bare_app { top = record bare_app.top { has_version = true } }
 
 abbrev pub f77run : App
-f77run = with_rule (with_rule (with_rule (with_rule (with_rule (with_rule versioned (number_rule (codes "workers") 64)) (number_rule (codes "block") 1000000))
-    (number_rule (codes "window") 256)) (number_rule (codes "turns") 1000000000000)) count_rule) file_rule
+f77run = with_rule (with_rule (with_rule (with_rule (with_rule (with_rule (with_rule versioned (number_rule (codes "workers") 64)) (number_rule (codes "block") 1000000))
+    (number_rule (codes "window") 256)) (number_rule (codes "turns") 1000000000000)) name_rule) count_rule) file_rule
 
 abbrev pub fault_for : ErrorKind → OptionsFault
 fault_for kind.DisplayHelp = fault.Help
 fault_for kind.DisplayVersion = fault.Version
 fault_for kind.OutOfMemory = fault.Memory
-fault_for kind.InvalidValue = fault.NoNumber
+fault_for kind.InvalidValue = fault.NoValue
 fault_for kind.TooManyValues = fault.NeedlessValue
 fault_for kind.ArgumentConflict = fault.GivenTwice
 fault_for kind.ValueValidation = fault.BadNumber

@@ -17,12 +17,13 @@ Text = List ℕ
 
 -- ---- what a word can give
 
--- one of the four options that take a number, or a file
+-- one of the four options that take a number, the one that takes the name of a rule or a fault, or a file
 pub data Part : Type 0 where
   workers : Part
   block : Part
   window : Part
   turns : Part
+  rule : Part
   file : Part
 
 abbrev pub name_of : Part → Text
@@ -30,6 +31,7 @@ name_of workers = codes "workers"
 name_of block = codes "block"
 name_of window = codes "window"
 name_of turns = codes "turns"
+name_of rule = codes "rule"
 name_of file = codes "FILE"
 
 -- the greatest number that an option takes; the least is 1
@@ -38,7 +40,13 @@ greatest workers = Some most_workers
 greatest block = Some most_trips
 greatest window = Some most_blocks
 greatest turns = Some most_turns
+greatest rule = None
 greatest file = None
+
+-- files alone may be more than one, which is told behind all words
+abbrev pub is_repeated : Part → Bool
+is_repeated file = true
+is_repeated part = false
 
 -- the number of an option that isn't given
 abbrev pub default_of : Part → ℕ
@@ -46,6 +54,7 @@ default_of workers = 4
 default_of block = 64
 default_of window = 8
 default_of turns = 1000000000
+default_of rule = 0
 default_of file = 0
 
 -- ---- a word by itself
@@ -75,10 +84,11 @@ long_word name value =
     else (if bytes_eq (codes "block") name then gives block value
     else (if bytes_eq (codes "window") name then gives window value
     else (if bytes_eq (codes "turns") name then gives turns value
+    else (if bytes_eq (codes "rule") name then gives rule value
     else (if bytes_eq (codes "count") name then alone counts value
     else (if bytes_eq (codes "help") name then alone (asks fault.Help) value
     else (if bytes_eq (codes "version") name then alone (asks fault.Version) value
-    else errs fault.NoSuchOption))))))
+    else errs fault.NoSuchOption)))))))
 
 -- by the character behind the minus sign: h (104) or V (86)
 abbrev pub letter_word : Option ℕ → Word
@@ -145,13 +155,16 @@ put_if true fits part value given = Err fault.GivenTwice
 put_if false true part value given = Ok (with_text part value given)
 put_if false false part value given = Err fault.BadNumber
 
--- an option is given once, with a number in its range; files are any texts
-abbrev pub put_under : Option ℕ → Part → Text → Given → Result Given OptionsFault
-put_under (Some most) part value given = put_if (is_some (first part given)) (is_in most value) part value given
-put_under None part value given = Ok (with_text part value given)
+-- a number is in its range; names are any texts
+abbrev pub fits_under : Option ℕ → Text → Bool
+fits_under None value = true
+fits_under (Some most) value = is_in most value
 
+-- an option is given once
 abbrev pub put : Part → Text → Given → Result Given OptionsFault
-put part value given = put_under (greatest part) part value given
+put part value given =
+    if is_repeated part then Ok (with_text part value given)
+    else put_if (is_some (first part given)) (fits_under (greatest part) value) part value given
 
 -- the flag is given once
 abbrev pub put_count : Given → Result Given OptionsFault
@@ -160,7 +173,7 @@ put_count given = if given.count then Err fault.GivenTwice else Ok (record given
 -- what is held comes to an end
 abbrev pub closed : Given → Option (Part × Option Text) → Result Given OptionsFault
 closed given None = Ok given
-closed given (Some (part, None)) = Err fault.NoNumber
+closed given (Some (part, None)) = Err fault.NoValue
 closed given (Some (part, Some value)) = put part value given
 
 abbrev pub closed_line : Line → Result Given OptionsFault
@@ -203,12 +216,12 @@ read (word ∷ words) line = behind (moved word line) (read words)
 abbrev pub number_in : Part → Given → ℕ
 number_in part given = option_map_or number_of (first part given) (default_of part)
 
--- the plan, the file, and whether the flag is given
+-- the plan, the file, the name of a rule or a fault, and whether the flag is given
 abbrev pub Asked : Type 0
-Asked = PlanNumbers × Option Text × Bool
+Asked = PlanNumbers × Option Text × Option Text × Bool
 
 abbrev pub with_plan : Given → Option PlanNumbers → Result Asked OptionsFault
-with_plan given (Some plan) = Ok (plan, first file given, given.count)
+with_plan given (Some plan) = Ok (plan, first file given, first rule given, given.count)
 with_plan given None = Err fault.BadNumber
 
 abbrev pub asked_by : Given → Result Asked OptionsFault

@@ -7,7 +7,7 @@ use Rattle.clap.specs.Matches.{found_of}
 use Rattle.clap.specs.declared.builder.value_parser.Reading.{Reading}
 use Rattle.clap.specs.declared.builder.value_parser.Reading.TheVariants.{AsWritten}
 use Rattle.clap.specs.declared.parser.matches.ArgMatches.{ArgMatches}
-use Rattle.command_line.specs.CommandLine.{Asked, Given, Part, Text, default_of, file, first, greatest, is_in, name_of, values}
+use Rattle.command_line.specs.CommandLine.{Asked, Given, Part, Text, default_of, file, first, fits_under, greatest, name_of, values}
 use Rattle.command_line.specs.declared.asked.OptionsFault.{OptionsFault}
 use Rattle.command_line.specs.declared.asked.Options.{Options}
 use Rattle.std.specs.Borrow.{Bor}
@@ -36,10 +36,6 @@ abbrev pub HoldFlag : Given → List Row → Type 0
 HoldFlag given rows = seen (codes "count") rows ≡ as_flag given.count
 
 -- the numbers that were given are in their ranges
-abbrev pub fits_under : Option ℕ → Text → Bool
-fits_under None v = true
-fits_under (Some most) v = is_in most v
-
 abbrev pub fits : Part × Text → Bool
 fits g = fits_under (greatest g.0) g.1
 
@@ -65,9 +61,9 @@ AreTooMany given e = (nat_lt 1 (length (values file given.texts)) ≡ true) × (
 abbrev pub texts_in : List (Bor Text) → List Text
 texts_in = map (λ word. word.now)
 
--- the numbers of the plan, the file and the flag
+-- the numbers of the plan, the file, the name and the flag
 abbrev pub shown : Options → Asked
-shown o = (o.plan, option_map (λ name. name.now) o.file, o.count)
+shown o = (o.plan, option_map (λ name. name.now) o.file, option_map (λ name. name.now) o.rule, o.count)
 
 abbrev pub AsksFor : Result Asked OptionsFault → Result Options OptionsFault → Type 0
 AsksFor asked result = MatchResult result (λ o. asked ≡ Ok (shown o)) (λ e. asked ≡ Err e)

@@ -15,13 +15,13 @@ pub enum OptionsFault {
     /// A word begins with a minus sign, has more behind it, and is no option.
     #[error("there is no such option; f77run --help lists the options")]
     NoSuchOption,
-    /// An option that takes a number has none behind it.
-    #[error("an option stands without its number; f77run --help lists the options")]
-    NoNumber,
+    /// An option that takes a number or a name has none behind it.
+    #[error("an option stands without its value; f77run --help lists the options")]
+    NoValue,
     /// `--count=value`, `--help=value` or `--version=value`.
     #[error("--count, --help and --version take no value")]
     NeedlessValue,
-    /// `--count` or an option that takes a number is given a second time.
+    /// `--count` or an option that takes a value is given a second time.
     #[error("an option is given twice")]
     GivenTwice,
     /// What is given for a number isn't one, or lies outside the option's range.
@@ -45,6 +45,8 @@ pub struct Options<'a> {
     pub plan: Plan,
     /// The file with the source; standard input where none is named.
     pub file: Option<&'a str>,
+    /// The name of the rule or the fault that is asked for; none where the source is to be run.
+    pub rule: Option<&'a str>,
     /// Whether `--count` stands among the words.
     pub count: bool,
 }

@@ -9,15 +9,17 @@ pub const HELP: &str =
 
 Usage: f77run [OPTIONS] [FILE]
 
-It reads the source from FILE, or from standard input where no FILE is named, and writes the records to standard
-output. Behind -- every word is a FILE.
+It reads the source from FILE, or from standard input where no FILE is named or FILE is -, and writes the records to
+standard output. Behind -- every word is a FILE.
 
-Options, with their ranges and what stands for those that are not given:
-  --workers N    1 to 64, 4: the workers that run a loop side by side
-  --block N      1 to 1000000, 64: the trips of a loop in a worker's block
-  --window N     1 to 256, 8: the blocks that are tried at a time
-  --turns N      1 to 1000000000000, 1000000000: the turns that the program has
+Options:
+  --workers N    the workers that run a loop side by side, 1 to 64 [default: 4]
+  --block N      the trips of a loop in a worker's block, 1 to 1000000 [default: 64]
+  --window N     the blocks that are tried at a time, 1 to 256 [default: 8]
+  --turns N      the turns that the program has, 1 to 1000000000000 [default: 1000000000]
   --count        tells behind the ending how many turns the program used
+  --rule NAME    shows the rule or the fault of this name, as K3 or F2, with a short program that breaks it and one
+                 that doesn't, and runs nothing
   -h, --help     shows this text
   -V, --version  shows the version
 With two workers or more, DO loops without output are tried in parallel, DO WHILE apart;

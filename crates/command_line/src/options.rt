@@ -3,8 +3,8 @@
 ghost use Rattle.std.specs.Prelude.{◌≡◌, ◌⊎◌, IfErr, IfOk, MatchResult, Ok, Err, option_map, false};
 ghost use Rattle.clap.specs.Words.{app_of, rule_of};
 ghost use Rattle.command_line.specs.declared.asked.OptionsFault.TheVariants.{Memory};
-ghost use Rattle.command_line.specs.Command.{count_rule, f77run, fault_for, file_rule, number_rule};
-ghost use Rattle.command_line.specs.CommandLine.{Given, Part, asked_by, asked_for, number_in};
+ghost use Rattle.command_line.specs.Command.{count_rule, f77run, fault_for, file_rule, name_rule, number_rule};
+ghost use Rattle.command_line.specs.CommandLine.{Given, Part, asked_by, asked_for, first, number_in, rule};
 ghost use Rattle.command_line.specs.Matches.{AreTooMany, AsksFor, IsGiven, IsNumber, IsOneFile};
 ghost use Rattle.command_line.specs.Matches.{shown, texts_in};
 
@@ -18,8 +18,8 @@ use std::alloc::{AllocError, Global};
 /// Reads a command line, the first word of which is the program's name: options and a file in any order, each option once at
 /// most. `--workers` (1 to 64; 4 where it isn't given), `--block` (1 to 1,000,000; 64), `--window` (1 to 256; 8) and
 /// `--turns` (1 to 1,000,000,000,000; 1,000,000,000) take a number as `--turns 5` or `--turns=5`, in digits with a plus
-/// sign in front or not. `--count` takes none, and is false where it isn't given. Behind `--` each word is a file, and a
-/// minus sign alone is one too.
+/// sign in front or not. `--rule` takes any text. `--count` takes none, and is false where it isn't given. Behind `--` each
+/// word is a file, and a minus sign alone is one too.
 ///
 /// # Errors
 ///
@@ -46,6 +46,7 @@ fn command<'a>(alloc: Global) -> Result<Command<'a>, AllocError>
         .arg(number(alloc, "block", 1_000_000))?
         .arg(number(alloc, "window", 256))?
         .arg(number(alloc, "turns", 1_000_000_000_000))?
+        .arg(rule(alloc))?
         .arg(count(alloc))?
         .arg(files(alloc))
 }
@@ -59,6 +60,14 @@ fn number<'a>(alloc: Global, name: &'a str, most: u64) -> Arg<'a>
         .long(name)
         .action(ArgAction::Set)
         .value_parser(ValueParser::unsigned(1, most))
+}
+
+// The option that takes the name of a rule or a fault. Any text is read, so that an unknown one is told by whoever knows the names.
+fn rule<'a>(alloc: Global) -> Arg<'a>
+    ensures rule { rule_of result ≡ name_rule }
+    ensures local { result.global ≡ false }
+{
+    Arg::new(alloc, "rule").long("rule").action(ArgAction::Set)
 }
 
 // The flag. It has no number.
@@ -87,7 +96,7 @@ fn fault_for(kind: ErrorKind) -> OptionsFault
         ErrorKind::DisplayHelp => OptionsFault::Help,
         ErrorKind::DisplayVersion => OptionsFault::Version,
         ErrorKind::OutOfMemory => OptionsFault::Memory,
-        ErrorKind::InvalidValue => OptionsFault::NoNumber,
+        ErrorKind::InvalidValue => OptionsFault::NoValue,
         ErrorKind::TooManyValues => OptionsFault::NeedlessValue,
         ErrorKind::ArgumentConflict => OptionsFault::GivenTwice,
         ErrorKind::ValueValidation => OptionsFault::BadNumber,
@@ -100,6 +109,7 @@ fn asked<'a>(matches: &ArgMatches<'a>) -> Result<Options<'a>, OptionsFault>
     ensures { (given : Given) → IsGiven given matches.now → AsksFor (asked_by given) result }
 {
     let file = file_given(matches)?;
+    let rule = rule_given(matches);
     let count = count_given(matches);
     let plan = Plan::new(
         number_given(matches, "workers", 4),
@@ -108,7 +118,12 @@ fn asked<'a>(matches: &ArgMatches<'a>) -> Result<Options<'a>, OptionsFault>
         number_given(matches, "turns", 1_000_000_000),
     );
     match plan {
-        Some(plan) => Ok(Options { plan, file, count }),
+        Some(plan) => Ok(Options {
+            plan,
+            file,
+            rule,
+            count,
+        }),
         None => Err(OptionsFault::BadNumber),
     }
 }
@@ -126,6 +141,17 @@ fn count_given(matches: &ArgMatches<'_>) -> bool
     ensures { (given : Given) → IsGiven given matches.now → result ≡ given.count }
 {
     matches.get_flag("count")
+}
+
+// The name of a rule or a fault, where one is asked for.
+fn rule_given<'a>(matches: &ArgMatches<'a>) -> Option<&'a str>
+    ensures { (given : Given) → IsGiven given matches.now
+        → option_map (λ s. s.now) result ≡ first rule given }
+{
+    match matches.get_strs("rule") {
+        None => None,
+        Some(names) => names.first().copied(),
+    }
 }
 
 // The file, where one is named.

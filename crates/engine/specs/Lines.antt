@@ -40,10 +40,13 @@ lines_of count report = line_of report.ending ++ turns_line count report.turns
 abbrev pub line_of_text : ℕ → List ℕ
 line_of_text status = if status == 0 then [] else line_of endings.WriteRefused
 
--- of a command line without a run, by its status; what is wrong with a faulty one isn't said here
+-- of a command line without a run, by its status; what is wrong with a faulty one isn't said here, nor which rules there are
 abbrev pub line_of_none : NoRun → ℕ → Option (List ℕ)
 line_of_none no_runs.Help status = Some (line_of_text status)
 line_of_none no_runs.Version status = Some (line_of_text status)
+line_of_none (no_runs.Rule row) status = Some (line_of_text status)
+line_of_none (no_runs.Fault row) status = Some (line_of_text status)
+line_of_none no_runs.NoSuchRule status = None
 line_of_none (no_runs.Faulty fault) status = None
 line_of_none no_runs.Memory status = Some (line_of endings.Memory)
 line_of_none no_runs.FileRefused status = Some (codes "FILE REFUSED\n")

@@ -1,7 +1,8 @@
 -- The exit status of the program.
-use Rattle.std.specs.Prelude.{◌≡◌, ◌⊎◌, ℕ}
+use Rattle.std.specs.Prelude.{◌≡◌, ◌⊎◌, ℕ, List}
 use Rattle.meaning.specs.declared.ending.Ending.{Ending}
 use Rattle.meaning.specs.declared.ending.Ending.TheVariants as endings
+use Rattle.meaning.specs.Names.{fault_name, rule_name}
 use Rattle.command_line.specs.declared.asked.OptionsFault.{OptionsFault}
 use Rattle.command_line.specs.declared.asked.OptionsFault.TheVariants as faults
 use Rattle.engine.specs.declared.running.NoRun.{NoRun}
@@ -20,9 +21,23 @@ status_of endings.WriteRefused = 5
 abbrev pub IsStatusOf : NoRun → ℕ → Type 0
 IsStatusOf no_runs.Help status = (status ≡ 0) ⊎ (status ≡ 5)
 IsStatusOf no_runs.Version status = (status ≡ 0) ⊎ (status ≡ 5)
+IsStatusOf (no_runs.Rule row) status = (status ≡ 0) ⊎ (status ≡ 5)
+IsStatusOf (no_runs.Fault row) status = (status ≡ 0) ⊎ (status ≡ 5)
+IsStatusOf no_runs.NoSuchRule status = status ≡ 3
 IsStatusOf (no_runs.Faulty fault) status = status ≡ 3
 IsStatusOf no_runs.Memory status = status ≡ 4
 IsStatusOf no_runs.FileRefused status = status ≡ 5
+
+-- the rule or the fault that has a name
+abbrev pub IsNamedBy : List ℕ → NoRun → Type 0
+IsNamedBy name (no_runs.Rule row) = rule_name row.now.rule ≡ name
+IsNamedBy name (no_runs.Fault row) = fault_name row.now.kind ≡ name
+IsNamedBy name no_runs.NoSuchRule = Unit {0}
+IsNamedBy name no_runs.Help = ⊥
+IsNamedBy name no_runs.Version = ⊥
+IsNamedBy name (no_runs.Faulty fault) = ⊥
+IsNamedBy name no_runs.Memory = ⊥
+IsNamedBy name no_runs.FileRefused = ⊥
 
 -- why no source is run, by what the command line asks for instead
 abbrev pub no_run_for : OptionsFault → NoRun

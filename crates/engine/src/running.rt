@@ -4,16 +4,17 @@ ghost use Rattle.std.specs.Prelude.{◌≡◌, ◌⊎◌, IfOk, IfSome};
 ghost use Rattle.engine.specs.declared.running.NoRun.TheVariants.{Memory};
 ghost use Rattle.engine.specs.Lines.{IsTold, line_of_none, lines_of};
 ghost use Rattle.engine.specs.Source.{AnswersAs};
-ghost use Rattle.engine.specs.Status.{IsStatusOf, status_of, no_run_for};
+ghost use Rattle.engine.specs.Status.{IsNamedBy, IsStatusOf, status_of, no_run_for};
 
 use crate::lines::{Texts, put, tell_ending, tell_turns};
-use command_line::asked::OptionsFault;
+use command_line::asked::{Options, OptionsFault};
 use command_line::help::{HELP, VERSION};
 use command_line::options::options;
 use executor::run::run;
 use executor::{Open, Out, Sink};
 use meaning::ending::{Ending, Report};
 use meaning::plan::Plan;
+use rule_texts::{FAULTS, FaultText, RULES, RuleText, fault_named, rule_named};
 use std::alloc::{AllocError, AllocFailed, Global};
 use std::env::Env;
 use std::fmt::Write as _;
@@ -38,12 +39,18 @@ struct Job {
 }
 
 /// Why no source is run.
-#[derive(Clone, Copy, Debug, PartialEq, Eq)]
+#[derive(Clone, Copy, Debug)]
 enum NoRun {
     /// The help is asked for instead.
     Help,
     /// The version is asked for instead.
     Version,
+    /// A rule is asked for instead.
+    Rule(&'static RuleText),
+    /// A fault is asked for instead.
+    Fault(&'static FaultText),
+    /// What is asked for is the name of no rule and no fault.
+    NoSuchRule,
     /// The command line is at fault.
     Faulty(OptionsFault),
     /// Memory was refused before the source was run.
@@ -133,15 +140,40 @@ fn job_of<'a, R: Files + AllocGlobal, I: Read>(
     input: &mut I,
 ) -> Result<Job, NoRun> {
     match options(rt.alloc(), texts) {
-        Ok(asked) => match source_of(rt, asked.file, input) {
-            Ok(source) => Ok(Job {
-                plan: asked.plan,
-                count: asked.count,
-                source,
-            }),
-            Err(error) => Err(unread(&error)),
+        Ok(asked) => match asked.rule {
+            Some(name) => Err(rule_asked(name)),
+            None => job_read(rt, asked, input),
         },
         Err(fault) => Err(NoRun::from(fault)),
+    }
+}
+
+// What is asked for by the name of a rule or a fault.
+fn rule_asked(name: &str) -> NoRun
+    ensures { IsNamedBy name.now result }
+{
+    match rule_named(name) {
+        Some(row) => NoRun::Rule(row),
+        None => match fault_named(name) {
+            Some(row) => NoRun::Fault(row),
+            None => NoRun::NoSuchRule,
+        },
+    }
+}
+
+// What a command line names, with the bytes of its source.
+fn job_read<R: Files + AllocGlobal, I: Read>(
+    rt: &R,
+    asked: Options<'_>,
+    input: &mut I,
+) -> Result<Job, NoRun> {
+    match source_of(rt, asked.file, input) {
+        Ok(source) => Ok(Job {
+            plan: asked.plan,
+            count: asked.count,
+            source,
+        }),
+        Err(error) => Err(unread(&error)),
     }
 }
 
@@ -180,15 +212,15 @@ fn unread(error: &io::Error) -> NoRun {
     }
 }
 
-// The bytes of the source.
+// The bytes of the source; a minus sign in place of a file is standard input.
 fn source_of<R: Files + AllocGlobal, I: Read>(
     rt: &R,
     file: Option<&str>,
     input: &mut I,
 ) -> io::Result<Vec<u8>> {
     match file {
+        None | Some("-") => front_of(rt.alloc(), input),
         Some(path) => front_of(rt.alloc(), fs::open(rt, path)?),
-        None => front_of(rt.alloc(), input),
     }
 }
 
@@ -239,8 +271,11 @@ fn tell_no_run<O: Write + Drop, S: Sink>(no_run: NoRun, out: O, err: &mut S) -> 
         (λ line. IsTold line (S.told err.old) (S.told err.new)) }
 {
     match no_run {
-        NoRun::Help => tell_ending(show(HELP, out), err),
-        NoRun::Version => tell_ending(show(VERSION, out), err),
+        NoRun::Help => tell_ending(show(&[HELP], out), err),
+        NoRun::Version => tell_ending(show(&[VERSION], out), err),
+        NoRun::Rule(row) => tell_ending(show_rule(row, out), err),
+        NoRun::Fault(row) => tell_ending(show_fault(row, out), err),
+        NoRun::NoSuchRule => tell_names(err),
         NoRun::Faulty(fault) => {
             tell_fault(fault, err);
             3
@@ -259,13 +294,73 @@ fn tell_fault<S: Sink>(fault: OptionsFault, err: &mut S) {
     let _ = writeln!(texts, "{fault}");
 }
 
-// Writes a text and flushes it, and answers the ending that this is.
-fn show<O: Write + Drop>(text: &str, out: O) -> Ending
+// Writes which rules and faults there are, and answers the exit status.
+fn tell_names<S: Sink>(err: &mut S) -> u8
+    ensures { result ≡ 3 }
+{
+    put("there is no such rule or fault; there are", err);
+    for row in RULES {
+        put(" ", err);
+        put(row.rule.name(), err);
+    }
+    for row in FAULTS {
+        put(" ", err);
+        put(row.kind.name(), err);
+    }
+    put("\n", err);
+    3
+}
+
+// Writes a rule in a sentence, with a program that breaks it and one that doesn't.
+fn show_rule<O: Write + Drop>(row: &RuleText, out: O) -> Ending
+    ensures { (result ≡ Ending.Ended) ⊎ (result ≡ Ending.WriteRefused) }
+{
+    let name = row.rule.name();
+    let breaks = match row.breaks {
+        Some(program) => program,
+        None => "(none is that short)\n",
+    };
+    show(
+        &[
+            name,
+            ": ",
+            row.sentence,
+            "\n\nRefused by it:\n\n",
+            breaks,
+            "\nNot refused:\n\n",
+            row.keeps,
+        ],
+        out,
+    )
+}
+
+// Writes a fault in a sentence, with a program that ends with it and one that doesn't.
+fn show_fault<O: Write + Drop>(row: &FaultText, out: O) -> Ending
+    ensures { (result ≡ Ending.Ended) ⊎ (result ≡ Ending.WriteRefused) }
+{
+    show(
+        &[
+            row.kind.name(),
+            ": ",
+            row.sentence,
+            "\n\nEnds with it:\n\n",
+            row.faults,
+            "\nDoesn't:\n\n",
+            row.runs,
+        ],
+        out,
+    )
+}
+
+// Writes texts one behind the other and flushes them, and answers the ending that this is.
+fn show<O: Write + Drop>(texts: &[&str], out: O) -> Ending
     ensures { (result ≡ Ending.Ended) ⊎ (result ≡ Ending.WriteRefused) }
 {
     let mut out = out;
-    if out.write_all(text.as_bytes()).is_err() {
-        return Ending::WriteRefused;
+    for text in texts {
+        if out.write_all(text.as_bytes()).is_err() {
+            return Ending::WriteRefused;
+        }
     }
     match out.flush() {
         Ok(()) => Ending::Ended,

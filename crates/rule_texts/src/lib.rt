@@ -3,12 +3,16 @@
 //! program.
 #![tactic(auto)]
 
+ghost use Rattle.std.specs.Prelude.{◌≡◌, IfSome};
+ghost use Rattle.meaning.specs.Names.{fault_name, rule_name};
+
 use meaning::ending::FaultKind;
 use meaning::refusal::Rule;
 
 /// A rule, said to people.
 #[derive(Clone, Copy, Debug)]
 pub struct RuleText {
+    /// Which it is.
     pub rule: Rule,
     /// What the rule asks.
     pub sentence: &'static str,
@@ -21,6 +25,7 @@ pub struct RuleText {
 /// A fault, said to people.
 #[derive(Clone, Copy, Debug)]
 pub struct FaultText {
+    /// Which it is.
     pub kind: FaultKind,
     /// What the fault is.
     pub sentence: &'static str,
@@ -283,3 +288,27 @@ pub const FAULTS: &[FaultText] = &[
         runs: "      INTEGER A(65536)\n      PRINT '(I2)', A\n      END\n",
     },
 ];
+
+/// The texts of the rule that has this name, as `K3`.
+pub fn rule_named(name: &str) -> Option<&'static RuleText>
+    ensures { IfSome result (λ row. rule_name row.now.rule ≡ name.now) }
+{
+    for row in RULES {
+        if row.rule.name() == name {
+            return Some(row);
+        }
+    }
+    None
+}
+
+/// The texts of the fault that has this name, as `F2`.
+pub fn fault_named(name: &str) -> Option<&'static FaultText>
+    ensures { IfSome result (λ row. fault_name row.now.kind ≡ name.now) }
+{
+    for row in FAULTS {
+        if row.kind.name() == name {
+            return Some(row);
+        }
+    }
+    None
+}

@@ -324,7 +324,7 @@ const FAULTY: &[(&[&[u8]], &str)] = &[
     ),
     (
         &[b"f77run", b"--turns"],
-        "an option stands without its number; f77run --help lists the options\n",
+        "an option stands without its value; f77run --help lists the options\n",
     ),
     (
         &[b"f77run", b"--help=yes"],
@@ -342,6 +342,48 @@ const FAULTY: &[(&[&[u8]], &str)] = &[
     (&[b"f77run", b"a\xff.f"], "an argument is not UTF-8\n"),
     (&[b"f77run", b"a.f", b"\xff"], "an argument is not UTF-8\n"),
 ];
+
+// The name of a rule or a fault, and the text that answers it.
+const RULES_ASKED: &[(&[u8], &str)] = &[
+    (
+        b"K3",
+        "K3: A variable, array, constant, statement function or dummy argument is INTEGER or LOGICAL by a type statement, IMPLICIT or a first letter I to N, and under IMPLICIT NONE by a type statement.\n\nRefused by it:\n\n      X=1\n      END\n\nNot refused:\n\n      INTEGER X\n      X=1\n      END\n",
+    ),
+    (
+        b"F1",
+        "F1: The divisor of a quotient, or the second argument of MOD, is zero.\n\nEnds with it:\n\n      J=0\n      I=6/J\n      END\n\nDoesn't:\n\n      J=2\n      I=6/J\n      END\n",
+    ),
+];
+
+// A name that no rule and no fault has.
+const UNKNOWN: &[&[u8]] = &[b"K14", b"K0", b"k3", b"F9", b"F", b"", b"K3 "];
+
+// The line that tells which there are.
+const NAMES: &str =
+    "there is no such rule or fault; there are C1 C2 C3 C4 C5 C6 C7 G1 G2 G3 N1 N2 N3 N4 N5 K1 K2 K3 K4 K5 K6 K7 K8 K9 K10 K11 K12 K13 F1 F2 F3 F4 F5 F6 F7 F8\n";
+
+/// A rule or a fault is shown, and no source is read; an unknown one is a faulty command line.
+#[test]
+fn rules_asked(rt: HostRuntime) {
+    for &(name, text) in RULES_ASKED {
+        let mut input = Broken {
+            kind: ErrorKind::BrokenPipe,
+        };
+        let run = run_of(
+            &rt,
+            &[b"f77run", b"--rule", name, b"no such file.f"],
+            &mut input,
+        );
+        assert!(rt; run.left(0, b"", text.as_bytes()), "{text}");
+        let room = text.len().saturating_sub(1);
+        let narrow = left_narrow(&rt, &[b"f77run", b"--rule", name], &mut io::empty(), room);
+        assert!(rt; narrow.left(5, b"WRITE REFUSED\n", b""), "{text}");
+    }
+    for &name in UNKNOWN {
+        let run = run_of(&rt, &[b"f77run", b"--rule", name], &mut io::empty());
+        assert!(rt; run.left(3, NAMES.as_bytes(), b""));
+    }
+}
 
 // A request, and the text that answers it.
 const REQUESTS: &[(&[u8], &str)] = &[
@@ -365,6 +407,15 @@ fn requests(rt: HostRuntime) {
 const PLANNED: &[(&[&[u8]], &str, u8, &str, &str)] = &[
     (&[b"f77run"], ANSWER, 0, "", "    42\n"),
     (&[b"f77run"], NEXT_AND_STOP, 0, "STOP 7\n", "NEXT\n"),
+    // a minus sign is standard input, behind -- too
+    (&[b"f77run", b"-"], ANSWER, 0, "", "    42\n"),
+    (
+        &[b"f77run", b"--turns=9", b"--", b"-"],
+        ANSWER,
+        0,
+        "",
+        "    42\n",
+    ),
     // the DO statement and three assignments take four turns
     (&[b"f77run", b"--turns=4"], THREE_TRIPS, 0, "", ""),
     (

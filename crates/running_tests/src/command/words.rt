@@ -118,6 +118,20 @@ const COUNTED: &[(&[&str], u64, Option<&str>)] = &[
     ),
 ];
 
+// Words with --rule among them, the name that they ask for, and the file.
+const NAMED: &[(&[&str], &str, Option<&str>)] = &[
+    (&["f77run", "--rule", "K3"], "K3", None),
+    (&["f77run", "--rule=K3"], "K3", None),
+    (&["f77run", "a.f", "--rule", "F2"], "F2", Some("a.f")),
+    (&["f77run", "--rule", "F2", "a.f"], "F2", Some("a.f")),
+    // any text is a name, and so is none
+    (&["f77run", "--rule", "k3"], "k3", None),
+    (&["f77run", "--rule", "5"], "5", None),
+    (&["f77run", "--rule", "-"], "-", None),
+    (&["f77run", "--rule="], "", None),
+    (&["f77run", "--rule", ""], "", None),
+];
+
 // Words that name no run, and why.
 const REFUSED: &[(&[&str], OptionsFault)] = &[
     (&["f77run", "--turns", "0"], OptionsFault::BadNumber),
@@ -145,12 +159,12 @@ const REFUSED: &[(&[&str], OptionsFault)] = &[
     (&["f77run", "--window", "257"], OptionsFault::BadNumber),
     // a word with a minus sign in front is no number of the option before it
     (&["f77run", "--turns", "-5"], OptionsFault::NoSuchOption),
-    (&["f77run", "--turns"], OptionsFault::NoNumber),
+    (&["f77run", "--turns"], OptionsFault::NoValue),
     (
         &["f77run", "--turns", "--block", "5"],
-        OptionsFault::NoNumber,
+        OptionsFault::NoValue,
     ),
-    (&["f77run", "--turns", "--", "5"], OptionsFault::NoNumber),
+    (&["f77run", "--turns", "--", "5"], OptionsFault::NoValue),
     (
         &["f77run", "--turns", "5", "--turns", "5"],
         OptionsFault::GivenTwice,
@@ -161,7 +175,7 @@ const REFUSED: &[(&[&str], OptionsFault)] = &[
     ),
     (
         &["f77run", "--turns", "5", "--turns"],
-        OptionsFault::NoNumber,
+        OptionsFault::NoValue,
     ),
     // --count
     (&["f77run", "--count", "--count"], OptionsFault::GivenTwice),
@@ -169,7 +183,7 @@ const REFUSED: &[(&[&str], OptionsFault)] = &[
         &["f77run", "--count", "a.f", "--count", "--help"],
         OptionsFault::GivenTwice,
     ),
-    (&["f77run", "--turns", "--count"], OptionsFault::NoNumber),
+    (&["f77run", "--turns", "--count"], OptionsFault::NoValue),
     (
         &["f77run", "--turns", "0", "--count"],
         OptionsFault::BadNumber,
@@ -180,6 +194,18 @@ const REFUSED: &[(&[&str], OptionsFault)] = &[
         &["f77run", "--turns", "0", "--count=yes"],
         OptionsFault::NeedlessValue,
     ),
+    (&["f77run", "--rule"], OptionsFault::NoValue),
+    (&["f77run", "--rule", "--count"], OptionsFault::NoValue),
+    (&["f77run", "--rule", "--", "K3"], OptionsFault::NoValue),
+    (
+        &["f77run", "--rule", "K3", "--rule=F1"],
+        OptionsFault::GivenTwice,
+    ),
+    (
+        &["f77run", "--rule", "K3", "--turns", "0"],
+        OptionsFault::BadNumber,
+    ),
+    (&["f77run", "--rules", "K3"], OptionsFault::NoSuchOption),
     (&["f77run", "--counts"], OptionsFault::NoSuchOption),
     (&["f77run", "-c"], OptionsFault::NoSuchOption),
     (
@@ -223,6 +249,21 @@ fn taken(rt: HostRuntime) {
             Ok(asked) => {
                 let plan = asked.plan;
                 assert!(rt; (plan.workers(), plan.block(), plan.window(), plan.turns()) == numbers);
+                assert!(rt; asked.file == file);
+                assert!(rt; !asked.count);
+                assert!(rt; asked.rule == None);
+            }
+            Err(fault) => assert!(rt; false, "{fault}"),
+        }
+    }
+}
+
+#[test]
+fn named(rt: HostRuntime) {
+    for &(words, name, file) in NAMED {
+        match options(rt.alloc(), words) {
+            Ok(asked) => {
+                assert!(rt; asked.rule == Some(name));
                 assert!(rt; asked.file == file);
                 assert!(rt; !asked.count);
             }
@@ -304,11 +345,12 @@ fn help_has_each_rule_and_fault(rt: HostRuntime) {
 fn help_has_each_option_and_status(rt: HostRuntime) {
     // an option's range, and what stands for it where it isn't given
     let wanted: &[&str] = &[
-        "  --workers N    1 to 64, 4: ",
-        "  --block N      1 to 1000000, 64: ",
-        "  --window N     1 to 256, 8: ",
-        "  --turns N      1 to 1000000000000, 1000000000: ",
+        "  --workers N    the workers that run a loop side by side, 1 to 64 [default: 4]\n",
+        "  --block N      the trips of a loop in a worker's block, 1 to 1000000 [default: 64]\n",
+        "  --window N     the blocks that are tried at a time, 1 to 256 [default: 8]\n",
+        "  --turns N      the turns that the program has, 1 to 1000000000000 [default: 1000000000]\n",
         "  --count        ",
+        "  --rule NAME    ",
         "  -h, --help     ",
         "  -V, --version  ",
         "the answer is that of one worker",

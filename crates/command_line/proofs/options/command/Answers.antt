@@ -13,5 +13,6 @@ returns c =
     let with_second = c.in_ok-arg-2.ensures.shape (search rules) ∙ ap₂ with_rule with_first c.number-2.ensures.rule in
     let with_third = c.in_ok-arg-3.ensures.shape (search rules) ∙ ap₂ with_rule with_second c.number-3.ensures.rule in
     let with_fourth = c.in_ok-arg-4.ensures.shape (search rules) ∙ ap₂ with_rule with_third c.number-4.ensures.rule in
-    let with_fifth = c.in_ok-arg-5.ensures.shape (search rules) ∙ ap₂ with_rule with_fourth c.count.ensures.rule in
-    IfOk-weaker c.arg-6.result _ _ (λ r h. h.shape (search rules) ∙ ap₂ with_rule with_fifth c.files.ensures.rule) c.arg-6.ensures
+    let with_fifth = c.in_ok-arg-5.ensures.shape (search rules) ∙ ap₂ with_rule with_fourth c.rule.ensures.rule in
+    let with_sixth = c.in_ok-arg-6.ensures.shape (search rules) ∙ ap₂ with_rule with_fifth c.count.ensures.rule in
+    IfOk-weaker c.arg-7.result _ _ (λ r h. h.shape (search rules) ∙ ap₂ with_rule with_sixth c.files.ensures.rule) c.arg-7.ensures
