@@ -11,3 +11,5 @@ pub mod Crossing
 pub mod CrossingStores
 pub mod CrossingProgram
 pub mod CrossingWork
+pub mod Sharing
+pub mod Stopping

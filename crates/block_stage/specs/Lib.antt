@@ -3,3 +3,4 @@ pub mod Faithful
 pub mod Cuts
 pub mod Taken
 pub mod Stages
+pub mod Causes

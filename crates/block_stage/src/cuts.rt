@@ -57,7 +57,7 @@ fn is_stopped(
 }
 
 // Whether a block has a run that didn't end normally.
-fn ended_early(place: &Option<Trace<'_>>) -> bool
+pub(crate) fn ended_early(place: &Option<Trace<'_>>) -> bool
     ensures { result ≡ is_early (outcome_in place.now) }
 {
     match place {

@@ -4,6 +4,7 @@
 
 mod block;
 mod board;
+mod causes;
 mod cuts;
 mod gate;
 mod job;
@@ -15,6 +16,7 @@ mod trace;
 
 pub use block::{BlockRun, Lost, run_block, run_block_in};
 pub use board::Board;
+pub use causes::{Cause, Dependence, cause_of};
 pub use gate::{Gate, Open};
 pub use job::{Job, JobKey};
 pub use place::value_at;

@@ -84,6 +84,13 @@ impl<'a> Posted<'a> {
         }
     }
 
+    // The runs, at the places of their blocks.
+    pub(crate) fn places(&self) -> &[Option<Trace<'a>>]
+        ensures { result.now ≡ self.now.places }
+    {
+        &self.places
+    }
+
     /// How many blocks the stage had.
     pub fn blocks(&self) -> usize
         ensures { result ≡ length self.now.places }

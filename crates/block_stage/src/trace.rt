@@ -1,10 +1,13 @@
 //! What a block did, by itself.
 
-ghost use Rattle.std.specs.Prelude.{◌≡◌};
+ghost use Rattle.std.specs.Prelude.{◌≡◌, false, MatchOption};
+ghost use Rattle.marks.specs.Cells.{Share};
+ghost use Rattle.block_stage.specs.Causes.{Carries, IsShared};
 ghost use Rattle.meaning.specs.Turns.{is_turn_limit as limits};
 ghost use Rattle.block_stage.specs.Cuts.{is_limit, reads_of};
 ghost use Rattle.block_stage.specs.Taken.{wrote_by};
 
+use marks::{Marks, lowest_bit};
 use meaning::ending::{FaultKind, Outcome};
 use private_view::{Changes, View};
 use std::marker::Model;
@@ -81,6 +84,13 @@ impl<'a> Trace<'a> {
         self.view.exposed().meets(other.view.written())
     }
 
+    // A cell that it exposed and the other wrote, if there is one.
+    pub(crate) fn cell_of(&self, other: &Trace<'_>) -> Option<usize>
+        ensures { MatchOption result (reads_of other.now self.now ≡ false) (Carries other.now self.now) }
+    {
+        shared_cell(self.view.exposed(), other.view.written())
+    }
+
     // What it saw and wrote.
     pub(crate) fn view(&self) -> &View<'a>
         ensures { result.now ≡ self.now.seen }
@@ -100,6 +110,20 @@ impl<'a> Trace<'a> {
         } = self;
         view.into_changes()
     }
+}
+
+// The least cell that is in both sets, if there is one.
+fn shared_cell(one: &Marks, other: &Marks) -> Option<usize>
+    ensures { MatchOption result (Share one.now other.now → ⊥) (IsShared one.now other.now) }
+{
+    let (mine, others) = (one.words(), other.words());
+    for at in 0..mine.len().min(others.len()) {
+        let both = mine[at] & others[at];
+        if both != 0 {
+            return Some(64 * at + lowest_bit(both));
+        }
+    }
+    None
 }
 
 // Whether it is the turn limit's fault.

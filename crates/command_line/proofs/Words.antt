@@ -29,9 +29,9 @@ use Rattle.clap.specs.declared.parser.matches.ValueSource.{ValueSource}
 use Rattle.clap.specs.declared.parser.matches.ValueSource.TheVariants.{CommandLine, DefaultValue}
 use Rattle.clap.specs.declared.builder.value_parser.Reading.{Reading}
 use Rattle.clap.specs.declared.builder.value_parser.Reading.TheVariants.{AsWritten}
-use Rattle.command_line.specs.Command.{count_rule, f77run, fault_for, file_rule, name_rule, number_rule}
-use Rattle.command_line.specs.CommandLine.{Given, Line, Part, Text, Texts, Word, alone, asked_by, asked_for, asks, behind, block, closed, counts, default_of, ends, errs, file, first, fits_under, give, gives, greatest, holding, letter_word, long_or_short, long_word, meet, moved, nothing_read, read, short_word, take, is_in, is_number, name_of, number_in, number_of, put, put_count, put_if, rule, turns, values, window, with_text, word_of, workers}
-use Rattle.command_line.specs.Matches.{AreGiven, Fits_all, HoldTexts, IsGiven, IsNumber, as_flag, as_seen, fits, seen}
+use Rattle.command_line.specs.Command.{f77run, fault_for, file_rule, flag_rule, name_rule, number_rule}
+use Rattle.command_line.specs.CommandLine.{Flag, Given, Line, Name, Part, Text, Word, alone, asked_by, asked_for, asks, behind, block, checks, closed, counts, default_of, ends, errs, explains, file, first, fits_under, flag, give, gives, greatest, holding, is_in, is_number, is_on, letter_word, long_or_short, long_word, meet, moved, name_of, nothing_read, number_in, number_of, part, put, put_flag, put_if, read, rule, sets, short_word, take, turns, values, window, with_text, word_of, workers}
+use Rattle.command_line.specs.Matches.{AreGiven, HoldTexts, IsGiven, IsNumber, as_found, as_seen, fits, seen}
 use Rattle.command_line.specs.declared.asked.OptionsFault.{OptionsFault}
 use Rattle.command_line.specs.declared.asked.OptionsFault.TheVariants as fault
 
@@ -108,18 +108,18 @@ without_none id (r ∷ rs) none = go (bytes_eq r.id id) none (without_none id rs
 
 -- ---- what was given, and rows
 
-values_put : (part other : Part) (v : Text) (given : Texts)
-    → values other (given ++ (part, v) ∷ []) ≡ values other given ++ cond (bytes_eq (name_of part) (name_of other)) (v ∷ []) []
-values_put part other v [] = go (bytes_eq (name_of part) (name_of other))
+values_put : (name other : Name) (v : Text) (given : Given)
+    → values other (given ++ (name, v) ∷ []) ≡ values other given ++ cond (bytes_eq (name_of name) (name_of other)) (v ∷ []) []
+values_put name other v [] = go (bytes_eq (name_of name) (name_of other))
   where
     go : (b : Bool) → cond b (v ∷ []) [] ≡ [] ++ cond b (v ∷ []) []
     go true = refl
     go false = refl
-values_put part other v (g ∷ gs) = go (bytes_eq (name_of g.0) (name_of other)) (values_put part other v gs)
+values_put name other v (g ∷ gs) = go (bytes_eq (name_of g.0) (name_of other)) (values_put name other v gs)
   where
-    go : (b : Bool) → values other (gs ++ (part, v) ∷ []) ≡ values other gs ++ cond (bytes_eq (name_of part) (name_of other)) (v ∷ []) []
-        → cond b (g.1 ∷ values other (gs ++ (part, v) ∷ [])) (values other (gs ++ (part, v) ∷ []))
-        ≡ cond b (g.1 ∷ values other gs) (values other gs) ++ cond (bytes_eq (name_of part) (name_of other)) (v ∷ []) []
+    go : (b : Bool) → values other (gs ++ (name, v) ∷ []) ≡ values other gs ++ cond (bytes_eq (name_of name) (name_of other)) (v ∷ []) []
+        → cond b (g.1 ∷ values other (gs ++ (name, v) ∷ [])) (values other (gs ++ (name, v) ∷ []))
+        ≡ cond b (g.1 ∷ values other gs) (values other gs) ++ cond (bytes_eq (name_of name) (name_of other)) (v ∷ []) []
     go true e = ap (λ l. g.1 ∷ l) e
     go false e = e
 
@@ -127,59 +127,21 @@ added_seen : (vs : List Text) (v : Text) → added (as_seen vs) v ≡ as_seen (v
 added_seen [] v = refl
 added_seen (x ∷ xs) v = refl
 
-texts_put : (part : Part) (v : Text) (given : Given) (rows : List Row)
-    → HoldTexts given rows → HoldTexts (with_text part v given) (put_row CommandLine (name_of part) v rows)
-texts_put part v given rows h other =
-    seen_put CommandLine (name_of part) (name_of other) v rows ∙ go (bytes_eq (name_of part) (name_of other)) ∙ sym (ap as_seen (values_put part other v given.texts))
-  where
-    go : (b : Bool) → cond b (added (seen (name_of other) rows) v) (seen (name_of other) rows) ≡ as_seen (values other given.texts ++ cond b (v ∷ []) [])
-    go true = ap (λ s. added s v) (h other) ∙ added_seen (values other given.texts) v
-    go false = h other ∙ ap as_seen (sym (append-nil (values other given.texts)))
-
-no_flag : (part : Part) → bytes_eq (name_of part) (codes "count") ≡ false
-no_flag workers = refl
-no_flag block = refl
-no_flag window = refl
-no_flag turns = refl
-no_flag rule = refl
-no_flag file = refl
-
--- the flag has a row where it was given, until the defaults are put in
-abbrev pub flag_so_far : Bool → Option (List Text × Reading)
-flag_so_far true = Some (codes "true" ∷ [], AsWritten)
-flag_so_far false = None
-
--- the rows hold what was given
+-- the rows hold what was given; flags have none until the defaults are put in
 abbrev pub Rows : Given → List Row → Type 0
-Rows given rows = HoldTexts given rows × (seen (codes "count") rows ≡ flag_so_far given.count)
+Rows given rows = (name : Name) → seen (name_of name) rows ≡ as_seen (values name given)
 
-has_flag : (given : Given) (rows : List Row) (b : Bool) → Rows given rows → given.count ≡ b → has_row (codes "count") rows ≡ is_some (flag_so_far b)
-has_flag given rows b h is = has_row-seen (codes "count") rows ∙ ap is_some (h.1 ∙ ap flag_so_far is)
-
-rows_put : (part : Part) (v : Text) (given : Given) (rows : List Row)
-    → Rows given rows → Rows (with_text part v given) (put_row CommandLine (name_of part) v rows)
-rows_put part v given rows h = (
-  texts_put part v given rows h.0,
-  seen_put CommandLine (name_of part) (codes "count") v rows
-      ∙ ap (λ b. cond b (added (seen (codes "count") rows) v) (seen (codes "count") rows)) (no_flag part) ∙ h.1,
-)
-
--- a row of the flag changes no text
-texts_beside_flag : (s : ValueSource) (v : Text) (given : Given) (rows : List Row) → HoldTexts given rows → HoldTexts given (put_row s (codes "count") v rows)
-texts_beside_flag s v given rows h other =
-    seen_put s (codes "count") (name_of other) v rows ∙ ap (λ b. cond b (added (seen (name_of other) rows) v) (seen (name_of other) rows)) (apart other) ∙ h other
+rows_put : (name : Name) (v : Text) (given : Given) (rows : List Row)
+    → Rows given rows → Rows (with_text name v given) (put_row CommandLine (name_of name) v rows)
+rows_put name v given rows h other =
+    seen_put CommandLine (name_of name) (name_of other) v rows ∙ go (bytes_eq (name_of name) (name_of other)) ∙ sym (ap as_seen (values_put name other v given))
   where
-    apart : (part : Part) → bytes_eq (codes "count") (name_of part) ≡ false
-    apart workers = refl
-    apart block = refl
-    apart window = refl
-    apart turns = refl
-    apart rule = refl
-    apart file = refl
+    go : (b : Bool) → cond b (added (seen (name_of other) rows) v) (seen (name_of other) rows) ≡ as_seen (values other given ++ cond b (v ∷ []) [])
+    go true = ap (λ s. added s v) (h other) ∙ added_seen (values other given) v
+    go false = h other ∙ ap as_seen (sym (append-nil (values other given)))
 
-flag_seen : (s : ValueSource) (v : Text) (rows : List Row) → seen (codes "count") rows ≡ None
-    → seen (codes "count") (put_row s (codes "count") v rows) ≡ Some (v ∷ [], AsWritten)
-flag_seen s v rows none = seen_put s (codes "count") (codes "count") v rows ∙ ap (λ o. added o v) none
+abbrev pub Fits_all : Given → Type 0
+Fits_all given = list_all fits given ≡ true
 
 all_put : {X : Type 0} (test : X → Bool) (xs : List X) (x : X) → list_all test xs ≡ true → test x ≡ true → list_all test (xs ++ x ∷ []) ≡ true
 all_put test [] x h e = ap (λ b. b && true) e
@@ -228,45 +190,53 @@ first_seen : (vs : List Text) → is_some (as_seen vs) ≡ is_some (slice_get vs
 first_seen [] = refl
 first_seen (v ∷ vs) = refl
 
-numbered_put : (part : Part) (most : ℕ) (v : Text) (given : Given) (rows : List Row) → greatest part ≡ Some most → most < 2 ^ 64 → Rows given rows → Fits_all given
-    → Comes (put_if (is_some (first part given)) (is_in most v) part v given) (use_fault false (number_at (name_of part) most) (v ∷ []) rows)
-    (used (number_at (name_of part) most) (v ∷ []) rows)
-numbered_put part most v given rows known small h all =
-    go (is_some (first part given)) (is_in most v) (has_row-seen (name_of part) rows ∙ ap is_some (h.0 part) ∙ first_seen (values part given.texts)) (in_range most v small) refl
+-- a name has a row where something was given by it
+has_given : (name : Name) (given : Given) (rows : List Row) → Rows given rows → has_row (name_of name) rows ≡ is_some (first name given)
+has_given name given rows h = has_row-seen (name_of name) rows ∙ ap is_some (h name) ∙ first_seen (values name given)
+
+numbered_put : (p : Part) (most : ℕ) (v : Text) (given : Given) (rows : List Row) → greatest p ≡ Some most → most < 2 ^ 64 → Rows given rows → Fits_all given
+    → Comes (put_if (is_some (first (part p) given)) (is_in most v) (part p) v given) (use_fault false (number_at (name_of (part p)) most) (v ∷ []) rows)
+    (used (number_at (name_of (part p)) most) (v ∷ []) rows)
+numbered_put p most v given rows known small h all =
+    go (is_some (first (part p) given)) (is_in most v) (has_given (part p) given rows h) (in_range most v small) refl
   where
     kinds : Bool → Bool → Kinds
     kinds again good = or_else (cond (again && true) (kind.ArgumentConflict ∷ []) []) (or_else (cond good [] (kind.ValueValidation ∷ [])) [])
 
-    go : (again good : Bool) → has_row (name_of part) rows ≡ again → is_unsigned_in 1 most v ≡ good → is_in most v ≡ good
-        → Comes (put_if again good part v given) (use_fault false (number_at (name_of part) most) (v ∷ []) rows) (used (number_at (name_of part) most) (v ∷ []) rows)
+    go : (again good : Bool) → has_row (name_of (part p)) rows ≡ again → is_unsigned_in 1 most v ≡ good → is_in most v ≡ good
+        → Comes (put_if again good (part p) v given) (use_fault false (number_at (name_of (part p)) most) (v ∷ []) rows)
+        (used (number_at (name_of (part p)) most) (v ∷ []) rows)
     go true good a g i = (kind.ArgumentConflict, ap₂ kinds a g, refl)
     go false true a g i = (
       ap₂ kinds a g,
-      subst (λ l. Rows (with_text part v given) (put_row CommandLine (name_of part) v l)) (sym (without_none (name_of part) rows a)) (rows_put part v given rows h),
-      all_put fits given.texts (part, v) all (ap (λ o. fits_under o v) known ∙ i),
+      subst (λ l. Rows (with_text (part p) v given) (put_row CommandLine (name_of (part p)) v l)) (sym (without_none (name_of (part p)) rows a)) (rows_put (part p) v given rows h),
+      all_put fits given (part p, v) all (ap (λ o. fits_under o v) known ∙ i),
     )
     go false false a g i = (kind.ValueValidation, ap₂ kinds a g, refl)
 
--- an option that takes any text is given once
-abbrev name_at : Rule
-name_at = with_index 1 (filled name_rule)
-
-named_put : (v : Text) (given : Given) (rows : List Row) → Rows given rows → Fits_all given
-    → Comes (put rule v given) (use_fault false name_at (v ∷ []) rows) (used name_at (v ∷ []) rows)
-named_put v given rows h all =
-    go (is_some (first rule given)) (has_row-seen (codes "rule") rows ∙ ap is_some (h.0 rule) ∙ first_seen (values rule given.texts))
+-- what has a text in any case is given once: its rule's faults are those of a second use
+once_put : (name : Name) (v : Text) (given : Given) (rows : List Row) (faults : Kinds) (after : List Row) → Rows given rows → Fits_all given → fits (name, v) ≡ true
+    → faults ≡ or_else (cond (has_row (name_of name) rows && true) (kind.ArgumentConflict ∷ []) []) []
+    → after ≡ put_row CommandLine (name_of name) v (without (name_of name) rows)
+    → Comes (put_if (is_some (first name given)) true name v given) faults after
+once_put name v given rows faults after h all fit known left = go (is_some (first name given)) (has_given name given rows h)
   where
     kinds : Bool → Kinds
     kinds again = or_else (cond (again && true) (kind.ArgumentConflict ∷ []) []) []
 
-    go : (again : Bool) → has_row (codes "rule") rows ≡ again
-        → Comes (put_if again true rule v given) (use_fault false name_at (v ∷ []) rows) (used name_at (v ∷ []) rows)
-    go true a = (kind.ArgumentConflict, ap kinds a, refl)
+    go : (again : Bool) → has_row (name_of name) rows ≡ again → Comes (put_if again true name v given) faults after
+    go true a = (kind.ArgumentConflict, known ∙ ap kinds a, refl)
     go false a = (
-      ap kinds a,
-      subst (λ l. Rows (with_text rule v given) (put_row CommandLine (codes "rule") v l)) (sym (without_none (codes "rule") rows a)) (rows_put rule v given rows h),
-      all_put fits given.texts (rule, v) all refl,
+      known ∙ ap kinds a,
+      subst (Rows (with_text name v given)) (sym (left ∙ ap (put_row CommandLine (name_of name) v) (without_none (name_of name) rows a))) (rows_put name v given rows h),
+      all_put fits given (name, v) all fit,
     )
+
+abbrev name_at : Rule
+name_at = with_index 1 (filled name_rule)
+
+abbrev flag_at : Flag → Rule
+flag_at f = with_index 1 (filled (flag_rule (name_of (flag f))))
 
 abbrev rule_at : Part → Rule
 rule_at workers = number_at (codes "workers") 64
@@ -276,40 +246,24 @@ rule_at turns = number_at (codes "turns") 1000000000000
 rule_at rule = name_at
 rule_at file = file_at
 
-put_told : (part : Part) (v : Text) (given : Given) (rows : List Row) → Rows given rows → Fits_all given
-    → Comes (put part v given) (use_fault false (rule_at part) (v ∷ []) rows) (used (rule_at part) (v ∷ []) rows)
+put_told : (p : Part) (v : Text) (given : Given) (rows : List Row) → Rows given rows → Fits_all given
+    → Comes (put p v given) (use_fault false (rule_at p) (v ∷ []) rows) (used (rule_at p) (v ∷ []) rows)
 put_told workers v given rows h all = numbered_put workers 64 v given rows refl (omega arith) h all
 put_told block v given rows h all = numbered_put block 1000000 v given rows refl (omega arith) h all
 put_told window v given rows h all = numbered_put window 256 v given rows refl (omega arith) h all
 put_told turns v given rows h all = numbered_put turns 1000000000000 v given rows refl (omega arith) h all
-put_told rule v given rows h all = named_put v given rows h all
-put_told file v given rows h all = (refl, rows_put file v given rows h, all_put fits given.texts (file, v) all refl)
+put_told rule v given rows h all = once_put (part rule) v given rows _ _ h all refl refl refl
+put_told file v given rows h all = (refl, rows_put (part file) v given rows h, all_put fits given (part file, v) all refl)
 
-abbrev count_at : Rule
-count_at = with_index 1 (filled count_rule)
-
-flag_put : (given : Given) (rows : List Row) → Rows given rows → Fits_all given
-    → Comes (put_count given) (use_fault false count_at [] rows) (used count_at [] rows)
-flag_put given rows h all = go given.count refl
-  where
-    kinds : Bool → Kinds
-    kinds again = or_else (cond (again && true) (kind.ArgumentConflict ∷ []) []) []
-
-    go : (b : Bool) → given.count ≡ b
-        → Comes (cond b (Err fault.GivenTwice) (Ok (record given { count = true }))) (use_fault false count_at [] rows) (used count_at [] rows)
-    go true is = (kind.ArgumentConflict, ap kinds (has_flag given rows true h is), refl)
-    go false is = (
-      ap kinds (has_flag given rows false h is),
-      subst (λ l. Rows (record given { count = true }) (put_row CommandLine (codes "count") (codes "true") l)) (sym (without_none (codes "count") rows (has_flag given rows false h is)))
-          (texts_beside_flag CommandLine (codes "true") given rows h.0, flag_seen CommandLine (codes "true") rows (h.1 ∙ ap flag_so_far is)),
-      all,
-    )
+flag_put : (f : Flag) (given : Given) (rows : List Row) → Rows given rows → Fits_all given
+    → Comes (put_flag f given) (use_fault false (flag_at f) [] rows) (used (flag_at f) [] rows)
+flag_put f given rows h all = once_put (flag f) (codes "true") given rows _ _ h all refl refl refl
 
 -- what clap holds for what is held here
 abbrev pub pending_of : Option (Part × Option Text) → Option (Text × List Text)
 pending_of None = None
-pending_of (Some (part, None)) = Some (name_of part, [])
-pending_of (Some (part, Some v)) = Some (name_of part, v ∷ [])
+pending_of (Some (p, None)) = Some (name_of (part p), [])
+pending_of (Some (p, Some v)) = Some (name_of (part p), v ∷ [])
 
 abbrev pub holds : List Row → Option (Part × Option Text) → Held
 holds rows held = record { rows = rows; pending = pending_of held; skip = 0 }
@@ -339,8 +293,8 @@ standing held only rows waiting =
 -- what takes the next word in clap's walk
 abbrev pub Waits : Option (Part × Option Text) → Waiting → Type 0
 Waits None waiting = (waiting ≡ idle) ⊎ (waiting ≡ positional)
-Waits (Some (part, None)) waiting = waiting ≡ option (name_of part)
-Waits (Some (part, Some v)) waiting = (waiting ≡ idle) ⊎ (waiting ≡ positional)
+Waits (Some (p, None)) waiting = waiting ≡ option (name_of (part p))
+Waits (Some (p, Some v)) waiting = (waiting ≡ idle) ⊎ (waiting ≡ positional)
 
 abbrev pub Stands : Line → Walk → Type 0
 Stands line w = (rows : List Row) × (waiting : Waiting) × (w ≡ standing line.held line.only_files rows waiting) × Rows line.given rows
@@ -407,25 +361,25 @@ Named met found value word given held rows waiting =
     Meets (meet met word (plain_line given held)) (long_fault rules false found value (holds rows held))
     (after_flag rules waiting word (long_met rules found value (holds rows held)).0 (long_met rules found value (holds rows held)).1) word held rows waiting
 
-started_told : (part : Part) (given : Given) (held : Held_part) (rows : List Row) → Rows given rows → Fits_all given
-    → Steps (give part None (plain_line given held)) (or_else (settle_fault rules false (holds rows held)) [])
-    (standing (Some (part, None)) false (settled rules (holds rows held)).rows (option (name_of part)))
-started_told part given held rows h all =
-    subst (λ k. Steps (give part None (plain_line given held)) k (standing (Some (part, None)) false (settled rules (holds rows held)).rows (option (name_of part))))
+started_told : (p : Part) (given : Given) (held : Held_part) (rows : List Row) → Rows given rows → Fits_all given
+    → Steps (give p None (plain_line given held)) (or_else (settle_fault rules false (holds rows held)) [])
+    (standing (Some (p, None)) false (settled rules (holds rows held)).rows (option (name_of (part p))))
+started_told p given held rows h all =
+    subst (λ k. Steps (give p None (plain_line given held)) k (standing (Some (p, None)) false (settled rules (holds rows held)).rows (option (name_of (part p)))))
     (sym (nil_behind (settle_fault rules false (holds rows held))))
-    (held_told (closed given held) _ _ false (Some (part, None)) (option (name_of part)) (closed_told given held rows h all) refl)
+    (held_told (closed given held) _ _ false (Some (p, None)) (option (name_of (part p))) (closed_told given held rows h all) refl)
 
-valued_told : (part : Part) (v : Text) (given : Given) (held : Held_part) (rows : List Row) → Rows given rows → Fits_all given
-    → Steps (give part (Some v) (plain_line given held))
-    (or_else (or_else (settle_fault rules false (holds rows held)) (use_fault false (rule_at part) (v ∷ []) (settled rules (holds rows held)).rows)) [])
-    (standing None false (used (rule_at part) (v ∷ []) (settled rules (holds rows held)).rows) idle)
-valued_told part v given held rows h all =
-    given_told (closed given held) (put part v) _ _ (settled rules (holds rows held)).rows _ false (closed_told given held rows h all)
-    (λ g r f. put_told part v g (settled rules (holds rows held)).rows r f)
+valued_told : (p : Part) (v : Text) (given : Given) (held : Held_part) (rows : List Row) → Rows given rows → Fits_all given
+    → Steps (give p (Some v) (plain_line given held))
+    (or_else (or_else (settle_fault rules false (holds rows held)) (use_fault false (rule_at p) (v ∷ []) (settled rules (holds rows held)).rows)) [])
+    (standing None false (used (rule_at p) (v ∷ []) (settled rules (holds rows held)).rows) idle)
+valued_told p v given held rows h all =
+    given_told (closed given held) (put p v) _ _ (settled rules (holds rows held)).rows _ false (closed_told given held rows h all)
+    (λ g r f. put_told p v g (settled rules (holds rows held)).rows r f)
 
 -- the word of an option
-part_told : (part : Part) (value : Option Text) (word : Text) (given : Given) (held : Held_part) (rows : List Row) (waiting : Waiting)
-    → Rows given rows → Fits_all given → Named (gives part value) (Some (rule_at part)) value word given held rows waiting
+part_told : (p : Part) (value : Option Text) (word : Text) (given : Given) (held : Held_part) (rows : List Row) (waiting : Waiting)
+    → Rows given rows → Fits_all given → Named (gives p value) (Some (rule_at p)) value word given held rows waiting
 part_told workers None word given held rows waiting h all = started_told workers given held rows h all
 part_told block None word given held rows waiting h all = started_told block given held rows h all
 part_told window None word given held rows waiting h all = started_told window given held rows h all
@@ -439,12 +393,12 @@ part_told turns (Some v) word given held rows waiting h all = valued_told turns 
 part_told rule (Some v) word given held rows waiting h all = valued_told rule v given held rows h all
 part_told file (Some v) word given held rows waiting h all = valued_told file v given held rows h all
 
-count_told : (value : Option Text) (word : Text) (given : Given) (held : Held_part) (rows : List Row) (waiting : Waiting)
-    → Rows given rows → Fits_all given → Named (alone counts value) (Some count_at) value word given held rows waiting
-count_told None word given held rows waiting h all =
-    given_told (closed given held) put_count _ _ (settled rules (holds rows held)).rows _ false (closed_told given held rows h all)
-    (λ g r f. flag_put g (settled rules (holds rows held)).rows r f)
-count_told (Some v) word given held rows waiting h all = (kind.TooManyValues, refl, refl)
+flag_told : (f : Flag) (value : Option Text) (word : Text) (given : Given) (held : Held_part) (rows : List Row) (waiting : Waiting)
+    → Rows given rows → Fits_all given → Named (alone (sets f) value) (Some (flag_at f)) value word given held rows waiting
+flag_told f None word given held rows waiting h all =
+    given_told (closed given held) (put_flag f) _ _ (settled rules (holds rows held)).rows _ false (closed_told given held rows h all)
+    (λ g r t. flag_put f g (settled rules (holds rows held)).rows r t)
+flag_told f (Some v) word given held rows waiting h all = (kind.TooManyValues, refl, refl)
 
 abbrev help_at : Rule
 help_at = with_index 2 (filled help_rule)
@@ -471,23 +425,28 @@ named_told : (name : Text) (value : Option Text) (word : Text) (given : Given) (
     → Rows given rows → Fits_all given → Named (long_word name value) (arg_by_long rules name) value word given held rows waiting
 named_told name value word given held rows waiting h all =
     pick (bytes_eq (codes "workers") name) (bytes_eq (codes "block") name) (bytes_eq (codes "window") name) (bytes_eq (codes "turns") name)
-    (bytes_eq (codes "rule") name) (bytes_eq (codes "count") name) (bytes_eq (codes "help") name) (bytes_eq (codes "version") name)
+    (bytes_eq (codes "rule") name) (bytes_eq (codes "check") name) (bytes_eq (codes "count") name) (bytes_eq (codes "explain") name)
+    (bytes_eq (codes "help") name) (bytes_eq (codes "version") name)
   where
-    pick : (a b c d r e f g : Bool) → Named
+    pick : (a b c d r i j k f g : Bool) → Named
         (cond a (gives workers value) (cond b (gives block value) (cond c (gives window value) (cond d (gives turns value) (cond r (gives rule value)
-        (cond e (alone counts value) (cond f (alone (asks fault.Help) value) (cond g (alone (asks fault.Version) value) (errs fault.NoSuchOption)))))))))
+        (cond i (alone (sets checks) value) (cond j (alone (sets counts) value) (cond k (alone (sets explains) value)
+        (cond f (alone (asks fault.Help) value) (cond g (alone (asks fault.Version) value) (errs fault.NoSuchOption)))))))))))
         (cond (a || false) (Some (rule_at workers)) (cond (b || false) (Some (rule_at block)) (cond (c || false) (Some (rule_at window)) (cond (d || false) (Some (rule_at turns))
-        (cond (r || false) (Some (rule_at rule)) (cond (e || false) (Some count_at) (cond (f || false) (Some help_at) (cond (g || false) (Some version_at) None))))))))
+        (cond (r || false) (Some (rule_at rule)) (cond (i || false) (Some (flag_at checks)) (cond (j || false) (Some (flag_at counts)) (cond (k || false) (Some (flag_at explains))
+        (cond (f || false) (Some help_at) (cond (g || false) (Some version_at) None))))))))))
         value word given held rows waiting
-    pick true b c d r e f g = part_told workers value word given held rows waiting h all
-    pick false true c d r e f g = part_told block value word given held rows waiting h all
-    pick false false true d r e f g = part_told window value word given held rows waiting h all
-    pick false false false true r e f g = part_told turns value word given held rows waiting h all
-    pick false false false false true e f g = part_told rule value word given held rows waiting h all
-    pick false false false false false true f g = count_told value word given held rows waiting h all
-    pick false false false false false false true g = help_told value word given held rows waiting h all
-    pick false false false false false false false true = version_told value word given held rows waiting h all
-    pick false false false false false false false false = (kind.UnknownArgument, refl, refl)
+    pick true b c d r i j k f g = part_told workers value word given held rows waiting h all
+    pick false true c d r i j k f g = part_told block value word given held rows waiting h all
+    pick false false true d r i j k f g = part_told window value word given held rows waiting h all
+    pick false false false true r i j k f g = part_told turns value word given held rows waiting h all
+    pick false false false false true i j k f g = part_told rule value word given held rows waiting h all
+    pick false false false false false true j k f g = flag_told checks value word given held rows waiting h all
+    pick false false false false false false true k f g = flag_told counts value word given held rows waiting h all
+    pick false false false false false false false true f g = flag_told explains value word given held rows waiting h all
+    pick false false false false false false false false true g = help_told value word given held rows waiting h all
+    pick false false false false false false false false false true = version_told value word given held rows waiting h all
+    pick false false false false false false false false false false = (kind.UnknownArgument, refl, refl)
 
 -- ---- a file, or a value
 
@@ -514,8 +473,8 @@ abbrev Loose : Text → Given → Held_part → List Row → Waiting → Type 0
 Loose word given held rows waiting =
     Meets (take word held (plain_line given held)) [] (plain_word rules waiting word (holds rows held)) word held rows waiting
 
-value_told : (part : Part) (word : Text) (given : Given) (rows : List Row) → Rows given rows → Fits_all given
-    → Loose word given (Some (part, None)) rows (option (name_of part))
+value_told : (p : Part) (word : Text) (given : Given) (rows : List Row) → Rows given rows → Fits_all given
+    → Loose word given (Some (p, None)) rows (option (name_of (part p)))
 value_told workers word given rows h all = (refl, (rows, idle, refl, h, all, inl refl))
 value_told block word given rows h all = (refl, (rows, idle, refl, h, all, inl refl))
 value_told window word given rows h all = (refl, (rows, idle, refl, h, all, inl refl))
@@ -525,18 +484,18 @@ value_told file word given rows h all = (refl, (rows, idle, refl, h, all, inl re
 
 loose_told : (held : Held_part) (waiting : Waiting) (word : Text) (given : Given) (rows : List Row) → Waits held waiting → Rows given rows → Fits_all given
     → Loose word given held rows waiting
-loose_told (Some (part, None)) waiting word given rows w h all =
-    subst (Loose word given (Some (part, None)) rows) (sym w) (value_told part word given rows h all)
+loose_told (Some (p, None)) waiting word given rows w h all =
+    subst (Loose word given (Some (p, None)) rows) (sym w) (value_told p word given rows h all)
 loose_told None waiting word given rows (inl w) h all =
     subst (Loose word given None rows) (sym w) (file_told (is_pending file_at None) false word given None rows h all)
 loose_told None waiting word given rows (inr w) h all =
     subst (Loose word given None rows) (sym w) (file_told (is_pending file_at None) false word given None rows h all)
-loose_told (Some (part, Some v)) waiting word given rows (inl w) h all =
-    subst (Loose word given (Some (part, Some v)) rows) (sym w)
-    (file_told (is_pending file_at (pending_of (Some (part, Some v)))) false word given (Some (part, Some v)) rows h all)
-loose_told (Some (part, Some v)) waiting word given rows (inr w) h all =
-    subst (Loose word given (Some (part, Some v)) rows) (sym w)
-    (file_told (is_pending file_at (pending_of (Some (part, Some v)))) false word given (Some (part, Some v)) rows h all)
+loose_told (Some (p, Some v)) waiting word given rows (inl w) h all =
+    subst (Loose word given (Some (p, Some v)) rows) (sym w)
+    (file_told (is_pending file_at (pending_of (Some (p, Some v)))) false word given (Some (p, Some v)) rows h all)
+loose_told (Some (p, Some v)) waiting word given rows (inr w) h all =
+    subst (Loose word given (Some (p, Some v)) rows) (sym w)
+    (file_told (is_pending file_at (pending_of (Some (p, Some v)))) false word given (Some (p, Some v)) rows h all)
 
 -- ---- a word that begins with one minus sign
 
@@ -670,26 +629,19 @@ kept a rows e = go a.defaults e (has_row a.id rows)
         let bad : suc (length xs) ≡ 0 = (Decides-eqb (suc (length xs)) 0).0 n in
         absurd (omega arith)
 
-kept_rows : (rs : List Rule) (rows : List Row) → list_all has_no_default rs ≡ true → fold with_default rows rs ≡ rows
-kept_rows [] rows e = refl
-kept_rows (a ∷ rs) rows e = go (has_no_default a) refl e (λ t. kept_rows rs rows t)
-  where
-    go : (b : Bool) → has_no_default a ≡ b → (b && list_all has_no_default rs) ≡ true
-        → (list_all has_no_default rs ≡ true → fold with_default rows rs ≡ rows) → fold with_default (with_default rows a) rs ≡ rows
-    go true n t ih = ap (λ l. fold with_default l rs) (kept a rows n) ∙ ih t
-    go false n t ih = absurd (true≢false (sym t))
+abbrev defaulted : List Rule → List Rule
+defaulted [] = []
+defaulted (a ∷ rs) = cond (has_no_default a) (defaulted rs) (a ∷ defaulted rs)
 
--- one argument alone has a default
-kept_but_one : (before after : List Rule) (one : Rule) (rows : List Row) → list_all has_no_default before ≡ true → list_all has_no_default after ≡ true
-    → fold with_default rows (before ++ one ∷ after) ≡ with_default rows one
-kept_but_one [] after one rows e none = kept_rows after (with_default rows one) none
-kept_but_one (a ∷ rs) after one rows e none = go (has_no_default a) refl e (λ t. kept_but_one rs after one rows t none)
+-- the others leave the rows
+kept_rows : (rs : List Rule) (rows : List Row) → fold with_default rows rs ≡ fold with_default rows (defaulted rs)
+kept_rows [] rows = refl
+kept_rows (a ∷ rs) rows = go (has_no_default a) refl (λ l. kept_rows rs l)
   where
-    go : (b : Bool) → has_no_default a ≡ b → (b && list_all has_no_default rs) ≡ true
-        → (list_all has_no_default rs ≡ true → fold with_default rows (rs ++ one ∷ after) ≡ with_default rows one)
-        → fold with_default (with_default rows a) (rs ++ one ∷ after) ≡ with_default rows one
-    go true n t ih = ap (λ l. fold with_default l (rs ++ one ∷ after)) (kept a rows n) ∙ ih t
-    go false n t ih = absurd (true≢false (sym t))
+    go : (b : Bool) → has_no_default a ≡ b → ((l : List Row) → fold with_default l rs ≡ fold with_default l (defaulted rs))
+        → fold with_default (with_default rows a) rs ≡ fold with_default rows (cond b (defaulted rs) (a ∷ defaulted rs))
+    go true none ih = ap (λ l. fold with_default l rs) (kept a rows none) ∙ ih rows
+    go false some ih = ih (with_default rows a)
 
 -- the default is right, where there is one
 abbrev is_right : Rule → Bool
@@ -722,24 +674,106 @@ abbrev pub Leaves : Result Given OptionsFault → Kinds → List Row → Type 0
 Leaves (Ok given) kinds rows = (kinds ≡ []) × AreGiven given rows
 Leaves (Err f) kinds rows = (k : ErrorKind) × (kinds ≡ k ∷ []) × (fault_for k ≡ f)
 
-flag_default : (given : Given) (rows : List Row) → Rows given rows → Fits_all given → AreGiven given (with_default rows count_at)
-flag_default given rows h all = go given.count refl
+-- ---- the defaults of flags
+
+abbrev is_among : Text → List Text → Bool
+is_among name [] = false
+is_among name (f ∷ fs) = bytes_eq f name || is_among name fs
+
+-- with its default put in, or without
+abbrev as_far : Bool → List Text → Option (List Text × Reading)
+as_far true [] = Some (codes "false" ∷ [], AsWritten)
+as_far false [] = None
+as_far b (v ∷ vs) = Some (v ∷ vs, AsWritten)
+
+-- the rows hold what was given, and the defaults of these flags
+abbrev Defaulted : List Text → Given → List Row → Type 0
+Defaulted flags given rows = (name : Name) → seen (name_of name) rows ≡ as_far (is_among (name_of name) flags) (values name given)
+
+without_default : (vs : List Text) → as_seen vs ≡ as_far false vs
+without_default [] = refl
+without_default (v ∷ vs) = refl
+
+still_there : (b : Bool) (vs : List Text) (s : List Text × Reading) → as_far b vs ≡ Some s → as_far true vs ≡ Some s
+still_there true vs s e = e
+still_there false [] s e = absurd (true≢false (sym (ap is_some e)))
+still_there false (v ∷ vs) s e = e
+
+not_there : (b : Bool) (vs : List Text) → as_far b vs ≡ None → as_far true vs ≡ Some (codes "false" ∷ [], AsWritten)
+not_there true [] e = refl
+not_there false [] e = refl
+not_there b (v ∷ vs) e = absurd (true≢false (ap is_some e))
+
+default_told : (f : Flag) (flags : List Text) (given : Given) (rows : List Row) → Defaulted flags given rows
+    → Defaulted (name_of (flag f) ∷ flags) given (with_default rows (flag_at f))
+default_told f flags given rows h name = by (seen id rows) refl (bytes_eq id other) refl
   where
-    defaulted : Bool → List Row
-    defaulted b = cond b rows (put_row DefaultValue (codes "count") (codes "false") rows)
+    id : Text
+    id = name_of (flag f)
 
-    go : (b : Bool) → given.count ≡ b → AreGiven given (defaulted (has_row (codes "count") rows))
-    go true is =
-        subst (λ b. AreGiven given (defaulted b)) (sym (has_flag given rows true h is)) (h.0, h.1 ∙ ap flag_so_far is ∙ sym (ap as_flag is), all)
-    go false is =
-        subst (λ b. AreGiven given (defaulted b)) (sym (has_flag given rows false h is)) (
-          texts_beside_flag DefaultValue (codes "false") given rows h.0,
-          flag_seen DefaultValue (codes "false") rows (h.1 ∙ ap flag_so_far is) ∙ sym (ap as_flag is),
-          all,
-        )
+    other : Text
+    other = name_of name
 
-left_told : (r : Result Given OptionsFault) (kinds : Kinds) (rows : List Row) → Comes r kinds rows → Leaves r kinds (with_default rows count_at)
-left_told (Ok given) kinds rows c = (c.0, flag_default given rows c.1 c.2)
+    state : Option (List Text × Reading)
+    state = as_far (is_among other flags) (values name given)
+
+    same : bytes_eq id other ≡ true → seen other rows ≡ seen id rows
+    same c = ap (λ t. seen t rows) (sym ((bytes_eq-Decides id other).0 c))
+
+    put_in : (b : Bool) → List Row
+    put_in b = cond b rows (put_row DefaultValue id (codes "false") rows)
+
+    by : (o : Option (List Text × Reading)) → seen id rows ≡ o → (c : Bool) → bytes_eq id other ≡ c
+        → seen other (put_in (has_row id rows)) ≡ as_far (c || is_among other flags) (values name given)
+    by (Some s) is false c = ap (λ b. seen other (put_in b)) (has_row-seen id rows ∙ ap is_some is) ∙ h name
+    by (Some s) is true c =
+        let there : seen other rows ≡ Some s = same c ∙ is in
+        ap (λ b. seen other (put_in b)) (has_row-seen id rows ∙ ap is_some is)
+        ∙ (there ∙ sym (still_there (is_among other flags) (values name given) s (sym (h name) ∙ there)))
+    by None is false c =
+        ap (λ b. seen other (put_in b)) (has_row-seen id rows ∙ ap is_some is)
+        ∙ (seen_put DefaultValue id other (codes "false") rows ∙ ap (λ b. cond b (added (seen other rows) (codes "false")) (seen other rows)) c ∙ h name)
+    by None is true c =
+        let lacks : seen other rows ≡ None = same c ∙ is in
+        ap (λ b. seen other (put_in b)) (has_row-seen id rows ∙ ap is_some is)
+        ∙ (seen_put DefaultValue id other (codes "false") rows ∙ ap (λ b. cond b (added (seen other rows) (codes "false")) (seen other rows)) c
+        ∙ ap (λ o. added o (codes "false")) lacks ∙ sym (not_there (is_among other flags) (values name given) (sym (h name) ∙ lacks)))
+
+abbrev flags_at : List Rule
+flags_at = flag_at checks ∷ flag_at counts ∷ flag_at explains ∷ []
+
+abbrev all_flags : List Text
+all_flags = name_of (flag explains) ∷ name_of (flag counts) ∷ name_of (flag checks) ∷ []
+
+with_flags : (given : Given) (rows : List Row) → Rows given rows → Defaulted all_flags given (fold with_default rows flags_at)
+with_flags given rows h =
+    default_told explains (name_of (flag counts) ∷ name_of (flag checks) ∷ []) given _
+    (default_told counts (name_of (flag checks) ∷ []) given _
+    (default_told checks [] given rows (λ name. h name ∙ without_default (values name given))))
+
+found_of_flag : (f : Flag) (vs : List Text) → as_far true vs ≡ as_found (flag f) vs
+found_of_flag f [] = refl
+found_of_flag f (v ∷ vs) = refl
+
+no_flag : (p : Part) → is_among (name_of (part p)) all_flags ≡ false
+no_flag workers = refl
+no_flag block = refl
+no_flag window = refl
+no_flag turns = refl
+no_flag rule = refl
+no_flag file = refl
+
+some_flag : (f : Flag) → is_among (name_of (flag f)) all_flags ≡ true
+some_flag checks = refl
+some_flag counts = refl
+some_flag explains = refl
+
+all_found : (given : Given) (rows : List Row) → Defaulted all_flags given rows → HoldTexts given rows
+all_found given rows h (part p) = h (part p) ∙ ap (λ b. as_far b (values (part p) given)) (no_flag p) ∙ sym (without_default (values (part p) given))
+all_found given rows h (flag f) = h (flag f) ∙ ap (λ b. as_far b (values (flag f) given)) (some_flag f) ∙ found_of_flag f (values (flag f) given)
+
+left_told : (r : Result Given OptionsFault) (kinds : Kinds) (rows : List Row) → Comes r kinds rows → Leaves r kinds (fold with_default rows flags_at)
+left_told (Ok given) kinds rows c = (c.0, (all_found given (fold with_default rows flags_at) (with_flags given rows c.1), c.2))
 left_told (Err f) kinds rows c = c
 
 no_level : (stop : Option (Text × List Text)) → entered_fault (built f77run) stop ≡ []
@@ -755,19 +789,13 @@ four a b c d e is_b is_d is_e =
     ap (λ l. or_else a (or_else l (or_else c (or_else d e)))) is_b ∙ ap (λ l. or_else a (or_else c (or_else l e))) is_d
     ∙ ap (λ l. or_else a (or_else c l)) is_e ∙ ap (or_else a) (nil_behind c)
 
-abbrev before_count : List Rule
-before_count = rule_at workers ∷ rule_at block ∷ rule_at window ∷ rule_at turns ∷ rule_at rule ∷ []
-
-abbrev after_count : List Rule
-after_count = rule_at file ∷ help_at ∷ version_at ∷ []
-
 pub told : (words : List Text) → Leaves (read (drop 1 words) nothing_read) (fault_of f77run words) (matches_of f77run words)
 told words =
     subst (λ k. Leaves (read (drop 1 words) nothing_read) k (matches_of f77run words)) (sym kinds)
     (subst (Leaves (read (drop 1 words) nothing_read) (or_else (walk_fault top [] start (drop 1 words)) (settle_fault rules false end.held)))
-    (sym (kept_but_one before_count after_count count_at (settled rules end.held).rows refl refl))
+    (sym (kept_rows rules (settled rules end.held).rows))
     (left_told (read (drop 1 words) nothing_read) (or_else (walk_fault top [] start (drop 1 words)) (settle_fault rules false end.held)) (settled rules end.held).rows
-    (read_told (drop 1 words) nothing_read start ([], idle, refl, ((λ part. refl), refl), refl, inl refl))))
+    (read_told (drop 1 words) nothing_read start ([], idle, refl, (λ name. refl), refl, inl refl))))
   where
     start : Walk
     start = standing None false [] idle
@@ -811,36 +839,79 @@ first_text [] = refl
 first_text (v ∷ vs) = refl
 
 -- the text that is read of an option is the one that is given
-pub one_given : (given : Given) (m : ArgMatches) (part : Part) → IsGiven given m → one_text (found_of m) (name_of part) ≡ first part given
-one_given given m part h =
-    one_text-rows (found_of m) (name_of part) ∙ one_of-seen (name_of part) (rows_of (found_of m))
-    ∙ ap (option_and_then (λ (s : List Text × Reading). option_map (read_as s.1) (slice_get s.0 0))) (h.0 part) ∙ first_text (values part given.texts)
+pub one_given : (given : Given) (m : ArgMatches) (p : Part) → IsGiven given m → one_text (found_of m) (name_of (part p)) ≡ first (part p) given
+one_given given m p h =
+    one_text-rows (found_of m) (name_of (part p)) ∙ one_of-seen (name_of (part p)) (rows_of (found_of m))
+    ∙ ap (option_and_then (λ (s : List Text × Reading). option_map (read_as s.1) (slice_get s.0 0))) (h.0 (part p)) ∙ first_text (values (part p) given)
 
--- and so the flag
-pub flag_is : (given : Given) (m : ArgMatches) (result : Bool) → IsGiven given m
-    → (one_text (found_of m) (codes "count") ≡ Some (codes "true") → result ≡ true)
-    → (one_text (found_of m) (codes "count") ≡ Some (codes "false") → result ≡ false) → result ≡ given.count
-flag_is given m result h on off = go given.count refl
+same_part : (a b : Part) → bytes_eq (name_of (part a)) (name_of (part b)) ≡ true → a ≡ b
+same_part workers workers e = refl
+same_part block block e = refl
+same_part window window e = refl
+same_part turns turns e = refl
+same_part rule rule e = refl
+same_part file file e = refl
+same_part a b e = absurd (true≢false (sym e))
+
+same_flag : (a b : Flag) → bytes_eq (name_of (flag a)) (name_of (flag b)) ≡ true → a ≡ b
+same_flag checks checks e = refl
+same_flag counts counts e = refl
+same_flag explains explains e = refl
+same_flag a b e = absurd (true≢false (sym e))
+
+apart : (p : Part) (f : Flag) → name_of (part p) ≡ name_of (flag f) → ⊥
+apart p f e = true≢false (sym (some_flag f) ∙ sym (ap (λ t. is_among t all_flags) e) ∙ no_flag p)
+
+same_name : (a b : Name) → bytes_eq (name_of a) (name_of b) ≡ true → a ≡ b
+same_name (part p) (part q) e = ap part (same_part p q e)
+same_name (flag f) (flag g) e = ap flag (same_flag f g e)
+same_name (part p) (flag f) e = absurd (apart p f ((bytes_eq-Decides (name_of (part p)) (name_of (flag f))).0 e))
+same_name (flag f) (part p) e = absurd (apart p f (sym ((bytes_eq-Decides (name_of (flag f)) (name_of (part p))).0 e)))
+
+-- the first text of a name is one that fits it
+first_fits : (name : Name) (given : Given) (v : Text) → list_all fits given ≡ true → slice_get (values name given) 0 ≡ Some v → fits (name, v) ≡ true
+first_fits name [] v h is = absurd (true≢false (sym (ap is_some is)))
+first_fits name (g ∷ gs) v h is =
+    go (bytes_eq (name_of g.0) (name_of name)) refl (fits g) refl h is (λ t i. first_fits name gs v t i)
+  where
+    go : (b : Bool) → bytes_eq (name_of g.0) (name_of name) ≡ b → (f : Bool) → fits g ≡ f → (f && list_all fits gs) ≡ true
+        → slice_get (cond b (g.1 ∷ values name gs) (values name gs)) 0 ≡ Some v
+        → (list_all fits gs ≡ true → slice_get (values name gs) 0 ≡ Some v → fits (name, v) ≡ true) → fits (name, v) ≡ true
+    go b e false f t i ih = absurd (true≢false (sym t))
+    go false e true f t i ih = ih t i
+    go true e true f t i ih =
+        let value : g.1 ≡ v = ap (λ o. unwrap_or o v) i in
+        sym (ap₂ (λ a t. fits (a, t)) (same_name g.0 name e) value) ∙ f
+
+-- and so a flag
+pub flag_is : (given : Given) (m : ArgMatches) (name : Text) (result : Bool) (f : Flag) → IsGiven given m → name ≡ name_of (flag f)
+    → (one_text (found_of m) name ≡ Some (codes "true") → result ≡ true)
+    → (one_text (found_of m) name ≡ Some (codes "false") → result ≡ false) → result ≡ is_on f given
+flag_is given m name result f h named on off = go (values (flag f) given) refl
   where
     text : Option (List Text × Reading) → Option Text
     text = option_and_then (λ (s : List Text × Reading). option_map (read_as s.1) (slice_get s.0 0))
 
-    read_text : (b : Bool) → given.count ≡ b → one_text (found_of m) (codes "count") ≡ text (as_flag b)
-    read_text b is =
-        one_text-rows (found_of m) (codes "count") ∙ one_of-seen (codes "count") (rows_of (found_of m)) ∙ ap text (h.1 ∙ ap as_flag is)
+    read_text : (vs : List Text) → values (flag f) given ≡ vs → one_text (found_of m) name ≡ text (as_found (flag f) vs)
+    read_text vs is =
+        ap (one_text (found_of m)) named ∙ one_text-rows (found_of m) (name_of (flag f)) ∙ one_of-seen (name_of (flag f)) (rows_of (found_of m))
+        ∙ ap text (h.0 (flag f) ∙ ap (as_found (flag f)) is)
 
-    go : (b : Bool) → given.count ≡ b → result ≡ given.count
-    go true is = on (read_text true is) ∙ sym is
-    go false is = off (read_text false is) ∙ sym is
+    go : (vs : List Text) → values (flag f) given ≡ vs → result ≡ is_on f given
+    go [] is = off (read_text [] is) ∙ sym (ap (λ (l : List Text). is_some (slice_get l 0)) is)
+    go (v ∷ vs) is =
+        let fit = first_fits (flag f) given v h.1 (ap (λ (l : List Text). slice_get l 0) is) in
+        let set : v ≡ codes "true" = (bytes_eq-Decides v (codes "true")).0 fit in
+        on (read_text (v ∷ vs) is ∙ ap Some set) ∙ sym (ap (λ (l : List Text). is_some (slice_get l 0)) is)
 
 abbrev pub texts_of : List Text → Option (List Text)
 texts_of vs = option_map (λ (s : List Text × Reading). s.0) (as_seen vs)
 
 -- and so the texts
-pub texts_given : (given : Given) (m : ArgMatches) (part : Part) → IsGiven given m
-    → option_map raw_values (matched_of (found_of m) (name_of part)) ≡ texts_of (values part given.texts)
-texts_given given m part h =
-    raw_values-rows (found_of m) (name_of part) ∙ all_of-seen (name_of part) (rows_of (found_of m)) ∙ ap (option_map (λ (s : List Text × Reading). s.0)) (h.0 part)
+pub texts_given : (given : Given) (m : ArgMatches) (p : Part) → IsGiven given m
+    → option_map raw_values (matched_of (found_of m) (name_of (part p))) ≡ texts_of (values (part p) given)
+texts_given given m p h =
+    raw_values-rows (found_of m) (name_of (part p)) ∙ all_of-seen (name_of (part p)) (rows_of (found_of m)) ∙ ap (option_map (λ (s : List Text × Reading). s.0)) (h.0 (part p))
 
 pub no_file : (vs : List Text) → None ≡ texts_of vs → (nat_lt 1 (length vs) ≡ false) × (None ≡ slice_get vs 0)
 no_file [] e = (refl, refl)
@@ -879,29 +950,6 @@ pub err_half : {X Y : Type 0} (r : Result X OptionsFault) (f : X → Y) (whole h
 err_half (Ok x) f whole half same h = tt
 err_half (Err e) f whole half same h = inr (same ∙ h)
 
-same_greatest : (a b : Part) → bytes_eq (name_of a) (name_of b) ≡ true → greatest a ≡ greatest b
-same_greatest workers workers e = refl
-same_greatest block block e = refl
-same_greatest window window e = refl
-same_greatest turns turns e = refl
-same_greatest rule rule e = refl
-same_greatest file file e = refl
-same_greatest a b e = absurd (true≢false (sym e))
-
-first_fits : (part : Part) (given : Texts) (v : Text) (most : ℕ) → greatest part ≡ Some most → list_all fits given ≡ true → slice_get (values part given) 0 ≡ Some v → is_in most v ≡ true
-first_fits part [] v most known h is = absurd (true≢false (sym (ap is_some is)))
-first_fits part (g ∷ gs) v most known h is =
-    go (bytes_eq (name_of g.0) (name_of part)) refl (fits g) refl h is (λ t i. first_fits part gs v most known t i)
-  where
-    go : (b : Bool) → bytes_eq (name_of g.0) (name_of part) ≡ b → (f : Bool) → fits g ≡ f → (f && list_all fits gs) ≡ true
-        → slice_get (cond b (g.1 ∷ values part gs) (values part gs)) 0 ≡ Some v
-        → (list_all fits gs ≡ true → slice_get (values part gs) 0 ≡ Some v → is_in most v ≡ true) → is_in most v ≡ true
-    go b e false f t i ih = absurd (true≢false (sym t))
-    go false e true f t i ih = ih t i
-    go true e true f t i ih =
-        let value : g.1 ≡ v = ap (λ o. unwrap_or o v) i in
-        sym (ap₂ fits_under (same_greatest g.0 part e ∙ known) value) ∙ f
-
 reads_u64 : {E : Type 0} (G : Text → Result ℕ E → Type 0) (t : Text) (r : Option ℕ) → ReadsOne G t r
     → ((u : Text) (x : Result ℕ E) → G u x → ParsesUnsigned 64 10 u x) → (most : ℕ) → most < 2 ^ 64 → is_in most t ≡ true → r ≡ Some (number_of t)
 reads_u64 G t (Some n) read only most small fit = ap Some (only t (Ok n) read).1
@@ -909,7 +957,7 @@ reads_u64 G t None read only most small fit =
     let accepted = accepts-Accepts false (vp.Unsigned 1 most) t (in_range most t small ∙ fit) in
     absurd (only t (Err read.0) read.1 (accepted.0, accepted.1))
 
-small_enough : (part : Part) (most : ℕ) → greatest part ≡ Some most → most < 2 ^ 64
+small_enough : (p : Part) (most : ℕ) → greatest p ≡ Some most → most < 2 ^ 64
 small_enough workers most e = rw (← ap (λ o. unwrap_or o 0) e) (omega arith)
 small_enough block most e = rw (← ap (λ o. unwrap_or o 0) e) (omega arith)
 small_enough window most e = rw (← ap (λ o. unwrap_or o 0) e) (omega arith)
@@ -918,19 +966,19 @@ small_enough rule most e = absurd (true≢false (sym (ap is_some e)))
 small_enough file most e = absurd (true≢false (sym (ap is_some e)))
 
 -- the number that is read of an option, or its default
-pub number_is : {E : Type 0} (G : Text → Result ℕ E → Type 0) (given : Given) (m : ArgMatches) (part : Part) (name : Text) (default result : ℕ) (r : Option ℕ)
-    → ((u : Text) (x : Result ℕ E) → G u x → ParsesUnsigned 64 10 u x) → IsGiven given m → IsNumber part name default
+pub number_is : {E : Type 0} (G : Text → Result ℕ E → Type 0) (given : Given) (m : ArgMatches) (p : Part) (name : Text) (default result : ℕ) (r : Option ℕ)
+    → ((u : Text) (x : Result ℕ E) → G u x → ParsesUnsigned 64 10 u x) → IsGiven given m → IsNumber p name default
     → (one_text (found_of m) name ≡ None → r ≡ None) → ((t : Text) → one_text (found_of m) name ≡ Some t → ReadsOne G t r)
-    → result ≡ unwrap_or r default → result ≡ number_in part given
-number_is G given m part name default result r only h known none some is = go (first part given) refl
+    → result ≡ unwrap_or r default → result ≡ number_in p given
+number_is G given m p name default result r only h known none some is = go (first (part p) given) refl
   where
-    text : one_text (found_of m) name ≡ first part given
-    text = ap (one_text (found_of m)) known.0 ∙ one_given given m part h
+    text : one_text (found_of m) name ≡ first (part p) given
+    text = ap (one_text (found_of m)) known.0 ∙ one_given given m p h
 
-    most : (o : Option ℕ) → greatest part ≡ o → is_some o ≡ true → (v : Text) → first part given ≡ Some v → r ≡ Some (number_of v)
+    most : (o : Option ℕ) → greatest p ≡ o → is_some o ≡ true → (v : Text) → first (part p) given ≡ Some v → r ≡ Some (number_of v)
     most None e s v f = absurd (true≢false (sym s))
-    most (Some n) e s v f = reads_u64 G v r (some v (text ∙ f)) only n (small_enough part n e) (first_fits part given.texts v n e h.2 f)
+    most (Some n) e s v f = reads_u64 G v r (some v (text ∙ f)) only n (small_enough p n e) (sym (ap (λ o. fits_under o v) e) ∙ first_fits (part p) given v h.1 f)
 
-    go : (o : Option Text) → first part given ≡ o → result ≡ option_map_or number_of o (default_of part)
+    go : (o : Option Text) → first (part p) given ≡ o → result ≡ option_map_or number_of o (default_of p)
     go None f = is ∙ ap (λ x. unwrap_or x default) (none (text ∙ f)) ∙ known.1
-    go (Some v) f = is ∙ ap (λ x. unwrap_or x default) (most (greatest part) refl known.2 v f)
+    go (Some v) f = is ∙ ap (λ x. unwrap_or x default) (most (greatest p) refl known.2 v f)

@@ -17,10 +17,10 @@ number_rule name most = record (new_rule name) {
   parser = Some (vp.Unsigned 1 most);
 }
 
--- the flag, which clap gives the value `true`, and `false` where it doesn't stand among the words
-abbrev pub count_rule : Rule
-count_rule = record (new_rule (codes "count")) {
-  long = Some (codes "count");
+-- a flag, which clap gives the value `true`, and `false` where it doesn't stand among the words
+abbrev pub flag_rule : Text → Rule
+flag_rule name = record (new_rule name) {
+  long = Some name;
   action = Some SetTrue;
 }
 
@@ -40,9 +40,13 @@ bare_app = new_app (codes "f77run")
 abbrev pub versioned : App
 versioned = record bare_app { top = record bare_app.top { has_version = true } }
 
+abbrev pub with_options : App → App
+with_options app =
+    with_rule (with_rule (with_rule (with_rule (with_rule app (number_rule (codes "workers") 64)) (number_rule (codes "block") 1000000)) (number_rule (codes "window") 256)) (number_rule (codes "turns") 1000000000000)) name_rule
+
 abbrev pub f77run : App
-f77run = with_rule (with_rule (with_rule (with_rule (with_rule (with_rule (with_rule versioned (number_rule (codes "workers") 64)) (number_rule (codes "block") 1000000))
-    (number_rule (codes "window") 256)) (number_rule (codes "turns") 1000000000000)) name_rule) count_rule) file_rule
+f77run =
+    with_rule (with_rule (with_rule (with_rule (with_options versioned) (flag_rule (codes "check"))) (flag_rule (codes "count"))) (flag_rule (codes "explain"))) file_rule
 
 abbrev pub fault_for : ErrorKind → OptionsFault
 fault_for kind.DisplayHelp = fault.Help

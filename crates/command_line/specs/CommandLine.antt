@@ -26,13 +26,26 @@ pub data Part : Type 0 where
   rule : Part
   file : Part
 
-abbrev pub name_of : Part → Text
-name_of workers = codes "workers"
-name_of block = codes "block"
-name_of window = codes "window"
-name_of turns = codes "turns"
-name_of rule = codes "rule"
-name_of file = codes "FILE"
+-- an option that takes nothing
+pub data Flag : Type 0 where
+  checks : Flag
+  counts : Flag
+  explains : Flag
+
+pub data Name : Type 0 where
+  part : Part → Name
+  flag : Flag → Name
+
+abbrev pub name_of : Name → Text
+name_of (part workers) = codes "workers"
+name_of (part block) = codes "block"
+name_of (part window) = codes "window"
+name_of (part turns) = codes "turns"
+name_of (part rule) = codes "rule"
+name_of (part file) = codes "FILE"
+name_of (flag checks) = codes "check"
+name_of (flag counts) = codes "count"
+name_of (flag explains) = codes "explain"
 
 -- the greatest number that an option takes; the least is 1
 abbrev pub greatest : Part → Option ℕ
@@ -46,7 +59,7 @@ greatest file = None
 -- files alone may be more than one, which is told behind all words
 abbrev pub is_repeated : Part → Bool
 is_repeated file = true
-is_repeated part = false
+is_repeated other = false
 
 -- the number of an option that isn't given
 abbrev pub default_of : Part → ℕ
@@ -64,8 +77,8 @@ pub data Word : Type 0 where
   ends : Word
   -- `--name` or `--name=value` of an option
   gives : Part → Option Text → Word
-  -- the flag, `--count`
-  counts : Word
+  -- `--name` of a flag
+  sets : Flag → Word
   -- `--help`, `-h`, `--version`, `-V`
   asks : OptionsFault → Word
   -- any other word that begins with a minus sign, but for the sign alone
@@ -73,7 +86,7 @@ pub data Word : Type 0 where
   -- a number or a file
   loose : Word
 
--- the flag takes no value, and a request takes none
+-- a flag takes no value, and a request takes none
 abbrev pub alone : Word → Option Text → Word
 alone word None = word
 alone word (Some value) = errs fault.NeedlessValue
@@ -85,10 +98,12 @@ long_word name value =
     else (if bytes_eq (codes "window") name then gives window value
     else (if bytes_eq (codes "turns") name then gives turns value
     else (if bytes_eq (codes "rule") name then gives rule value
-    else (if bytes_eq (codes "count") name then alone counts value
+    else (if bytes_eq (codes "check") name then alone (sets checks) value
+    else (if bytes_eq (codes "count") name then alone (sets counts) value
+    else (if bytes_eq (codes "explain") name then alone (sets explains) value
     else (if bytes_eq (codes "help") name then alone (asks fault.Help) value
     else (if bytes_eq (codes "version") name then alone (asks fault.Version) value
-    else errs fault.NoSuchOption)))))))
+    else errs fault.NoSuchOption)))))))))
 
 -- by the character behind the minus sign: h (104) or V (86)
 abbrev pub letter_word : Option ℕ → Word
@@ -109,14 +124,9 @@ word_of word = if bytes_eq word (45 ∷ 45 ∷ []) then ends else long_or_short 
 
 -- ---- the words one after another
 
--- the texts of options and files, in their order
-abbrev pub Texts : Type 0
-Texts = List (Part × Text)
-
--- these, and whether the flag is given
-pub record Given : Type 0 where
-  pub texts : Texts
-  pub count : Bool
+-- the texts of options and files, in their order; that of a flag is `true`
+abbrev pub Given : Type 0
+Given = List (Name × Text)
 
 -- what was given so far, the option or file named last, which is still held, and whether all that follows are files
 pub record Line : Type 0 where
@@ -124,12 +134,15 @@ pub record Line : Type 0 where
   pub held : Option (Part × Option Text)
   pub only_files : Bool
 
-abbrev pub values : Part → Texts → List Text
-values part [] = []
-values part (g ∷ gs) = if bytes_eq (name_of g.0) (name_of part) then g.1 ∷ values part gs else values part gs
+abbrev pub values : Name → Given → List Text
+values name [] = []
+values name (g ∷ gs) = if bytes_eq (name_of g.0) (name_of name) then g.1 ∷ values name gs else values name gs
 
-abbrev pub first : Part → Given → Option Text
-first part given = slice_get (values part given.texts) 0
+abbrev pub first : Name → Given → Option Text
+first name given = slice_get (values name given) 0
+
+abbrev pub is_on : Flag → Given → Bool
+is_on f given = is_some (first (flag f) given)
 
 -- digits, behind a plus sign or not
 abbrev pub is_number : Text → Bool
@@ -147,13 +160,13 @@ abbrev pub behind : {X Y : Type 0} → Result X OptionsFault → (X → Result Y
 behind (Ok x) next = next x
 behind (Err f) next = Err f
 
-abbrev pub with_text : Part → Text → Given → Given
-with_text part value given = record given { texts = given.texts ++ (part, value) ∷ [] }
+abbrev pub with_text : Name → Text → Given → Given
+with_text name value given = given ++ (name, value) ∷ []
 
-abbrev pub put_if : Bool → Bool → Part → Text → Given → Result Given OptionsFault
-put_if true fits part value given = Err fault.GivenTwice
-put_if false true part value given = Ok (with_text part value given)
-put_if false false part value given = Err fault.BadNumber
+abbrev pub put_if : Bool → Bool → Name → Text → Given → Result Given OptionsFault
+put_if true fits name value given = Err fault.GivenTwice
+put_if false true name value given = Ok (with_text name value given)
+put_if false false name value given = Err fault.BadNumber
 
 -- a number is in its range; names are any texts
 abbrev pub fits_under : Option ℕ → Text → Bool
@@ -162,19 +175,19 @@ fits_under (Some most) value = is_in most value
 
 -- an option is given once
 abbrev pub put : Part → Text → Given → Result Given OptionsFault
-put part value given =
-    if is_repeated part then Ok (with_text part value given)
-    else put_if (is_some (first part given)) (fits_under (greatest part) value) part value given
+put p value given =
+    if is_repeated p then Ok (with_text (part p) value given)
+    else put_if (is_some (first (part p) given)) (fits_under (greatest p) value) (part p) value given
 
--- the flag is given once
-abbrev pub put_count : Given → Result Given OptionsFault
-put_count given = if given.count then Err fault.GivenTwice else Ok (record given { count = true })
+-- and so a flag
+abbrev pub put_flag : Flag → Given → Result Given OptionsFault
+put_flag f given = put_if (is_on f given) true (flag f) (codes "true") given
 
 -- what is held comes to an end
 abbrev pub closed : Given → Option (Part × Option Text) → Result Given OptionsFault
 closed given None = Ok given
-closed given (Some (part, None)) = Err fault.NoValue
-closed given (Some (part, Some value)) = put part value given
+closed given (Some (p, None)) = Err fault.NoValue
+closed given (Some (p, Some value)) = put p value given
 
 abbrev pub closed_line : Line → Result Given OptionsFault
 closed_line line = closed line.given line.held
@@ -188,18 +201,18 @@ putting line next =
     behind (closed_line line) (λ given. behind (next given) (λ more. Ok (record line { given = more; held = None })))
 
 abbrev pub give : Part → Option Text → Line → Result Line OptionsFault
-give part None line = holding line (Some (part, None))
-give part (Some value) line = putting line (put part value)
+give p None line = holding line (Some (p, None))
+give p (Some value) line = putting line (put p value)
 
 -- the value of an option that has none yet, or a file
 abbrev pub take : Text → Option (Part × Option Text) → Line → Result Line OptionsFault
-take word (Some (part, None)) line = Ok (record line { held = Some (part, Some word) })
+take word (Some (p, None)) line = Ok (record line { held = Some (p, Some word) })
 take word other line = holding line (Some (file, Some word))
 
 abbrev pub meet : Word → Text → Line → Result Line OptionsFault
 meet ends word line = Ok (record line { only_files = true })
-meet (gives part value) word line = give part value line
-meet counts word line = putting line put_count
+meet (gives p value) word line = give p value line
+meet (sets f) word line = putting line (put_flag f)
 meet (asks wanted) word line = behind (closed_line line) (λ given. Err wanted)
 meet (errs wrong) word line = Err wrong
 meet loose word line = take word line.held line
@@ -214,27 +227,36 @@ read (word ∷ words) line = behind (moved word line) (read words)
 -- ---- what they ask for
 
 abbrev pub number_in : Part → Given → ℕ
-number_in part given = option_map_or number_of (first part given) (default_of part)
+number_in p given = option_map_or number_of (first (part p) given) (default_of p)
 
--- the plan, the file, the name of a rule or a fault, and whether the flag is given
-abbrev pub Asked : Type 0
-Asked = PlanNumbers × Option Text × Option Text × Bool
+-- the plan, the file, the name of a rule or a fault, and which flags are given
+pub record Asked : Type 0 where
+  pub plan : PlanNumbers
+  pub file : Option Text
+  pub rule : Option Text
+  pub check : Bool
+  pub count : Bool
+  pub explain : Bool
 
 abbrev pub with_plan : Given → Option PlanNumbers → Result Asked OptionsFault
-with_plan given (Some plan) = Ok (plan, first file given, first rule given, given.count)
+with_plan given (Some plan) = Ok (record {
+  plan = plan;
+  file = first (part file) given;
+  rule = first (part rule) given;
+  check = is_on checks given;
+  count = is_on counts given;
+  explain = is_on explains given;
+})
 with_plan given None = Err fault.BadNumber
 
 abbrev pub asked_by : Given → Result Asked OptionsFault
 asked_by given =
-    if nat_lt 1 (length (values file given.texts)) then Err fault.TooManyFiles
+    if nat_lt 1 (length (values (part file) given)) then Err fault.TooManyFiles
     else with_plan given
     (plan_of (number_in workers given) (number_in block given) (number_in window given) (number_in turns given))
 
-abbrev pub nothing_given : Given
-nothing_given = record { texts = []; count = false }
-
 abbrev pub nothing_read : Line
-nothing_read = record { given = nothing_given; held = None; only_files = false }
+nothing_read = record { given = []; held = None; only_files = false }
 
 -- what a command line asks for, the first word of which is the program's name
 abbrev pub asked_for : List Text → Result Asked OptionsFault

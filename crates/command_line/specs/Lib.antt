@@ -1,3 +1,4 @@
 pub mod Command
 pub mod CommandLine
 pub mod Matches
+pub mod Unknown

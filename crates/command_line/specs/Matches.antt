@@ -7,7 +7,7 @@ use Rattle.clap.specs.Matches.{found_of}
 use Rattle.clap.specs.declared.builder.value_parser.Reading.{Reading}
 use Rattle.clap.specs.declared.builder.value_parser.Reading.TheVariants.{AsWritten}
 use Rattle.clap.specs.declared.parser.matches.ArgMatches.{ArgMatches}
-use Rattle.command_line.specs.CommandLine.{Asked, Given, Part, Text, default_of, file, first, fits_under, greatest, name_of, values}
+use Rattle.command_line.specs.CommandLine.{Asked, Given, Name, Part, Text, default_of, file, first, fits_under, flag, greatest, name_of, part, values}
 use Rattle.command_line.specs.declared.asked.OptionsFault.{OptionsFault}
 use Rattle.command_line.specs.declared.asked.Options.{Options}
 use Rattle.std.specs.Borrow.{Bor}
@@ -23,47 +23,49 @@ abbrev pub as_seen : List Text → Option (List Text × Reading)
 as_seen [] = None
 as_seen (v ∷ vs) = Some (v ∷ vs, AsWritten)
 
+-- a flag that isn't given has the value `false`
+abbrev pub as_found : Name → List Text → Option (List Text × Reading)
+as_found (flag f) [] = Some (codes "false" ∷ [], AsWritten)
+as_found name vs = as_seen vs
+
 -- the rows hold the texts that were given
 abbrev pub HoldTexts : Given → List Row → Type 0
-HoldTexts given rows = (part : Part) → seen (name_of part) rows ≡ as_seen (values part given.texts)
+HoldTexts given rows = (name : Name) → seen (name_of name) rows ≡ as_found name (values name given)
 
--- a flag that isn't given has the value `false`
-abbrev pub as_flag : Bool → Option (List Text × Reading)
-as_flag true = Some (codes "true" ∷ [], AsWritten)
-as_flag false = Some (codes "false" ∷ [], AsWritten)
-
-abbrev pub HoldFlag : Given → List Row → Type 0
-HoldFlag given rows = seen (codes "count") rows ≡ as_flag given.count
-
--- the numbers that were given are in their ranges
-abbrev pub fits : Part × Text → Bool
-fits g = fits_under (greatest g.0) g.1
-
-abbrev pub Fits_all : Given → Type 0
-Fits_all given = list_all fits given.texts ≡ true
+-- the numbers that were given are in their ranges, and flags have their text
+abbrev pub fits : Name × Text → Bool
+fits (part p, value) = fits_under (greatest p) value
+fits (flag f, value) = bytes_eq value (codes "true")
 
 abbrev pub AreGiven : Given → List Row → Type 0
-AreGiven given rows = HoldTexts given rows × HoldFlag given rows × Fits_all given
+AreGiven given rows = HoldTexts given rows × (list_all fits given ≡ true)
 
 abbrev pub IsGiven : Given → ArgMatches → Type 0
 IsGiven given matches = AreGiven given (rows_of (found_of matches))
 
 -- the name of an option that takes a number, and its default
 abbrev pub IsNumber : Part → Text → ℕ → Type 0
-IsNumber part name default = (name ≡ name_of part) × (default ≡ default_of part) × (is_some (greatest part) ≡ true)
+IsNumber p name default = (name ≡ name_of (part p)) × (default ≡ default_of p) × (is_some (greatest p) ≡ true)
 
 abbrev pub IsOneFile : Given → Option Text → Type 0
-IsOneFile given named = (nat_lt 1 (length (values file given.texts)) ≡ false) × (named ≡ first file given)
+IsOneFile given named = (nat_lt 1 (length (values (part file) given)) ≡ false) × (named ≡ first (part file) given)
 
 abbrev pub AreTooMany : Given → OptionsFault → Type 0
-AreTooMany given e = (nat_lt 1 (length (values file given.texts)) ≡ true) × (e ≡ fault.TooManyFiles)
+AreTooMany given e = (nat_lt 1 (length (values (part file) given)) ≡ true) × (e ≡ fault.TooManyFiles)
 
 abbrev pub texts_in : List (Bor Text) → List Text
 texts_in = map (λ word. word.now)
 
--- the numbers of the plan, the file, the name and the flag
+-- the numbers of the plan, the file, the name and the flags
 abbrev pub shown : Options → Asked
-shown o = (o.plan, option_map (λ name. name.now) o.file, option_map (λ name. name.now) o.rule, o.count)
+shown o = record {
+  plan = o.plan;
+  file = option_map (λ name. name.now) o.file;
+  rule = option_map (λ name. name.now) o.rule;
+  check = o.check;
+  count = o.count;
+  explain = o.explain;
+}
 
 abbrev pub AsksFor : Result Asked OptionsFault → Result Options OptionsFault → Type 0
 AsksFor asked result = MatchResult result (λ o. asked ≡ Ok (shown o)) (λ e. asked ≡ Err e)

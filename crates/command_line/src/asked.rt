@@ -18,10 +18,10 @@ pub enum OptionsFault {
     /// An option that takes a number or a name has none behind it.
     #[error("an option stands without its value; f77run --help lists the options")]
     NoValue,
-    /// `--count=value`, `--help=value` or `--version=value`.
-    #[error("--count, --help and --version take no value")]
+    /// A value stands behind an option that takes none, as in `--count=value`.
+    #[error("--check, --count, --explain, --help and --version take no value")]
     NeedlessValue,
-    /// `--count` or an option that takes a value is given a second time.
+    /// An option is given a second time.
     #[error("an option is given twice")]
     GivenTwice,
     /// What is given for a number isn't one, or lies outside the option's range.
@@ -47,6 +47,10 @@ pub struct Options<'a> {
     pub file: Option<&'a str>,
     /// The name of the rule or the fault that is asked for; none where the source is to be run.
     pub rule: Option<&'a str>,
+    /// Whether `--check` stands among the words.
+    pub check: bool,
     /// Whether `--count` stands among the words.
     pub count: bool,
+    /// Whether `--explain` stands among the words.
+    pub explain: bool,
 }

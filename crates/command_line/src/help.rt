@@ -17,7 +17,9 @@ Options:
   --block N      the trips of a loop in a worker's block, 1 to 1000000 [default: 64]
   --window N     the blocks that are tried at a time, 1 to 256 [default: 8]
   --turns N      the turns that the program has, 1 to 1000000000000 [default: 1000000000]
+  --check        checks the source against the rules, and runs nothing
   --count        tells behind the ending how many turns the program used
+  --explain      shows the statement that is refused or at fault, and says what the rule or the fault is
   --rule NAME    shows the rule or the fault of this name, as K3 or F2, with a short program that breaks it and one
                  that doesn't, and runs nothing
   -h, --help     shows this text

@@ -4,3 +4,4 @@
 pub mod asked;
 pub mod help;
 pub mod options;
+pub mod unknown;

@@ -3,8 +3,8 @@
 ghost use Rattle.std.specs.Prelude.{◌≡◌, ◌⊎◌, IfErr, IfOk, MatchResult, Ok, Err, option_map, false};
 ghost use Rattle.clap.specs.Words.{app_of, rule_of};
 ghost use Rattle.command_line.specs.declared.asked.OptionsFault.TheVariants.{Memory};
-ghost use Rattle.command_line.specs.Command.{count_rule, f77run, fault_for, file_rule, name_rule, number_rule};
-ghost use Rattle.command_line.specs.CommandLine.{Given, Part, asked_by, asked_for, first, number_in, rule};
+ghost use Rattle.command_line.specs.Command.{f77run, fault_for, file_rule, flag_rule, name_rule, number_rule};
+ghost use Rattle.command_line.specs.CommandLine.{Flag, Given, Part, asked_by, asked_for, first, flag, is_on, name_of, number_in, part, rule};
 ghost use Rattle.command_line.specs.Matches.{AreTooMany, AsksFor, IsGiven, IsNumber, IsOneFile};
 ghost use Rattle.command_line.specs.Matches.{shown, texts_in};
 
@@ -18,8 +18,8 @@ use std::alloc::{AllocError, Global};
 /// Reads a command line, the first word of which is the program's name: options and a file in any order, each option once at
 /// most. `--workers` (1 to 64; 4 where it isn't given), `--block` (1 to 1,000,000; 64), `--window` (1 to 256; 8) and
 /// `--turns` (1 to 1,000,000,000,000; 1,000,000,000) take a number as `--turns 5` or `--turns=5`, in digits with a plus
-/// sign in front or not. `--rule` takes any text. `--count` takes none, and is false where it isn't given. Behind `--` each
-/// word is a file, and a minus sign alone is one too.
+/// sign in front or not. `--rule` takes any text. `--check`, `--count` and `--explain` take none, and are false where they
+/// aren't given. Behind `--` each word is a file, and a minus sign alone is one too.
 ///
 /// # Errors
 ///
@@ -47,7 +47,9 @@ fn command<'a>(alloc: Global) -> Result<Command<'a>, AllocError>
         .arg(number(alloc, "window", 256))?
         .arg(number(alloc, "turns", 1_000_000_000_000))?
         .arg(rule(alloc))?
-        .arg(count(alloc))?
+        .arg(flag(alloc, "check"))?
+        .arg(flag(alloc, "count"))?
+        .arg(flag(alloc, "explain"))?
         .arg(files(alloc))
 }
 
@@ -70,14 +72,12 @@ fn rule<'a>(alloc: Global) -> Arg<'a>
     Arg::new(alloc, "rule").long("rule").action(ArgAction::Set)
 }
 
-// The flag. It has no number.
-fn count<'a>(alloc: Global) -> Arg<'a>
-    ensures rule { rule_of result ≡ count_rule }
+// An option that takes nothing.
+fn flag<'a>(alloc: Global, name: &'a str) -> Arg<'a>
+    ensures rule { rule_of result ≡ flag_rule name.now }
     ensures local { result.global ≡ false }
 {
-    Arg::new(alloc, "count")
-        .long("count")
-        .action(ArgAction::SetTrue)
+    Arg::new(alloc, name).long(name).action(ArgAction::SetTrue)
 }
 
 // The files. Any number of them is read, so that a second one is a fault of its own.
@@ -110,7 +110,6 @@ fn asked<'a>(matches: &ArgMatches<'a>) -> Result<Options<'a>, OptionsFault>
 {
     let file = file_given(matches)?;
     let rule = rule_given(matches);
-    let count = count_given(matches);
     let plan = Plan::new(
         number_given(matches, "workers", 4),
         number_given(matches, "block", 64),
@@ -122,7 +121,9 @@ fn asked<'a>(matches: &ArgMatches<'a>) -> Result<Options<'a>, OptionsFault>
             plan,
             file,
             rule,
-            count,
+            check: flag_given(matches, "check"),
+            count: flag_given(matches, "count"),
+            explain: flag_given(matches, "explain"),
         }),
         None => Err(OptionsFault::BadNumber),
     }
@@ -130,23 +131,24 @@ fn asked<'a>(matches: &ArgMatches<'a>) -> Result<Options<'a>, OptionsFault>
 
 // The number of an option, or what stands for it where the words don't give it.
 fn number_given(matches: &ArgMatches<'_>, name: &str, default: u64) -> u64
-    ensures { (given : Given) (part : Part) → IsGiven given matches.now
-        → IsNumber part name.now default → result ≡ number_in part given }
+    ensures { (given : Given) (option : Part) → IsGiven given matches.now
+        → IsNumber option name.now default → result ≡ number_in option given }
 {
     matches.get_one::<u64>(name).unwrap_or(default)
 }
 
-// Whether the flag is given.
-fn count_given(matches: &ArgMatches<'_>) -> bool
-    ensures { (given : Given) → IsGiven given matches.now → result ≡ given.count }
+// Whether a flag is given.
+fn flag_given(matches: &ArgMatches<'_>, name: &str) -> bool
+    ensures { (given : Given) (f : Flag) → IsGiven given matches.now
+        → name.now ≡ name_of (flag f) → result ≡ is_on f given }
 {
-    matches.get_flag("count")
+    matches.get_flag(name)
 }
 
 // The name of a rule or a fault, where one is asked for.
 fn rule_given<'a>(matches: &ArgMatches<'a>) -> Option<&'a str>
     ensures { (given : Given) → IsGiven given matches.now
-        → option_map (λ s. s.now) result ≡ first rule given }
+        → option_map (λ s. s.now) result ≡ first (part rule) given }
 {
     match matches.get_strs("rule") {
         None => None,

@@ -1,7 +1,7 @@
 -- What is read of a source.
 use Rattle.std.specs.Prelude.{◌≡◌, ℕ, List}
-use Rattle.meaning.specs.Answers.{answer}
+use Rattle.meaning.specs.Answers.{program_of}
 
--- bytes that have the answer of a source, whatever the limit on turns
-abbrev pub AnswersAs : List ℕ → List ℕ → Type 0
-AnswersAs read source = (turns : ℕ) → answer read turns ≡ answer source turns
+-- bytes that spell the program unit of a source, or are refused as it is; so they have its answer
+abbrev pub SpellsAs : List ℕ → List ℕ → Type 0
+SpellsAs read source = program_of read ≡ program_of source

@@ -1,10 +1,13 @@
 -- The exit status of the program.
-use Rattle.std.specs.Prelude.{◌≡◌, ◌⊎◌, ℕ, List}
+use Rattle.std.specs.Prelude.{◌≡◌, ◌⊎◌, ℕ, List, Result, Ok, Err}
 use Rattle.meaning.specs.declared.ending.Ending.{Ending}
 use Rattle.meaning.specs.declared.ending.Ending.TheVariants as endings
+use Rattle.meaning.specs.declared.refusal.Broken.{Broken}
 use Rattle.meaning.specs.Names.{fault_name, rule_name}
+use Rattle.meaning.specs.Trees.{Nested}
 use Rattle.command_line.specs.declared.asked.OptionsFault.{OptionsFault}
 use Rattle.command_line.specs.declared.asked.OptionsFault.TheVariants as faults
+use Rattle.rule_texts.specs.Named.{IsNoFault, IsNoRule}
 use Rattle.engine.specs.declared.running.NoRun.{NoRun}
 use Rattle.engine.specs.declared.running.NoRun.TheVariants as no_runs
 
@@ -16,6 +19,14 @@ status_of (endings.Fault fault) = 1
 status_of (endings.Refused rule line) = 2
 status_of endings.Memory = 4
 status_of endings.WriteRefused = 5
+
+-- how the check of a source ends, by the program unit that it spells or its refusal
+abbrev pub ending_of_check : Result Nested Broken → Ending
+ending_of_check (Ok unit) = endings.Ended
+ending_of_check (Err b) = endings.Refused b.rule b.line
+
+abbrev pub IsCheck : Result Nested Broken → Ending → Type 0
+IsCheck spelled ending = (ending ≡ endings.Memory) ⊎ (ending ≡ ending_of_check spelled)
 
 -- of none; a text that is asked for is written, or the write is refused
 abbrev pub IsStatusOf : NoRun → ℕ → Type 0
@@ -30,9 +41,9 @@ IsStatusOf no_runs.FileRefused status = status ≡ 5
 
 -- the rule or the fault that has a name
 abbrev pub IsNamedBy : List ℕ → NoRun → Type 0
-IsNamedBy name (no_runs.Rule row) = rule_name row.now.rule ≡ name
-IsNamedBy name (no_runs.Fault row) = fault_name row.now.kind ≡ name
-IsNamedBy name no_runs.NoSuchRule = Unit {0}
+IsNamedBy name (no_runs.Rule row) = rule_name row.rule ≡ name
+IsNamedBy name (no_runs.Fault row) = fault_name row.kind ≡ name
+IsNamedBy name no_runs.NoSuchRule = IsNoRule name × IsNoFault name
 IsNamedBy name no_runs.Help = ⊥
 IsNamedBy name no_runs.Version = ⊥
 IsNamedBy name (no_runs.Faulty fault) = ⊥

@@ -3,6 +3,7 @@
 //! doesn't.
 #![tactic(auto)]
 
+mod explaining;
 mod lines;
 mod running;
 

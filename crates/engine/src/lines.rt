@@ -101,8 +101,8 @@ fn put_at<S: Sink>(word: &str, name: &str, line: u32, err: &mut S)
     put("\n", err);
 }
 
-// Writes bytes, unless a write was refused.
-fn put_bytes<S: Sink>(bytes: &[u8], err: &mut S)
+/// Writes bytes, unless a write was refused.
+pub fn put_bytes<S: Sink>(bytes: &[u8], err: &mut S)
     ensures { IsTold bytes.now (S.told err.old) (S.told err.new) }
 {
     if !err.refused() {

@@ -2,18 +2,24 @@
 
 ghost use Rattle.std.specs.Prelude.{◌≡◌, ◌⊎◌, IfOk, IfSome};
 ghost use Rattle.engine.specs.declared.running.NoRun.TheVariants.{Memory};
-ghost use Rattle.engine.specs.Lines.{IsTold, line_of_none, lines_of};
-ghost use Rattle.engine.specs.Source.{AnswersAs};
-ghost use Rattle.engine.specs.Status.{IsNamedBy, IsStatusOf, status_of, no_run_for};
+ghost use Rattle.engine.specs.Explained.{AreTold};
+ghost use Rattle.engine.specs.Lines.{IsTold, line_of_none};
+ghost use Rattle.engine.specs.Source.{SpellsAs};
+ghost use Rattle.engine.specs.Status.{IsCheck, IsNamedBy, IsStatusOf, status_of, no_run_for};
+ghost use Rattle.meaning.specs.Answers.{program_of};
 
+use crate::explaining::{matter_of, put_matter, put_shown};
 use crate::lines::{Texts, put, tell_ending, tell_turns};
 use command_line::asked::{Options, OptionsFault};
 use command_line::help::{HELP, VERSION};
 use command_line::options::options;
+use command_line::unknown::{nearest_option, unknown_place};
 use executor::run::run;
 use executor::{Open, Out, Sink};
+use in_order::program_in;
 use meaning::ending::{Ending, Report};
 use meaning::plan::Plan;
+use meaning::refusal::Refusal;
 use rule_texts::{FAULTS, FaultText, RULES, RuleText, fault_named, rule_named};
 use std::alloc::{AllocError, AllocFailed, Global};
 use std::env::Env;
@@ -27,17 +33,6 @@ use std::{env, fs, io};
 /// So many bytes of a source are read at most: one more than a source may have.
 const BYTES_READ: u64 = 1_048_577;
 
-/// What a command line names.
-#[derive(Drop)]
-struct Job {
-    /// How the program is run.
-    plan: Plan,
-    /// Whether the turns that it used are told.
-    count: bool,
-    /// The bytes of its source.
-    source: Vec<u8>,
-}
-
 /// Why no source is run.
 #[derive(Clone, Copy, Debug)]
 enum NoRun {
@@ -46,9 +41,9 @@ enum NoRun {
     /// The version is asked for instead.
     Version,
     /// A rule is asked for instead.
-    Rule(&'static RuleText),
+    Rule(RuleText),
     /// A fault is asked for instead.
-    Fault(&'static FaultText),
+    Fault(FaultText),
     /// What is asked for is the name of no rule and no fault.
     NoSuchRule,
     /// The command line is at fault.
@@ -89,10 +84,10 @@ impl From<OptionsFault> for NoRun {
 }
 
 /// Runs the program of a command line over a reader for standard input and writers for standard output and standard
-/// error, and answers its exit status: 0 where END was reached, a STOP statement was executed or a text was asked for,
-/// 1 for a fault, 2 for a refused source, 3 for a fault of the command line, 4 for want of memory, 5 where the source
-/// can't be read or a write is refused. What the command line asks for comes first, then the source, its run, and the
-/// flush of its output. With two workers or more it waits for their threads.
+/// error, and answers its exit status: 0 where END was reached, a STOP statement was executed, a source was checked that
+/// breaks no rule, or a text was asked for, 1 for a fault, 2 for a refused source, 3 for a fault of the command line, 4 for
+/// want of memory, 5 where the source can't be read or a write is refused. What the command line asks for comes first, then
+/// the source, its run or its check, and the flush of its output. With two workers or more it waits for their threads.
 pub fn engine<
     R: Files + AllocGlobal + Threads + Wait + Sync,
     V: Env,
@@ -101,50 +96,104 @@ pub fn engine<
     E: Write,
 >(rt: &R, words: &V, input: &mut I, out: O, err: &mut E) -> u8 {
     let mut lines = Out::new(err);
-    let status = match job_asked(rt, words, input) {
-        Ok(job) => tell(run_whole(rt, &job, out), job.count, &mut lines),
+    let status = match words_of(words, rt.alloc()) {
+        Ok(words) => {
+            let status = by_words(rt, &words, input, out, &mut lines);
+            drop(words);
+            status
+        }
         Err(no_run) => tell_no_run(no_run, out, &mut lines),
     };
     let _ = lines.into_inner();
     status
 }
 
-// What a command line names.
-fn job_asked<R: Files + AllocGlobal, V: Env, I: Read>(
-    rt: &R,
-    words: &V,
-    input: &mut I,
-) -> Result<Job, NoRun> {
-    let words = words_of(words, rt.alloc())?;
-    let job = job_named(rt, &words, input);
-    drop(words);
-    job
-}
-
-// What the words of a command line name.
-fn job_named<R: Files + AllocGlobal, I: Read>(
+// Runs the program of the words of a command line.
+fn by_words<R: Files + AllocGlobal + Threads + Wait + Sync, I: Read, O: Write + Drop, S: Sink>(
     rt: &R,
     words: &[String],
     input: &mut I,
-) -> Result<Job, NoRun> {
-    let texts = texts_of(rt.alloc(), words)?;
-    let job = job_of(rt, &texts, input);
-    drop(texts);
-    job
+    out: O,
+    err: &mut S,
+) -> u8 {
+    match texts_of(rt.alloc(), words) {
+        Ok(texts) => {
+            let status = by_texts(rt, &texts, input, out, err);
+            drop(texts);
+            status
+        }
+        Err(error) => tell_no_run(NoRun::from(error), out, err),
+    }
 }
 
-// What texts name.
-fn job_of<'a, R: Files + AllocGlobal, I: Read>(
+// Runs the program of the texts of a command line.
+fn by_texts<'a, R: Files + AllocGlobal + Threads + Wait + Sync, I: Read, O: Write + Drop, S: Sink>(
     rt: &R,
     texts: &'a [&'a str],
     input: &mut I,
-) -> Result<Job, NoRun> {
+    out: O,
+    err: &mut S,
+) -> u8 {
     match options(rt.alloc(), texts) {
-        Ok(asked) => match asked.rule {
-            Some(name) => Err(rule_asked(name)),
-            None => job_read(rt, asked, input),
+        Ok(asked) => by_options(rt, &asked, input, out, err),
+        Err(OptionsFault::NoSuchOption) => tell_unknown(rt.alloc(), texts, err),
+        Err(fault) => tell_no_run(NoRun::from(fault), out, err),
+    }
+}
+
+// Runs the program that a command line asks for, or shows the rule that it asks for.
+fn by_options<R: Files + AllocGlobal + Threads + Wait + Sync, I: Read, O: Write + Drop, S: Sink>(
+    rt: &R,
+    asked: &Options<'_>,
+    input: &mut I,
+    out: O,
+    err: &mut S,
+) -> u8 {
+    match asked.rule {
+        Some(name) => tell_no_run(rule_asked(name), out, err),
+        None => match source_of(rt, asked.file, input) {
+            Ok(source) => by_source(rt, asked, &source, out, err),
+            Err(error) => tell_no_run(unread(&error), out, err),
         },
-        Err(fault) => Err(NoRun::from(fault)),
+    }
+}
+
+// Runs or checks a source, and tells what came of it.
+fn by_source<R: AllocGlobal + Threads + Wait + Sync, O: Write + Drop, S: Sink>(
+    rt: &R,
+    asked: &Options<'_>,
+    source: &[u8],
+    out: O,
+    err: &mut S,
+) -> u8 {
+    tell(report_of(rt, asked, source, out), asked, source, err)
+}
+
+// What comes of a source: of its check, where that is asked for, and else of its run.
+fn report_of<R: AllocGlobal + Threads + Wait + Sync, O: Write + Drop>(
+    rt: &R,
+    asked: &Options<'_>,
+    source: &[u8],
+    out: O,
+) -> Report {
+    if asked.check {
+        Report {
+            ending: checked(rt.alloc(), source),
+            turns: None,
+        }
+    } else {
+        run_whole(rt, &asked.plan, source, out)
+    }
+}
+
+// How the check of a source ends.
+fn checked(alloc: Global, source: &[u8]) -> Ending
+    ensures { IsCheck (program_of source.now) result }
+{
+    match program_in(alloc, source) {
+        Ok(_) => Ending::Ended,
+        Err(Refusal::Rule { rule, line }) => Ending::Refused(rule, line),
+        Err(Refusal::Memory) => Ending::Memory,
     }
 }
 
@@ -158,22 +207,6 @@ fn rule_asked(name: &str) -> NoRun
             Some(row) => NoRun::Fault(row),
             None => NoRun::NoSuchRule,
         },
-    }
-}
-
-// What a command line names, with the bytes of its source.
-fn job_read<R: Files + AllocGlobal, I: Read>(
-    rt: &R,
-    asked: Options<'_>,
-    input: &mut I,
-) -> Result<Job, NoRun> {
-    match source_of(rt, asked.file, input) {
-        Ok(source) => Ok(Job {
-            plan: asked.plan,
-            count: asked.count,
-            source,
-        }),
-        Err(error) => Err(unread(&error)),
     }
 }
 
@@ -224,9 +257,9 @@ fn source_of<R: Files + AllocGlobal, I: Read>(
     }
 }
 
-// The bytes that are read of a source. They have its answer, however long it is.
+// The bytes that are read of a source. They spell what the whole source does, however long it is.
 fn front_of<I: Read + Drop>(alloc: Global, reader: I) -> io::Result<Vec<u8>>
-    ensures { IfOk result (λ v. IfSome (I.remaining reader) (AnswersAs v.items)) }
+    ensures { IfOk result (λ v. IfSome (I.remaining reader) (SpellsAs v.items)) }
 {
     let mut source = Vec::new(alloc);
     reader.take(BYTES_READ).read_to_end(&mut source)?;
@@ -236,11 +269,12 @@ fn front_of<I: Read + Drop>(alloc: Global, reader: I) -> io::Result<Vec<u8>>
 // Runs a source over a writer and flushes it; a flush that fails takes the place of the ending.
 fn run_whole<R: AllocGlobal + Threads + Wait + Sync, O: Write + Drop>(
     rt: &R,
-    job: &Job,
+    plan: &Plan,
+    source: &[u8],
     out: O,
 ) -> Report {
     let mut sink = Out::new(out);
-    let report = run(rt, rt.alloc(), &job.source, &job.plan, &mut sink, &Open);
+    let report = run(rt, rt.alloc(), source, plan, &mut sink, &Open);
     match sink.into_inner().flush() {
         Ok(()) => report,
         Err(_) => Report {
@@ -250,16 +284,22 @@ fn run_whole<R: AllocGlobal + Threads + Wait + Sync, O: Write + Drop>(
     }
 }
 
-// Writes what is told of a run, its turns where they are asked for and there are any, and answers the exit status. A line that
-// can't be written changes nothing.
+// Writes what is told of a run: the line of its ending, its turns where they are asked for and there are any, and what there is
+// to explain where that is asked for. Answers the exit status. A line that can't be written changes nothing.
 #[tactic(auto, using(crate::proofs::Told::told_then))]
-fn tell<S: Sink>(report: Report, count: bool, err: &mut S) -> u8
+fn tell<S: Sink>(report: Report, asked: &Options<'_>, source: &[u8], err: &mut S) -> u8
     ensures status { result ≡ status_of report.ending }
-    ensures lines { IsTold (lines_of count report) (S.told err.old) (S.told err.new) }
+    ensures lines { AreTold report asked.now source.now (S.told err.old) (S.told err.new) }
 {
     let Report { ending, turns } = report;
+    let matter = matter_of(&ending);
     let status = tell_ending(ending, err);
-    tell_turns(count, turns, err);
+    tell_turns(asked.count, turns, err);
+    if asked.explain {
+        if let Some(matter) = matter {
+            put_matter(source, matter, err);
+        }
+    }
     status
 }
 
@@ -273,8 +313,8 @@ fn tell_no_run<O: Write + Drop, S: Sink>(no_run: NoRun, out: O, err: &mut S) -> 
     match no_run {
         NoRun::Help => tell_ending(show(&[HELP], out), err),
         NoRun::Version => tell_ending(show(&[VERSION], out), err),
-        NoRun::Rule(row) => tell_ending(show_rule(row, out), err),
-        NoRun::Fault(row) => tell_ending(show_fault(row, out), err),
+        NoRun::Rule(row) => tell_ending(show_rule(&row, out), err),
+        NoRun::Fault(row) => tell_ending(show_fault(&row, out), err),
         NoRun::NoSuchRule => tell_names(err),
         NoRun::Faulty(fault) => {
             tell_fault(fault, err);
@@ -288,6 +328,35 @@ fn tell_no_run<O: Write + Drop, S: Sink>(no_run: NoRun, out: O, err: &mut S) -> 
     }
 }
 
+// Writes which word is no option, with the nearest that is one, and answers the exit status. Where memory is refused for that,
+// it is said without a name.
+fn tell_unknown<S: Sink>(alloc: Global, texts: &[&str], err: &mut S) -> u8
+    ensures { result ≡ 3 }
+{
+    match unknown_in(alloc, texts) {
+        Some((word, nearest)) => {
+            put("there is no option ", err);
+            put_shown(word.as_bytes(), err);
+            put("; the nearest is ", err);
+            put(nearest, err);
+            put(", and f77run --help lists all\n", err);
+        }
+        None => tell_fault(OptionsFault::NoSuchOption, err),
+    }
+    3
+}
+
+// The word that is no option, without a value, and the option nearest to it.
+fn unknown_in<'a>(alloc: Global, texts: &'a [&'a str]) -> Option<(&'a str, &'static str)> {
+    let place = unknown_place(alloc, texts).ok()??;
+    let word = *texts.get(place)?;
+    let name = match word.split_once('=') {
+        Some((name, _)) => name,
+        None => word,
+    };
+    Some((name, nearest_option(alloc, name).ok()?))
+}
+
 // Writes what is wrong with a command line.
 fn tell_fault<S: Sink>(fault: OptionsFault, err: &mut S) {
     let mut texts = Texts { sink: err };
@@ -299,13 +368,13 @@ fn tell_names<S: Sink>(err: &mut S) -> u8
     ensures { result ≡ 3 }
 {
     put("there is no such rule or fault; there are", err);
-    for row in RULES {
+    for rule in RULES {
         put(" ", err);
-        put(row.rule.name(), err);
+        put(rule.name(), err);
     }
-    for row in FAULTS {
+    for kind in FAULTS {
         put(" ", err);
-        put(row.kind.name(), err);
+        put(kind.name(), err);
     }
     put("\n", err);
     3

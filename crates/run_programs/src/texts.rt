@@ -4,7 +4,7 @@
 use crate::{FEW, Numbers, found_by};
 use meaning::ending::{Ending, FaultKind};
 use meaning::refusal::Rule;
-use rule_texts::{FAULTS, FaultText, RULES, RuleText};
+use rule_texts::{FAULTS, FaultText, RULES, RuleText, text_of_fault, text_of_rule};
 use std::io;
 use std::io::Print;
 use std::sync::Wait;
@@ -91,14 +91,11 @@ fn shows_fault<R: AllocGlobal + Threads + Wait + Sync>(rt: &R, row: &FaultText) 
 // How many rules have a sentence and two programs that end so; the others are told.
 fn count_rules<R: AllocGlobal + Threads + Wait + Sync + Print>(rt: &R) -> io::Result<u64> {
     let mut count = 0u64;
-    for row in RULES {
-        if shows_rule(rt, row) {
+    for rule in RULES {
+        if shows_rule(rt, &text_of_rule(*rule)) {
             count = count.saturating_add(1);
         } else {
-            println!(rt;
-                "the texts of the rule {} don't come to what is wanted",
-                row.rule
-            )?;
+            println!(rt; "the texts of the rule {rule} don't come to what is wanted")?;
         }
     }
     Ok(count)
@@ -107,14 +104,11 @@ fn count_rules<R: AllocGlobal + Threads + Wait + Sync + Print>(rt: &R) -> io::Re
 // How many faults have a sentence and two programs that end so; the others are told.
 fn count_faults<R: AllocGlobal + Threads + Wait + Sync + Print>(rt: &R) -> io::Result<u64> {
     let mut count = 0u64;
-    for row in FAULTS {
-        if shows_fault(rt, row) {
+    for kind in FAULTS {
+        if shows_fault(rt, &text_of_fault(*kind)) {
             count = count.saturating_add(1);
         } else {
-            println!(rt;
-                "the texts of the fault {} don't come to what is wanted",
-                row.kind
-            )?;
+            println!(rt; "the texts of the fault {kind} don't come to what is wanted")?;
         }
     }
     Ok(count)
@@ -122,8 +116,8 @@ fn count_faults<R: AllocGlobal + Threads + Wait + Sync + Print>(rt: &R) -> io::R
 
 // Whether the table has each rule and each fault once, in order.
 fn has_each() -> bool {
-    let rules = RULES.iter().map(|row| row.rule.name());
-    let faults = FAULTS.iter().map(|row| row.kind.name());
+    let rules = RULES.iter().map(|rule| rule.name());
+    let faults = FAULTS.iter().map(|kind| kind.name());
     rules.eq(RULE_NAMES.iter().copied()) && faults.eq(FAULT_NAMES.iter().copied())
 }
 

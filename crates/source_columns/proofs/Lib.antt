@@ -5,3 +5,4 @@ pub mod Ascending
 pub mod Laws
 pub mod Apostrophes
 pub mod Texts
+pub mod Excerpts

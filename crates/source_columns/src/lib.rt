@@ -2,9 +2,11 @@
 #![tactic(auto)]
 
 mod cards;
+mod excerpt;
 mod labels;
 mod lines;
 mod reading;
 mod statement_lines;
 
+pub use excerpt::{line_at, next_continuation};
 pub use reading::statements;

@@ -3,6 +3,7 @@
 
 use command_line::help::{HELP, VERSION};
 use engine::engine;
+use rule_texts::{text_of_fault, text_of_rule};
 use std::env::{Env, FillError};
 use std::io;
 use std::io::{ErrorKind, Read, Write};
@@ -320,15 +321,19 @@ const FAULTY: &[(&[&[u8]], &str)] = &[
     ),
     (
         &[b"f77run", b"--turn", b"5"],
-        "there is no such option; f77run --help lists the options\n",
+        "there is no option --turn; the nearest is --turns, and f77run --help lists all\n",
     ),
     (
         &[b"f77run", b"--turns"],
         "an option stands without its value; f77run --help lists the options\n",
     ),
     (
+        &[b"f77run", b"a.f", b"--chekc\x1b=5"],
+        "there is no option --chekc?; the nearest is --check, and f77run --help lists all\n",
+    ),
+    (
         &[b"f77run", b"--help=yes"],
-        "--count, --help and --version take no value\n",
+        "--check, --count, --explain, --help and --version take no value\n",
     ),
     (
         &[b"f77run", b"--turns", b"5", b"--turns=5"],
@@ -382,6 +387,139 @@ fn rules_asked(rt: HostRuntime) {
     for &name in UNKNOWN {
         let run = run_of(&rt, &[b"f77run", b"--rule", name], &mut io::empty());
         assert!(rt; run.left(3, NAMES.as_bytes(), b""));
+    }
+}
+
+// The flags, a source, its exit status, what stands on standard error, and its records.
+const FLAGGED: &[(&[&[u8]], &str, u8, &str, &str)] = &[
+    // a check runs nothing
+    (&[b"f77run", b"--check"], ANSWER, 0, "", ""),
+    (&[b"f77run", b"--check"], NEXT_AND_STOP, 0, "", ""),
+    (&[b"f77run", b"--check"], DIVIDED, 0, "", ""),
+    (&[b"f77run", b"--check", b"--count"], ANSWER, 0, "", ""),
+    (
+        &[b"f77run", b"--check"],
+        "      X=1\n      END\n",
+        2,
+        "REFUSED K3 LINE 1\n",
+        "",
+    ),
+    // nothing is explained of END and STOP
+    (&[b"f77run", b"--explain"], ANSWER, 0, "", "    42\n"),
+    (
+        &[b"f77run", b"--explain"],
+        NEXT_AND_STOP,
+        0,
+        "STOP 7\n",
+        "NEXT\n",
+    ),
+    // the statement's lines, without the comment line among them
+    (
+        &[b"f77run", b"--explain"],
+        DIVIDED,
+        1,
+        "FAULT F1 LINE 3\n        J=I/\n       1  (I-1)\n       2  +1\n  The divisor of a quotient, or the second argument of MOD, is zero.\n",
+        "    1\n",
+    ),
+    (
+        &[b"f77run", b"--count", b"--explain"],
+        DIVIDED,
+        1,
+        "FAULT F1 LINE 3\nTURNS 3\n        J=I/\n       1  (I-1)\n       2  +1\n  The divisor of a quotient, or the second argument of MOD, is zero.\n",
+        "    1\n",
+    ),
+    (
+        &[b"f77run", b"--explain", b"--check"],
+        "      X=1\n      END\n",
+        2,
+        "REFUSED K3 LINE 1\n        X=1\n  A variable, array, constant, statement function or dummy argument is INTEGER or LOGICAL by a type statement, IMPLICIT or a first letter I to N, and under IMPLICIT NONE by a type statement.\n",
+        "",
+    ),
+    // carriage returns are no characters of a line, and what isn't printable is a question mark
+    (
+        &[b"f77run", b"--explain"],
+        "      I=\t1\u{e9}\r\n      END\r\n",
+        2,
+        "REFUSED C1 LINE 1\n        I=?1??\n  Columns 1 to 72 of a line that is no comment hold characters from the blank to the tilde alone; a tab is none of them.\n",
+        "",
+    ),
+    // behind column 72 too
+    (
+        &[b"f77run", b"--explain"],
+        "      J=0\n      I=1/J                                                             DIVIDE\n      END\n",
+        1,
+        "FAULT F1 LINE 2\n        I=1/J                                                             DIVIDE\n  The divisor of a quotient, or the second argument of MOD, is zero.\n",
+        "",
+    ),
+    // END is missing at the last statement's line
+    (
+        &[b"f77run", b"--explain"],
+        "      I=1\n     1+1\n",
+        2,
+        "REFUSED N2 LINE 1\n        I=1\n       1+1\n  END is the last statement of the program unit, and stands in it once.\n",
+        "",
+    ),
+];
+
+const DIVIDED: &str =
+    "      I=1\n      PRINT '(I5)', I\n      J=I/\n     1  (I-1)\nC     TWO\n     2  +1\n      END\n";
+
+#[test]
+fn flags(rt: HostRuntime) {
+    for &(words, source, status, lines, records) in FLAGGED {
+        let run = run_of(&rt, words, &mut source.as_bytes());
+        assert!(rt;
+            run.left(status, lines.as_bytes(), records.as_bytes()),
+            "{lines}"
+        );
+    }
+    // nothing is told behind a write that is refused
+    let run = left_narrow(&rt, &[b"f77run", b"--explain"], &mut DIVIDED.as_bytes(), 3);
+    assert!(rt; run.left(5, b"WRITE REFUSED\n", b""));
+    let mut input = ANSWER.as_bytes().chain(io::repeat(b'*')).take(1_048_577);
+    let long = run_of(&rt, &[b"f77run", b"--explain"], &mut input);
+    assert!(rt; long.status == 2 && long.err.starts_with(b"REFUSED C7 LINE 1\n  "));
+}
+
+// Runs the program of a source by words with one more, and expects that it leaves what it leaves without it, and behind that lines
+// with two blanks in front, if there are to be more.
+fn expect_beside<R: Files + AllocGlobal + Threads + Wait + Sync + Abort>(
+    rt: &R,
+    words: &[&[u8]],
+    source: &str,
+    more: bool,
+) {
+    let plain = run_of(rt, &[b"f77run", b"--turns=1000"], &mut source.as_bytes());
+    let other = run_of(rt, words, &mut source.as_bytes());
+    assert!(rt; other.status == plain.status, "{source}");
+    assert!(rt; other.err.starts_with(&plain.err), "{source}");
+    let told = &other.err[plain.err.len().min(other.err.len())..];
+    assert!(rt; told.starts_with(b"  ") == more, "{source}");
+    assert!(rt; told.ends_with(b"\n") == more, "{source}");
+}
+
+// Words with one of the flags.
+const CHECKING: &[&[u8]] = &[b"f77run", b"--turns=1000", b"--check"];
+
+const EXPLAINING: &[&[u8]] = &[b"f77run", b"--turns=1000", b"--explain"];
+
+/// The texts of each rule and each fault with each flag: a check leaves the line of what is refused, and an explanation the run.
+#[test]
+fn each_rule_and_fault_with_flags(rt: HostRuntime) {
+    for &rule in rule_texts::RULES {
+        let row = text_of_rule(rule);
+        if let Some(source) = row.breaks {
+            expect_beside(&rt, CHECKING, source, false);
+            expect_beside(&rt, EXPLAINING, source, true);
+        }
+        expect_beside(&rt, EXPLAINING, row.keeps, false);
+    }
+    for &kind in rule_texts::FAULTS {
+        let row = text_of_fault(kind);
+        let checked = run_of(&rt, &[b"f77run", b"--check"], &mut row.faults.as_bytes());
+        assert!(rt; checked.left(0, b"", b""));
+        expect_beside(&rt, EXPLAINING, row.faults, true);
+        expect_beside(&rt, EXPLAINING, row.runs, false);
     }
 }
 

@@ -3,6 +3,7 @@
 use command_line::asked::OptionsFault;
 use command_line::help::HELP;
 use command_line::options::options;
+use command_line::unknown::{nearest_option, unknown_place};
 use std::test::*;
 
 // Words behind the program's name, the plan that they ask for (workers, block, window, turns), and the file.
@@ -118,6 +119,35 @@ const COUNTED: &[(&[&str], u64, Option<&str>)] = &[
     ),
 ];
 
+// Words with flags among them, whether --check, --count and --explain are asked for, and the file.
+const FLAGGED: &[(&[&str], (bool, bool, bool), Option<&str>)] = &[
+    (&["f77run"], (false, false, false), None),
+    (&["f77run", "--check"], (true, false, false), None),
+    (&["f77run", "--count"], (false, true, false), None),
+    (&["f77run", "--explain"], (false, false, true), None),
+    (
+        &["f77run", "--explain", "a.f", "--check"],
+        (true, false, true),
+        Some("a.f"),
+    ),
+    (
+        &["f77run", "--check", "--turns", "5", "--explain", "--count"],
+        (true, true, true),
+        None,
+    ),
+    // what stands behind them or behind -- is a file
+    (
+        &["f77run", "--check", "true"],
+        (true, false, false),
+        Some("true"),
+    ),
+    (
+        &["f77run", "--", "--explain"],
+        (false, false, false),
+        Some("--explain"),
+    ),
+];
+
 // Words with --rule among them, the name that they ask for, and the file.
 const NAMED: &[(&[&str], &str, Option<&str>)] = &[
     (&["f77run", "--rule", "K3"], "K3", None),
@@ -194,6 +224,14 @@ const REFUSED: &[(&[&str], OptionsFault)] = &[
         &["f77run", "--turns", "0", "--count=yes"],
         OptionsFault::NeedlessValue,
     ),
+    (&["f77run", "--check", "--check"], OptionsFault::GivenTwice),
+    (
+        &["f77run", "--explain", "--count", "--explain"],
+        OptionsFault::GivenTwice,
+    ),
+    (&["f77run", "--check=true"], OptionsFault::NeedlessValue),
+    (&["f77run", "--explain="], OptionsFault::NeedlessValue),
+    (&["f77run", "--rule", "--explain"], OptionsFault::NoValue),
     (&["f77run", "--rule"], OptionsFault::NoValue),
     (&["f77run", "--rule", "--count"], OptionsFault::NoValue),
     (&["f77run", "--rule", "--", "K3"], OptionsFault::NoValue),
@@ -269,6 +307,71 @@ fn named(rt: HostRuntime) {
             }
             Err(fault) => assert!(rt; false, "{fault}"),
         }
+    }
+}
+
+#[test]
+fn flagged(rt: HostRuntime) {
+    for &(words, flags, file) in FLAGGED {
+        match options(rt.alloc(), words) {
+            Ok(asked) => {
+                assert!(rt; (asked.check, asked.count, asked.explain) == flags);
+                assert!(rt; asked.file == file);
+            }
+            Err(fault) => assert!(rt; false, "{fault}"),
+        }
+    }
+}
+
+// Words, and where the one stands that is no option.
+const PLACES: &[(&[&str], Option<usize>)] = &[
+    (&[], None),
+    (&["f77run"], None),
+    (&["f77run", "--count", "a.f"], None),
+    (&["f77run", "--", "--bogus"], None),
+    (&["f77run", "--bogus"], Some(1)),
+    (&["f77run", "-c", "--bogus"], Some(1)),
+    (&["f77run", "--count", "--bogus"], Some(2)),
+    (
+        &[
+            "f77run",
+            "--count",
+            "a.f",
+            "--bogus=1",
+            "--turns",
+            "0",
+            "-x",
+        ],
+        Some(3),
+    ),
+    // of an option without its value the word behind it is told, and of a wrong number that stands by itself too
+    (&["f77run", "--turns", "--bogus"], Some(2)),
+    (&["f77run", "--turns", "0", "--bogus"], Some(3)),
+    // what is wrong before it is told in its place
+    (&["f77run", "--turns=0", "--bogus"], None),
+    (&["f77run", "--help", "--bogus"], None),
+];
+
+// What is no option, and the option that takes the fewest edits, counted by hand.
+const NEAREST: &[(&str, &str)] = &[
+    ("--turn", "--turns"),
+    ("--wrkers", "--workers"),
+    ("--rules", "--rule"),
+    ("--counts", "--count"),
+    ("--chek", "--check"),
+    ("--explian", "--explain"),
+    // of two that take one edit the first of OPTIONS
+    ("-c", "-h"),
+    ("--", "-h"),
+];
+
+#[test]
+fn no_options(rt: HostRuntime) {
+    for &(words, place) in PLACES {
+        assert!(rt; unknown_place(rt.alloc(), words) == Ok(place));
+    }
+    for &(text, option) in NEAREST {
+        assert!(rt; nearest_option(rt.alloc(), text) == Ok(option), "{text}");
     }
 }
 
@@ -349,7 +452,9 @@ fn help_has_each_option_and_status(rt: HostRuntime) {
         "  --block N      the trips of a loop in a worker's block, 1 to 1000000 [default: 64]\n",
         "  --window N     the blocks that are tried at a time, 1 to 256 [default: 8]\n",
         "  --turns N      the turns that the program has, 1 to 1000000000000 [default: 1000000000]\n",
+        "  --check        ",
         "  --count        ",
+        "  --explain      ",
         "  --rule NAME    ",
         "  -h, --help     ",
         "  -V, --version  ",

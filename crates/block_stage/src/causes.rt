@@ -1,0 +1,71 @@
+//! Why a stage is cut where it is.
+
+ghost use Rattle.std.specs.Prelude.{◌≡◌, false, MatchOption};
+ghost use Rattle.std.specs.List.{list_any};
+ghost use Rattle.block_stage.specs.Causes.{IsCarried, IsCause};
+ghost use Rattle.block_stage.specs.Cuts.{IsCut, reads_place};
+
+use crate::cuts::ended_early;
+use crate::posted::Posted;
+use crate::trace::Trace;
+
+/// A cell that one block of a stage wrote and a later one read before it wrote it.
+#[derive(Clone, Copy, Debug, PartialEq, Eq)]
+pub struct Dependence {
+    /// The cell.
+    pub cell: usize,
+    /// The block that wrote it.
+    pub writer: usize,
+}
+
+/// Why a stage is cut where it is. Of several causes the first in this order is told.
+#[derive(Clone, Copy, Debug, PartialEq, Eq)]
+pub enum Cause {
+    /// There is no block behind the cut.
+    Whole,
+    /// The block behind the cut has no run.
+    Loss,
+    /// The block before the cut left the loop, stopped or faulted.
+    Exit,
+    /// The block behind the cut read a cell that an earlier one wrote.
+    Dependence(Dependence),
+    /// The blocks up to the one behind the cut used more turns than there are, or that one met the limit.
+    Turns,
+}
+
+/// Why the stage is cut there.
+pub fn cause_of(posted: &Posted, cut: usize) -> Cause
+    requires { IsCut posted.now.job.turns posted.now.places cut }
+    ensures { IsCause posted.now.job.turns posted.now.places cut result }
+{
+    let places = posted.places();
+    let Some(place) = places.get(cut) else {
+        return Cause::Whole;
+    };
+    let Some(trace) = place else {
+        return Cause::Loss;
+    };
+    if ended_early(&places[cut - 1]) {
+        return Cause::Exit;
+    }
+    match carried(trace, &places[..cut]) {
+        Some(dependence) => Cause::Dependence(dependence),
+        None => Cause::Turns,
+    }
+}
+
+// A cell that it exposed and an earlier block wrote, and the first such block.
+fn carried(trace: &Trace<'_>, earlier: &[Option<Trace<'_>>]) -> Option<Dependence>
+    ensures { MatchOption result
+        (list_any (reads_place trace.now) earlier.now ≡ false)
+        (IsCarried earlier.now trace.now) }
+{
+    for at in 0..earlier.len() {
+        if let Some(other) = &earlier[at] {
+            if let Some(cell) = trace.cell_of(other) {
+                return Some(Dependence { cell, writer: at });
+            }
+        }
+    }
+    None
+}
