@@ -1,9 +1,3 @@
-//! Forms: what bare texts read as, and which are refused.
+//! Forms: the deepest and the longest texts that are read, and those that are too deep.
 
 mod depths;
-mod lists;
-mod operands;
-mod reading;
-mod refused;
-mod statements;
-mod writing;

@@ -1,4 +1,4 @@
-//! Tests of the layers below the runs: the lines and columns of a source, bare texts and how statements nest; forms; formats and the
+//! Tests of the layers below the runs: the lines and columns of a source, and bare texts; forms; formats and the
 //! records that they make; stores, sets of cells and private views; the board of a stage and its workers.
 #![tactic(auto)]
 

@@ -1,7 +1,5 @@
-//! The lines and columns of a source, bare texts, and how statements nest.
+//! The lines and columns of a source, and bare texts.
 
 mod bare_texts;
 mod columns;
-mod nested;
 mod numbers;
-mod programs;

@@ -1,49 +1,66 @@
 //! The deepest and the longest texts, and parentheses past the limit.
 
-use crate::forms::reading::{bare_of, reads};
-use crate::forms::writing::Text;
+use meaning::refusal::{Refusal, Rule};
+use meaning::statement::Bare;
 use parser::form;
-use std::alloc::Global;
+use std::alloc::{AllocError, Global};
 use std::process::Abort;
 
 /// A front, a text and how often it stands behind it, an end, and how many parentheses are closed behind that.
 type Parts = (&'static str, &'static str, usize, &'static str, usize);
 
-fn text_of(alloc: Global, parts: Parts) -> Text {
+fn text_of(alloc: Global, parts: Parts) -> Result<Vec<u8>, AllocError> {
     let (front, more, count, end, closed) = parts;
-    let mut text = Text::new(alloc);
-    text.put(front.as_bytes());
+    let mut text = Vec::new(alloc);
+    text.extend_from_slice(front.as_bytes())?;
     for _ in 0..count {
-        text.put(more.as_bytes());
+        text.extend_from_slice(more.as_bytes())?;
     }
-    text.put(end.as_bytes());
+    text.extend_from_slice(end.as_bytes())?;
     for _ in 0..closed {
-        text.push(b')');
+        text.push(b')')?;
     }
-    text
+    Ok(text)
+}
+
+/// The rule that is told of a text, at line 7; none where it has a form.
+fn rule_of(rt: &impl Abort, alloc: Global, parts: Parts) -> Option<Rule> {
+    let text = text_of(alloc, parts).expect(rt, "memory");
+    assert!(rt; text.len() <= 1320, "the text is too long");
+    match form(alloc, &Bare { line: 7, text }) {
+        Ok(read) => {
+            drop(read);
+            None
+        }
+        Err(Refusal::Rule { rule, line: 7 }) => Some(rule),
+        Err(_) => Some(Rule::C7),
+    }
 }
 
 /// Texts that open parentheses, and what is told.
-const OPENED: &[(Parts, &str)] = &[
-    (("CALLF", "(", 64, "", 0), "G2 7"),
-    (("CALLF", "(", 65, "", 0), "G3 7"),
-    (("I=", "(", 64, "", 0), "G1 7"),
-    (("I=", "(", 65, "", 0), "G3 7"),
-    (("I='", "(", 65, "", 0), "G1 7"),
-    (("DOWHILE(", "(", 63, "", 0), "G1 7"),
-    (("DOWHILE(", "(", 64, "", 0), "G3 7"),
+const OPENED: &[(Parts, Rule)] = &[
+    (("CALLF", "(", 64, "", 0), Rule::G2),
+    (("CALLF", "(", 65, "", 0), Rule::G3),
+    (("I=", "(", 64, "", 0), Rule::G1),
+    (("I=", "(", 65, "", 0), Rule::G3),
+    (("I='", "(", 65, "", 0), Rule::G1),
+    (("DOWHILE(", "(", 63, "", 0), Rule::G1),
+    (("DOWHILE(", "(", 64, "", 0), Rule::G3),
     // A value inside one more than may be open at once.
-    (("I=", "(", 65, "1", 65), "G3 7"),
-    (("I=", "-J+K*(", 65, "1", 65), "G3 7"),
-    (("I=", "A(", 65, "1", 65), "G3 7"),
-    (("I=", "-J+A(2)*B(", 65, "1", 65), "G3 7"),
+    (("I=", "(", 65, "1", 65), Rule::G3),
+    (("I=", "-J+K*(", 65, "1", 65), Rule::G3),
+    (("I=", "A(", 65, "1", 65), Rule::G3),
+    (("I=", "-J+A(2)*B(", 65, "1", 65), Rule::G3),
 ];
 
 #[test]
 fn parentheses(rt: HostRuntime) {
     for &(parts, wanted) in OPENED {
-        let text = text_of(rt.alloc(), parts);
-        reads(&rt, rt.alloc(), &text.bytes, wanted);
+        assert!(rt;
+            rule_of(&rt, rt.alloc(), parts) == Some(wanted),
+            "{}",
+            parts.1
+        );
     }
 }
 
@@ -76,21 +93,9 @@ const LONGEST: &[Parts] = &[
     ("DATAI/1", ",1", 650, "/", 0),
 ];
 
-/// Whether a text has a form.
-fn is_read(rt: &impl Abort, alloc: Global, text: &[u8]) -> bool {
-    match form(alloc, &bare_of(rt, alloc, text)) {
-        Ok(read) => {
-            drop(read);
-            true
-        }
-        Err(_) => false,
-    }
-}
-
 #[test]
 fn longest_texts(rt: HostRuntime) {
     for &parts in LONGEST {
-        let text = text_of(rt.alloc(), parts);
-        assert!(rt; is_read(&rt, rt.alloc(), &text.bytes), "{}", parts.1);
+        assert!(rt; rule_of(&rt, rt.alloc(), parts).is_none(), "{}", parts.1);
     }
 }

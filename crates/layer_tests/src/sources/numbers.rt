@@ -6,6 +6,7 @@ use meaning::laws::{
 };
 use meaning::number::number;
 use meaning::refusal::{Broken, Rule, lesser};
+use nesting_laws::{nests_exactly, one_nesting, refuses_exactly, rule_told};
 
 const NUMBERS: &[(&[u8], u64)] = &[
     (b"", 0),
@@ -66,4 +67,8 @@ fn laws_can_be_called() {
     trips_split();
     elements_have_places();
     cells_are_own();
+    one_nesting();
+    nests_exactly();
+    refuses_exactly();
+    rule_told();
 }

@@ -1,0 +1,3 @@
+1     FORMAT(I5)
+      PROGRAM P
+      END

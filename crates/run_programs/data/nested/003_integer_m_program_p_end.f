@@ -1,0 +1,3 @@
+      INTEGER M
+      PROGRAM P
+      END

@@ -1,0 +1,3 @@
+      IMPLICIT INTEGER(A)
+      PROGRAM P
+      END

@@ -1,0 +1,4 @@
+      IF(L)THEN
+      PROGRAM P
+      END IF
+      END

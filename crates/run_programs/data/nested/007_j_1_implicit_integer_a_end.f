@@ -1,0 +1,3 @@
+      J=1
+      IMPLICIT INTEGER(A)
+      END

@@ -1,0 +1,3 @@
+      J=1
+      PARAMETER(K=1)
+      END

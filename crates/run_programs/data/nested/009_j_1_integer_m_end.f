@@ -1,0 +1,3 @@
+      J=1
+      INTEGER M
+      END

@@ -1,0 +1,3 @@
+      J=1
+      DIMENSION A(9)
+      END

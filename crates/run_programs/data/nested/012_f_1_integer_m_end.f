@@ -1,0 +1,3 @@
+      F()=1
+      INTEGER M
+      END

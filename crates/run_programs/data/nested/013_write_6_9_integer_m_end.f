@@ -1,0 +1,3 @@
+      WRITE(6,9)
+      INTEGER M
+      END

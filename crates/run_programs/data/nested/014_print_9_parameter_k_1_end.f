@@ -1,0 +1,3 @@
+      PRINT 9
+      PARAMETER(K=1)
+      END

@@ -1,0 +1,3 @@
+      CONTINUE
+      IMPLICIT INTEGER(A)
+      END

@@ -1,0 +1,3 @@
+      GO TO 9
+      DIMENSION A(9)
+      END

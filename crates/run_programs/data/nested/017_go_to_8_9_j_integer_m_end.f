@@ -1,0 +1,3 @@
+      GO TO(8,9)J
+      INTEGER M
+      END

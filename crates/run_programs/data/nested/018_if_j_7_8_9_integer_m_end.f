@@ -1,0 +1,3 @@
+      IF(J)7,8,9
+      INTEGER M
+      END

@@ -1,0 +1,3 @@
+      IF(L)CONTINUE
+      INTEGER M
+      END

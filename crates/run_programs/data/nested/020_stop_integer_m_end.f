@@ -1,0 +1,3 @@
+      STOP
+      INTEGER M
+      END

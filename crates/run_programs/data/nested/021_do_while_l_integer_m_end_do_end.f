@@ -1,0 +1,4 @@
+      DO WHILE(L)
+      INTEGER M
+      END DO
+      END

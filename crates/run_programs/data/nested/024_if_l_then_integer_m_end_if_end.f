@@ -1,0 +1,4 @@
+      IF(L)THEN
+      INTEGER M
+      END IF
+      END

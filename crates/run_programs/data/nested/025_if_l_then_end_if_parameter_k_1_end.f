@@ -1,0 +1,4 @@
+      IF(L)THEN
+      END IF
+      PARAMETER(K=1)
+      END

@@ -1,0 +1,3 @@
+      INTEGER M
+      IMPLICIT INTEGER(A)
+      END

@@ -1,0 +1,3 @@
+      LOGICAL L
+      IMPLICIT INTEGER(A)
+      END

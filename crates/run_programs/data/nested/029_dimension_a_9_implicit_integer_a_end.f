@@ -1,0 +1,3 @@
+      DIMENSION A(9)
+      IMPLICIT INTEGER(A)
+      END

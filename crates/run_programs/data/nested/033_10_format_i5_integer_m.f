@@ -1,0 +1,2 @@
+10    FORMAT(I5)
+      INTEGER M

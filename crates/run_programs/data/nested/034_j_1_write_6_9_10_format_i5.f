@@ -1,0 +1,3 @@
+      J=1
+      WRITE(6,9)
+10    FORMAT(I5)

@@ -1,0 +1,1 @@
+      IF(L)THEN

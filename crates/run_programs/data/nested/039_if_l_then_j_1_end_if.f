@@ -1,0 +1,3 @@
+      IF(L)THEN
+      J=1
+      END IF

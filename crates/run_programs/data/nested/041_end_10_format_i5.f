@@ -1,0 +1,2 @@
+      END
+10    FORMAT(I5)

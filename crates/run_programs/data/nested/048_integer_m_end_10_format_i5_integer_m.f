@@ -1,0 +1,4 @@
+      INTEGER M
+      END
+10    FORMAT(I5)
+      INTEGER M

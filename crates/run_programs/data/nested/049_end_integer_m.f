@@ -1,0 +1,2 @@
+      END
+      INTEGER M

@@ -1,0 +1,2 @@
+      END
+      PROGRAM P

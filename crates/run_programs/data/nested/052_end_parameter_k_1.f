@@ -1,0 +1,2 @@
+      END
+      PARAMETER(K=1)

@@ -1,0 +1,2 @@
+      END
+      DIMENSION A(9)

@@ -1,0 +1,2 @@
+      ELSE IF(L)THEN
+      END

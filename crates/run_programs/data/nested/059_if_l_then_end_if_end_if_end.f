@@ -1,0 +1,4 @@
+      IF(L)THEN
+      END IF
+      END IF
+      END

@@ -1,0 +1,5 @@
+      IF(L)THEN
+      ELSE
+      ELSE
+      END IF
+      END

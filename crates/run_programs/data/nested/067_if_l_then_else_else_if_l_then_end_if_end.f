@@ -1,0 +1,5 @@
+      IF(L)THEN
+      ELSE
+      ELSE IF(L)THEN
+      END IF
+      END

@@ -1,0 +1,8 @@
+      IF(L)THEN
+      ELSE
+      IF(L)THEN
+      ELSE
+      END IF
+      ELSE
+      END IF
+      END

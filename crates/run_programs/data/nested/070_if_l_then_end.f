@@ -1,0 +1,2 @@
+      IF(L)THEN
+      END

@@ -1,0 +1,3 @@
+      IF(L)THEN
+      DO 10 I=1,2
+      END

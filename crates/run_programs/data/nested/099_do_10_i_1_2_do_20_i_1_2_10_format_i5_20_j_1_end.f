@@ -1,0 +1,5 @@
+      DO 10 I=1,2
+      DO 20 I=1,2
+10    FORMAT(I5)
+20    J=1
+      END

@@ -1,0 +1,5 @@
+      DO 10 I=1,2
+      IF(L)THEN
+10    J=1
+      END IF
+      END

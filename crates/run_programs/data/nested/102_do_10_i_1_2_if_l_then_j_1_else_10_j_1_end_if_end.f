@@ -1,0 +1,7 @@
+      DO 10 I=1,2
+      IF(L)THEN
+      J=1
+      ELSE
+10    J=1
+      END IF
+      END

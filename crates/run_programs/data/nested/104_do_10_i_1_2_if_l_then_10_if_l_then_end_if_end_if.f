@@ -1,0 +1,7 @@
+      DO 10 I=1,2
+      IF(L)THEN
+10    IF(L)THEN
+      END IF
+      END IF
+10    J=1
+      END

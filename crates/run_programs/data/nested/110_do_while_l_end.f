@@ -1,0 +1,2 @@
+      DO WHILE(L)
+      END

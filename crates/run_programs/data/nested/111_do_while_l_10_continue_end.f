@@ -1,0 +1,3 @@
+      DO WHILE(L)
+10    CONTINUE
+      END

@@ -1,0 +1,3 @@
+      DO 10 WHILE(L)
+      END DO
+      END

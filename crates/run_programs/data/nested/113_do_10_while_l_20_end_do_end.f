@@ -1,0 +1,3 @@
+      DO 10 WHILE(L)
+20    END DO
+      END

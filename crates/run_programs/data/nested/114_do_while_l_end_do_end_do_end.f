@@ -1,0 +1,4 @@
+      DO WHILE(L)
+      END DO
+      END DO
+      END

@@ -1,0 +1,5 @@
+      DO WHILE(L)
+      IF(L)THEN
+      END DO
+      END IF
+      END

@@ -1,0 +1,5 @@
+      IF(L)THEN
+      DO WHILE(L)
+      END IF
+      END DO
+      END

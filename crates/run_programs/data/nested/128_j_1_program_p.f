@@ -1,0 +1,2 @@
+      J=1
+      PROGRAM P

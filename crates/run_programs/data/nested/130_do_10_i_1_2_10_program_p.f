@@ -1,0 +1,2 @@
+      DO 10 I=1,2
+10    PROGRAM P

@@ -1,0 +1,4 @@
+      J=1
+      INTEGER M
+      END
+      J=1

@@ -1,0 +1,3 @@
+      IF(L)THEN
+      ELSE
+      ELSE

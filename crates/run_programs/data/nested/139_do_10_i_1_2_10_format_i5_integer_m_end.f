@@ -1,0 +1,4 @@
+      DO 10 I=1,2
+10    FORMAT(I5)
+      INTEGER M
+      END

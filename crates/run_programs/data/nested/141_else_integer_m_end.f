@@ -1,0 +1,3 @@
+      ELSE
+      INTEGER M
+      END

@@ -1,0 +1,3 @@
+      ELSE
+      J=1
+      INTEGER M

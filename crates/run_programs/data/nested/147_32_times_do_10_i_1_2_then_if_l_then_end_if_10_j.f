@@ -1,0 +1,36 @@
+      DO 10 I=1,2
+      DO 10 I=1,2
+      DO 10 I=1,2
+      DO 10 I=1,2
+      DO 10 I=1,2
+      DO 10 I=1,2
+      DO 10 I=1,2
+      DO 10 I=1,2
+      DO 10 I=1,2
+      DO 10 I=1,2
+      DO 10 I=1,2
+      DO 10 I=1,2
+      DO 10 I=1,2
+      DO 10 I=1,2
+      DO 10 I=1,2
+      DO 10 I=1,2
+      DO 10 I=1,2
+      DO 10 I=1,2
+      DO 10 I=1,2
+      DO 10 I=1,2
+      DO 10 I=1,2
+      DO 10 I=1,2
+      DO 10 I=1,2
+      DO 10 I=1,2
+      DO 10 I=1,2
+      DO 10 I=1,2
+      DO 10 I=1,2
+      DO 10 I=1,2
+      DO 10 I=1,2
+      DO 10 I=1,2
+      DO 10 I=1,2
+      DO 10 I=1,2
+      IF(L)THEN
+      END IF
+10    J=1
+      END

@@ -1,0 +1,2 @@
+      ENDX
+      END

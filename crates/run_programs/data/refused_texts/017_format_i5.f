@@ -1,0 +1,2 @@
+      FORMAT(I5))
+      END

@@ -1,0 +1,2 @@
+      INTEGER
+      END

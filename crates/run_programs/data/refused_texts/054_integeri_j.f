@@ -1,0 +1,2 @@
+      INTEGERI,,J
+      END

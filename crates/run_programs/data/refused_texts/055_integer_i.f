@@ -1,0 +1,2 @@
+      INTEGER,I
+      END

@@ -1,0 +1,2 @@
+      INTEGER*4I
+      END

@@ -1,0 +1,2 @@
+      INTEGER(5)
+      END

@@ -1,0 +1,2 @@
+      INTEGERI(1)J(2)
+      END

@@ -1,0 +1,2 @@
+      INTEGERI(1=2)
+      END

@@ -1,0 +1,2 @@
+      INTEGERI:2
+      END

@@ -1,0 +1,2 @@
+      DOWHILE
+      END

@@ -1,0 +1,2 @@
+      DOWHILEI
+      END

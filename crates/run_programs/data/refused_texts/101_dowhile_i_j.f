@@ -1,0 +1,2 @@
+      DOWHILE(I)J
+      END

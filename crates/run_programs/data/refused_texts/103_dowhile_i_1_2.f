@@ -1,0 +1,2 @@
+      DOWHILE(I)=1,2
+      END

@@ -1,0 +1,2 @@
+      DOWHILE(I)(J)=3
+      END

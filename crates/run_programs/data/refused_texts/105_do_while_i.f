@@ -1,0 +1,2 @@
+      DO,WHILE(I)
+      END

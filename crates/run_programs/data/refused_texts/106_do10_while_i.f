@@ -1,0 +1,2 @@
+      DO10,,WHILE(I)
+      END

@@ -1,0 +1,2 @@
+      DO10WHILE,(I)
+      END

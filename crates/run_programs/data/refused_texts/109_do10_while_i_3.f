@@ -1,0 +1,2 @@
+      DO10,WHILE(I)=3
+      END

@@ -1,0 +1,2 @@
+      DO0WHILE(I)
+      END

@@ -1,0 +1,2 @@
+      DO100000WHILE(I)
+      END

@@ -1,0 +1,2 @@
+      WHILE(I)
+      END

@@ -1,0 +1,2 @@
+      ENDWHILE
+      END

@@ -1,0 +1,2 @@
+      ENDDOWHILE
+      END

@@ -1,0 +1,2 @@
+      CONTINUE=1,2
+      END

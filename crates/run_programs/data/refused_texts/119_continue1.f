@@ -1,0 +1,2 @@
+      CONTINUE1
+      END

@@ -1,0 +1,2 @@
+      CONTINU
+      END

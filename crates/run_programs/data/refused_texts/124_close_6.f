@@ -1,0 +1,2 @@
+      CLOSE(6)
+      END

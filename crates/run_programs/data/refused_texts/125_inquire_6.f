@@ -1,0 +1,2 @@
+      INQUIRE(6)
+      END

@@ -1,0 +1,2 @@
+      BACKSPACE6
+      END

@@ -1,0 +1,2 @@
+      REWIND6
+      END

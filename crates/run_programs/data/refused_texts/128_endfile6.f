@@ -1,0 +1,2 @@
+      ENDFILE6
+      END

@@ -1,0 +1,2 @@
+      REALX
+      END

@@ -1,0 +1,2 @@
+      DOUBLEPRECISIONX
+      END

@@ -1,0 +1,2 @@
+      COMPLEXZ
+      END

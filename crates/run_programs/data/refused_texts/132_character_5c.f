@@ -1,0 +1,2 @@
+      CHARACTER*5C
+      END

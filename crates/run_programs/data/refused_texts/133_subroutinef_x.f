@@ -1,0 +1,2 @@
+      SUBROUTINEF(X)
+      END

@@ -1,0 +1,2 @@
+      FUNCTIONF(X)
+      END

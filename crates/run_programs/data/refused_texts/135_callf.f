@@ -1,0 +1,2 @@
+      CALLF
+      END

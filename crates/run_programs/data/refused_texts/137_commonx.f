@@ -1,0 +1,2 @@
+      COMMONX
+      END

@@ -1,0 +1,2 @@
+      EQUIVALENCE(A,B)
+      END

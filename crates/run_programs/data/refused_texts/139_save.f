@@ -1,0 +1,2 @@
+      SAVE
+      END

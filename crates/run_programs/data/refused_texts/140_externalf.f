@@ -1,0 +1,2 @@
+      EXTERNALF
+      END

@@ -1,0 +1,2 @@
+      INTRINSICABS
+      END

@@ -1,0 +1,2 @@
+      BLOCKDATA
+      END

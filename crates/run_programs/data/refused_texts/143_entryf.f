@@ -1,0 +1,2 @@
+      ENTRYF
+      END

@@ -1,0 +1,2 @@
+      ASSIGN10TOI
+      END

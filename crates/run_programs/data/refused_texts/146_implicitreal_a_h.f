@@ -1,0 +1,2 @@
+      IMPLICITREAL(A-H)
+      END

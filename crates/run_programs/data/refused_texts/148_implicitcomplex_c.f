@@ -1,0 +1,2 @@
+      IMPLICITCOMPLEX(C)
+      END

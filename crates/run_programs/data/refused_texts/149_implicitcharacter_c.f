@@ -1,0 +1,2 @@
+      IMPLICITCHARACTER(C)
+      END

@@ -1,0 +1,2 @@
+      PRINT*,I
+      END

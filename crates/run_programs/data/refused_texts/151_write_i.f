@@ -1,0 +1,2 @@
+      WRITE(*,*)I
+      END

@@ -1,0 +1,2 @@
+      DATAI/1
+      END

@@ -1,0 +1,2 @@
+      DATA.TRUE./1/
+      END

@@ -1,0 +1,2 @@
+      DATAI/-N/
+      END

@@ -1,0 +1,2 @@
+      DATAI/A(1)/
+      END

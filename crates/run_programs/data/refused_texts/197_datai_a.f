@@ -1,0 +1,2 @@
+      DATAI/'A'/
+      END

@@ -1,0 +1,2 @@
+      DATAI/2A*1/
+      END

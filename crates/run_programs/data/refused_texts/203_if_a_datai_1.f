@@ -1,0 +1,2 @@
+      IF(A)DATAI/1/
+      END
