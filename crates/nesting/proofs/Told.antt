@@ -1,5 +1,5 @@
 -- What is told where a rule is broken, and behind the last statement.
-use Rattle.std.proofs.Common.{◌≡◌, List, [], ◌∷◌, ◌++◌, Option, Some, None, Result, refl, sym, ap, subst, ◌∙◌}
+use Rattle.std.proofs.Common.{◌≡◌, List, [], ◌∷◌, ◌++◌, Option, Some, None, Result, Ok, refl, sym, ap, ap₂, subst, ◌∙◌}
 use Rattle.meaning.specs.declared.refusal.Broken.{Broken}
 use Rattle.meaning.specs.declared.refusal.Rule.{Rule}
 use Rattle.meaning.specs.declared.refusal.Refusal.{Refusal}
@@ -7,35 +7,36 @@ use Rattle.meaning.specs.declared.syntax.Tree.{Tree}
 use Rattle.meaning.specs.Refusals.{merge, unless}
 use Rattle.meaning.specs.Reports.{Gives}
 use Rattle.meaning.specs.Syntax.{ItemTree}
-use Rattle.meaning.specs.Trees.{Nested, nested}
+use Rattle.meaning.specs.Trees.{Members, Nested, nested}
 use Rattle.meaning.specs.Nesting.{Unfinished, start, innermost, breaks, behind, past, first_broken, told_first, missing_end, nest}
 
 same_refusal : (missing : Option Broken) (b : Broken) (t u : Nested) → unless (merge missing (Some b)) t ≡ unless (merge missing (Some b)) u
 same_refusal None b t u = refl
 same_refusal (Some a) b t u = refl
 
-pub stops : (all : List ItemTree) (missing : Option Broken) (before : List ItemTree) (z : Unfinished) (x : ItemTree) (xs : List ItemTree) (rule : Rule) (t : Nested) (r : Result Tree Refusal)
-    → missing ≡ missing_end all → first_broken before z (x ∷ xs) ≡ first_broken [] start all → Some rule ≡ breaks before z x
-    → Gives nested r (unless (merge missing (Some (record { line = x.line; rule = rule }))) t) → Gives nested r (nest all)
-unfolding nest
-stops all missing before z x xs rule t r lacks tells broken given =
-    let here : Option Broken = Some (record { line = x.line; rule = rule }) in
-    let first : here ≡ first_broken [] start all = ap (λ o. told_first x o (first_broken (before ++ x ∷ []) (past z x) xs)) broken ∙ tells in
-    let whole : Nested = record { body = innermost (behind start all) } in
-    let same : unless (merge missing here) t ≡ unless (merge (missing_end all) (first_broken [] start all)) whole =
-    same_refusal missing (record { line = x.line; rule = rule }) t whole ∙ ap (λ m. unless (merge m here) whole) lacks ∙ ap (λ o. unless (merge (missing_end all) o) whole) first in
-    subst (λ (n : Result Nested Broken). Gives nested r n) same given
+-- the rule at the first statement that breaks one
+pub first_is : (before : List ItemTree) (z : Unfinished) (x : ItemTree) (xs : List ItemTree) (rule : Rule) (total : Option Broken)
+    → first_broken before z (x ∷ xs) ≡ total → Some rule ≡ breaks before z x → Some (record { line = x.line; rule = rule }) ≡ total
+first_is before z x xs rule total tells broken =
+    ap (λ o. told_first x o (first_broken (before ++ x ∷ []) (past z x) xs)) broken ∙ tells
 
-merge_none : (missing : Option Broken) → merge missing None ≡ missing
-merge_none None = refl
-merge_none (Some a) = refl
+-- what was read tells what the definition does
+module _ (all : List ItemTree) (missing first : Option Broken) (z : Unfinished) (lacks : missing ≡ missing_end all) (is : first ≡ first_broken [] start all) (reads : first ≡ None → z ≡ behind start all) where
+  abbrev end : Nested
+  end = record { body = innermost (behind start all) }
 
-pub runs_out : (all : List ItemTree) (missing : Option Broken) (z : Unfinished) (r : Result Tree Refusal)
-    → missing ≡ missing_end all → None ≡ first_broken [] start all → z ≡ behind start all
-    → Gives nested r (unless missing (record { body = innermost z })) → Gives nested r (nest all)
-unfolding nest
-runs_out all missing z r lacks tells reads given =
-    let none : missing ≡ merge (missing_end all) (first_broken [] start all) = sym (merge_none missing) ∙ ap (λ m. merge m None) lacks ∙ ap (λ o. merge (missing_end all) o) tells in
-    let same : unless missing (record { body = innermost z }) ≡ unless (merge (missing_end all) (first_broken [] start all)) (record { body = innermost (behind start all) }) =
-    ap (λ m. unless m (record { body = innermost z })) none ∙ ap (λ y. unless (merge (missing_end all) (first_broken [] start all)) (record { body = innermost y })) reads in
-    subst (λ (n : Result Nested Broken). Gives nested r n) same given
+  same_front : (o : Option Broken) → (o ≡ None → z ≡ behind start all) → unless (merge missing o) (record { body = innermost z }) ≡ unless (merge missing o) end
+  same_front None h = ap (λ y. unless (merge missing None) (record { body = innermost y })) (h refl)
+  same_front (Some b) h = same_refusal missing b (record { body = innermost z }) end
+
+  same_nest : unless (merge missing first) (record { body = innermost z }) ≡ nest all
+  unfolding nest
+  same_nest = same_front first reads ∙ ap₂ (λ o p. unless (merge o p) end) lacks is
+
+  pub tells : (r : Result Tree Refusal) → Gives nested r (unless (merge missing first) (record { body = innermost z })) → Gives nested r (nest all)
+  tells r given = subst (λ (n : Result Nested Broken). Gives nested r n) same_nest given
+
+  -- where neither is told, the statements make a program unit
+  pub nests : (body : Members) → body ≡ innermost z → None ≡ merge missing first → nest all ≡ Ok (record { body = body })
+  nests body is_read neither =
+      sym same_nest ∙ ap (λ o. unless o (record { body = innermost z })) (sym neither) ∙ ap (λ b. Ok (record { body = b })) (sym is_read)

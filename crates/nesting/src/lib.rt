@@ -6,4 +6,4 @@ mod nesting;
 mod order;
 mod unfinished;
 
-pub use nesting::tree;
+pub use nesting::{Arranged, tree, tree_or_pairs};

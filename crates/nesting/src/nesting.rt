@@ -1,20 +1,41 @@
 //! The program unit that statements make.
 
-ghost use Rattle.std.specs.Prelude.{◌≡◌, ◌≢◌, List, map, Err};
+ghost use Rattle.std.specs.Prelude.{◌≡◌, ◌≢◌, ◌++◌, List, map, Err, IfOk};
+ghost use Rattle.std.specs.Option.{option_to_list};
 ghost use Rattle.meaning.specs.Nesting.{breaks, innermost, lacks_end, last_line, missing_end as missing, nest};
 ghost use Rattle.meaning.specs.Reports.{Gives};
 ghost use Rattle.meaning.specs.Trees.{item_tree, nested};
 ghost use Rattle.meaning.specs.Refusals.{unless};
 ghost use Rattle.meaning.specs.Syntax.{ItemTree};
 ghost use Rattle.nesting.specs.Open.{unfinished};
+ghost use Rattle.nesting.specs.Pairs.{IsArranged};
 ghost use Rattle.nesting.specs.Places.{IsOrderOf};
+ghost use Rattle.nesting.specs.Fronts.{IsFront};
 
 use crate::effect::{closes_unit, effect_of_item};
 use crate::order::Order;
 use crate::unfinished::{Open, broken_nesting, into_innermost, is_ended, past};
 use meaning::refusal::{Broken, Refusal, Rule, lesser};
 use meaning::syntax::{Item, Tree};
-use std::alloc::Global;
+use std::alloc::{AllocError, Global};
+
+/// Statements as far as they were read: up to the first that breaks a rule behind those before it.
+pub struct Front {
+    /// N2 where END is missing.
+    missing: Option<Broken>,
+    /// The rule at the first statement that breaks one behind those before it.
+    first: Option<Broken>,
+    so_far: Open,
+}
+
+/// What statements make.
+#[derive(Drop)]
+pub enum Arranged {
+    /// A program unit.
+    Nests(Tree),
+    /// None, and each pair that they break.
+    Breaks(Vec<Broken>),
+}
 
 /// The line of the last statement, or 1 where there is none.
 fn line_of_last(items: &[Item]) -> u32
@@ -94,6 +115,33 @@ fn told(broken: Option<Broken>, so_far: Open) -> Result<Tree, Refusal>
     }
 }
 
+/// The statements, read up to the first that breaks a rule behind those before it.
+fn read(alloc: Global, items: Vec<Item>) -> Result<Front, AllocError>
+    ensures { IfOk result (IsFront (map item_tree items.items)) }
+{
+    let missing = missing_end(&items);
+    let mut order = Order::start();
+    let mut so_far = Open::Body(Vec::new(alloc));
+    for item in items {
+        if let Some(rule) = broken_rule(order, &so_far, &item) {
+            let here = broken_at(&item, rule);
+            drop(item);
+            return Ok(Front {
+                missing,
+                first: Some(here),
+                so_far,
+            });
+        }
+        order = order.with(&item);
+        so_far = past(alloc, so_far, item)?;
+    }
+    Ok(Front {
+        missing,
+        first: None,
+        so_far,
+    })
+}
+
 /// The program unit that statements make, in their order (ANSI X3.9-1978, 3.5 and 11.6 to 11.10).
 ///
 /// # Errors
@@ -107,17 +155,54 @@ fn told(broken: Option<Broken>, so_far: Open) -> Result<Tree, Refusal>
 pub fn tree(alloc: Global, items: Vec<Item>) -> Result<Tree, Refusal>
     ensures exact { Gives nested result (nest (map item_tree items.items)) }
 {
-    let missing = missing_end(&items);
-    let mut order = Order::start();
-    let mut so_far = Open::Body(Vec::new(alloc));
-    for item in items {
-        if let Some(rule) = broken_rule(order, &so_far, &item) {
-            let here = broken_at(&item, rule);
-            drop(item);
-            return told(lesser(missing, Some(here)), so_far);
-        }
-        order = order.with(&item);
-        so_far = past(alloc, so_far, item)?;
+    let Front {
+        missing,
+        first,
+        so_far,
+    } = read(alloc, items)?;
+    told(lesser(missing, first), so_far)
+}
+
+/// Two pairs, each where there is one.
+fn pairs_of(
+    alloc: Global,
+    missing: Option<Broken>,
+    first: Option<Broken>,
+) -> Result<Vec<Broken>, AllocError>
+    ensures { IfOk result (λ pairs. pairs.items ≡ option_to_list missing ++ option_to_list first) }
+{
+    let mut pairs = Vec::new(alloc);
+    if let Some(pair) = missing {
+        pairs.push(pair)?;
     }
-    told(missing, so_far)
+    if let Some(pair) = first {
+        pairs.push(pair)?;
+    }
+    Ok(pairs)
+}
+
+/// The program unit that statements make, or both pairs of which `tree` tells the lesser: N2 where END is missing, and the least
+/// rule at the first statement up to which no program unit begins so, each where there is one.
+///
+/// # Errors
+///
+/// `AllocError` where a growth was refused.
+pub fn tree_or_pairs(alloc: Global, items: Vec<Item>) -> Result<Arranged, AllocError>
+    ensures { IfOk result (IsArranged (map item_tree items.items)) }
+{
+    let Front {
+        missing,
+        first,
+        so_far,
+    } = read(alloc, items)?;
+    match lesser(missing, first) {
+        None => Ok(Arranged::Nests(Tree {
+            body: into_innermost(so_far),
+        })),
+        Some(_) => {
+            drop(so_far);
+            let pairs = pairs_of(alloc, missing, first)?;
+            Ok(Arranged::Breaks(pairs))
+        }
+    }
 }

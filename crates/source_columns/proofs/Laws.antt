@@ -22,11 +22,11 @@ continues l ls e = rw (take_while-cons, e) refl
 pub continues_not : (l : StatementLine) (ls : List StatementLine) → is_initial l.columns ≡ true → continuations (l ∷ ls) ≡ []
 continues_not l ls e = rw (take_while-cons, e) refl
 
-groups_initial : (l : StatementLine) (ls : List StatementLine) → is_initial l.columns ≡ true → groups (l ∷ ls) ≡ record { initial = l; continued = continuations ls } ∷ groups ls
+pub groups_initial : (l : StatementLine) (ls : List StatementLine) → is_initial l.columns ≡ true → groups (l ∷ ls) ≡ record { initial = l; continued = continuations ls } ∷ groups ls
 unfolding groups
 groups_initial l ls e = rw e refl
 
-groups_other : (l : StatementLine) (ls : List StatementLine) → is_initial l.columns ≡ false → groups (l ∷ ls) ≡ groups ls
+pub groups_other : (l : StatementLine) (ls : List StatementLine) → is_initial l.columns ≡ false → groups (l ∷ ls) ≡ groups ls
 unfolding groups
 groups_other l ls e = rw e refl
 

@@ -6,3 +6,4 @@ pub mod Laws
 pub mod Apostrophes
 pub mod Texts
 pub mod Excerpts
+pub mod AllBroken

@@ -24,7 +24,7 @@ const MAX_BYTES: usize = 1_048_576;
 const MAX_LINES: usize = 65_535;
 
 /// The most continuation lines that a statement may have.
-const MAX_CONTINUATIONS: usize = 19;
+pub const MAX_CONTINUATIONS: usize = 19;
 
 /// A statement, and what stands behind it.
 #[derive(Drop)]
@@ -52,7 +52,7 @@ fn broken(line: u32, rule: Rule) -> Refusal
 }
 
 /// Whether the apostrophes of a statement come in pairs, over all its lines.
-fn is_text_paired(first: &StatementLine) -> bool
+pub fn is_text_paired(first: &StatementLine) -> bool
     requires { first.now.number + 1 + length (lines_of first.now.behind.now) ≤ 65536 }
     ensures { result ≡ not (is_unpaired (text_of (group_of first.now))) }
 {
@@ -166,7 +166,7 @@ fn statement_at<'a>(alloc: Global, line: &StatementLine<'a>) -> Result<Split<'a>
 }
 
 /// Whether a source has too many bytes or too many lines.
-fn is_long(source: &[u8]) -> bool
+pub fn is_long(source: &[u8]) -> bool
     ensures { result ≡ is_too_long source.now }
 {
     source.len() > MAX_BYTES || line_count(source) > MAX_LINES

@@ -4,7 +4,7 @@ use Rattle.meaning.specs.Nesting.{missing_end as missing}
 use Rattle.meaning.specs.Trees.{item_tree}
 use Rattle.nesting.specs.Open.{unfinished}
 use Rattle.nesting.proofs.SoFar.{IsSoFar}
-use Rattle.nesting.proofs.nesting.tree.Given as goal
+use Rattle.nesting.proofs.nesting.read.Given as goal
 
 abbrev pub invariant-loop-item : goal.invariant-loop-item
 invariant-loop-item l = record {

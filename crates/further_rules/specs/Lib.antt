@@ -1,0 +1,5 @@
+pub mod Ordered
+pub mod Phases
+pub mod Further
+pub mod Texts
+pub mod Parts

@@ -1,0 +1,86 @@
+//! What statements say, and each rule that their texts break.
+
+ghost use Rattle.std.specs.Prelude.{◌≡◌, ◌++◌, map, IfOk, OnOk, Result};
+ghost use Rattle.std.specs.Option.{option_to_list};
+ghost use Rattle.meaning.specs.declared.refusal.Broken.{Broken as Pair};
+ghost use Rattle.meaning.specs.Answers.{member_of};
+ghost use Rattle.meaning.specs.Reports.{Gives};
+ghost use Rattle.meaning.specs.Statements.{entry_of};
+ghost use Rattle.meaning.specs.Syntax.{ItemTree};
+ghost use Rattle.meaning.specs.Trees.{item_tree};
+ghost use Rattle.further_rules.specs.Phases.{pairs_of_texts, refused_by};
+ghost use Rattle.further_rules.specs.Texts.{members_read, read_by};
+
+use lexer::bare;
+use meaning::refusal::{Broken, Refusal};
+use meaning::statement::Statement;
+use meaning::syntax::Item;
+use parser::form;
+use std::alloc::{AllocError, Global};
+
+/// What statements say.
+pub struct Texts {
+    /// Those that can be read, in their places.
+    pub members: Vec<Item>,
+    /// The rules that the others break.
+    pub broken: Vec<Broken>,
+}
+
+// What one statement says, in its place.
+fn member_in(alloc: Global, statement: &Statement) -> Result<Item, Refusal>
+    ensures { Gives item_tree result (member_of (entry_of statement.now)) }
+{
+    let text = bare(alloc, statement)?;
+    let form = form(alloc, &text)?;
+    Ok(Item {
+        line: statement.line,
+        label: statement.label,
+        form,
+    })
+}
+
+/// Adds what one statement says.
+fn add_said(
+    members: &mut Vec<Item>,
+    broken: &mut Vec<Broken>,
+    said: Result<Item, Refusal>,
+) -> Result<(), AllocError>
+    ensures members { (r : Result ItemTree Pair) → Gives item_tree said r → OnOk result (map item_tree members.new.items ≡ map item_tree members.old.items ++ option_to_list (read_by r)) }
+    ensures broken { (r : Result ItemTree Pair) → Gives item_tree said r → OnOk result (broken.new.items ≡ broken.old.items ++ option_to_list (refused_by r)) }
+{
+    match said {
+        Ok(member) => match members.push(member) {
+            Ok(()) => Ok(()),
+            Err(unpushed) => {
+                drop(unpushed);
+                Err(AllocError)
+            }
+        },
+        Err(Refusal::Rule { rule, line }) => match broken.push(Broken { line, rule }) {
+            Ok(()) => Ok(()),
+            Err(_) => Err(AllocError),
+        },
+        Err(Refusal::Memory) => Err(AllocError),
+    }
+}
+
+/// What statements say.
+pub fn texts_in(alloc: Global, found: &[Statement]) -> Result<Texts, AllocError>
+    ensures members { IfOk result (λ t. map item_tree t.members.items ≡ members_read (map entry_of found.now)) }
+    ensures broken { IfOk result (λ t. t.broken.items ≡ pairs_of_texts (map entry_of found.now)) }
+{
+    let mut members = Vec::new(alloc);
+    let mut broken = Vec::new(alloc);
+    for statement in found {
+        let said = member_in(alloc, statement);
+        match add_said(&mut members, &mut broken, said) {
+            Ok(()) => {}
+            Err(AllocError) => {
+                drop(members);
+                drop(broken);
+                return Err(AllocError);
+            }
+        }
+    }
+    Ok(Texts { members, broken })
+}
