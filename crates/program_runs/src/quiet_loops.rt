@@ -14,7 +14,7 @@ ghost use Rattle.evaluator.specs.Statements.{Spends};
 ghost use Rattle.evaluator.specs.Unset.{LeavesItsVariable};
 
 use array_store::Whole;
-use meaning::ending::Outcome;
+use meaning::ending::{Fault, Outcome};
 use meaning::syntax::Loop;
 use programs::Program;
 use whole_runs::loop_whole;
@@ -48,6 +48,10 @@ pub trait QuietLoops {
             turns.old turns.new result }
         ensures spends { Spends result turns.old turns.new }
         ensures len { length cells.new ≡ length cells.old };
+
+    /// Takes note of a fault that ended the program. It is called once, behind the fault, with the cells as that left them, and changes
+    /// nothing: the run ends as it would without it.
+    fn faulted(&self, program: &Program, fault: Fault, cells: &Whole) {}
 }
 
 /// One trip after another.

@@ -91,6 +91,13 @@ impl Program {
         self.parts.unit.tree()
     }
 
+    /// What its names stand for, and their cells.
+    pub fn unit(&self) -> &numbering::Program
+        ensures { result.now ≡ self.now }
+    {
+        &self.parts.unit
+    }
+
     /// The values that the cells start with.
     pub fn starts(&self) -> &[i32]
         ensures many { length result.now ≡ count_in self.now }

@@ -1,0 +1,3 @@
+pub mod Subscripts
+pub mod Details
+pub mod Texts
