@@ -13,3 +13,4 @@ pub mod CrossingProgram
 pub mod CrossingWork
 pub mod Sharing
 pub mod Stopping
+pub mod Telling

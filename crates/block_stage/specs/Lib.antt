@@ -4,3 +4,4 @@ pub mod Cuts
 pub mod Taken
 pub mod Stages
 pub mod Causes
+pub mod Told

@@ -12,6 +12,7 @@ mod place;
 mod posted;
 mod stage;
 mod taken;
+mod told;
 mod trace;
 
 pub use block::{BlockRun, Lost, run_block, run_block_in};
@@ -25,3 +26,4 @@ pub use private_view::Changes;
 pub use schedules::{Event, Ticket};
 pub use stage::{run_stage, run_stage_in, run_stage_without};
 pub use taken::Taken;
+pub use told::{StageTold, told_of};

@@ -84,6 +84,16 @@ impl<'a> Posted<'a> {
         }
     }
 
+    // The parts of its job, and what is true of what was posted.
+    pub(crate) fn parts(&self) -> Parts<'a>
+        ensures trips { result.trips ≡ self.now.job.trips }
+        ensures block { result.block ≡ self.now.job.block }
+        ensures turns { result.turns ≡ self.now.job.turns }
+        ensures posted { ArePosted self.now }
+    {
+        self.job.parts()
+    }
+
     // The runs, at the places of their blocks.
     pub(crate) fn places(&self) -> &[Option<Trace<'a>>]
         ensures { result.now ≡ self.now.places }
@@ -214,14 +224,23 @@ fn run_before(places: &[Option<Trace<'_>>], cut: usize) -> Run
     ensures turns { result.turns_used ≡ turns_to places.now cut }
     ensures outcome { result.outcome ≡ outcome_to places.now cut }
 {
-    let mut turns_used: u64 = 0;
-    for at in 0..cut {
-        turns_used += turns_in(&places[at]);
-    }
     Run {
         outcome: outcome_in(&places[cut - 1]),
-        turns_used,
+        turns_used: turns_before(places, cut),
     }
+}
+
+// The turns of the first so many blocks.
+pub(crate) fn turns_before(places: &[Option<Trace<'_>>], cut: usize) -> u64
+    requires within { cut ≤ length places.now }
+    requires fits { turns_to places.now cut < 2 ^ 64 }
+    ensures { result ≡ turns_to places.now cut }
+{
+    let mut turns: u64 = 0;
+    for at in 0..cut {
+        turns += turns_in(&places[at]);
+    }
+    turns
 }
 
 // Puts what a run wrote behind others, where there is a run; there is room.

@@ -6,5 +6,5 @@ mod staged;
 
 pub use program_runs::{InOrder, QuietLoops};
 pub use record_sinks::{Out, Refused, Sink, put_all};
-pub use stage_loop::{Gate, Open};
-pub use staged::Staged;
+pub use stage_loop::{Cause, Dependence, Gate, Open, StageTold, Unwatched, Watcher};
+pub use staged::{Staged, Watched};

@@ -5,7 +5,7 @@ ghost use Rattle.meaning.specs.Answers.{answer};
 ghost use Rattle.meaning.specs.Promise.{Keeps};
 ghost use Rattle.executor.specs.Calls.{IsAsked, IsGiven};
 
-use crate::staged::Staged;
+use crate::staged::{Staged, Watched};
 use array_store::Whole;
 pub use in_order::{run_by, run_in_order};
 use meaning::ending::{Ending, Outcome, Report};
@@ -13,7 +13,7 @@ use meaning::plan::Plan;
 use meaning::syntax::Loop;
 use programs::Program;
 use record_sinks::Sink;
-use stage_loop::{Gate, Kept, run_loop_with};
+use stage_loop::{Gate, Kept, Unwatched, Watcher, run_loop_watched};
 use std::alloc::Global;
 use std::cell::Cell;
 use std::sync::Wait;
@@ -35,8 +35,27 @@ pub fn run<R: Threads + Wait + Sync, S: Sink, G: Gate + Sync>(
         (S.told sink.old) (S.told sink.new) result }
     ensures refused { (result.ending ≡ Ending.WriteRefused) ↔ ((S.told sink.new).refused ≡ true) }
 {
+    run_watched(rt, alloc, source, plan, sink, gate, &Unwatched)
+}
+
+/// The same with a watcher, which is told of each DO statement that is run by stages, and of its stages; with one worker there are none. It is
+/// told of a fault that ends the program, too. What it does is never seen in the answer.
+pub fn run_watched<R: Threads + Wait + Sync, S: Sink, G: Gate + Sync, W: Watcher>(
+    rt: &R,
+    alloc: Global,
+    source: &[u8],
+    plan: &Plan,
+    sink: &mut S,
+    gate: &G,
+    watcher: &W,
+) -> Report
+    requires { (S.told sink.old).refused ≡ false }
+    ensures promise { Keeps (answer source.now plan.now.turns)
+        (S.told sink.old) (S.told sink.new) result }
+    ensures refused { (result.ending ≡ Ending.WriteRefused) ↔ ((S.told sink.new).refused ≡ true) }
+{
     if plan.workers() < 2 {
-        return run_in_order(alloc, source, plan, sink);
+        return run_by(alloc, &Watched { watcher }, source, plan.turns(), sink);
     }
     // What one DO statement leaves for those behind it.
     let kept = Cell::new(Kept::new(alloc));
@@ -46,13 +65,14 @@ pub fn run<R: Threads + Wait + Sync, S: Sink, G: Gate + Sync>(
             ensures { IsGiven program.now repeated.now cells.old cells.new turns.old turns.new result }
         {
             let mut own = kept.replace(Kept::new(alloc));
-            let run = run_loop_with(
-                rt, alloc, program, repeated, cells, *turns, plan, &mut own, gate,
+            let run = run_loop_watched(
+                rt, alloc, program, repeated, cells, *turns, plan, &mut own, gate, watcher,
             );
             kept.set(own);
             *turns -= run.turns_used;
             run.outcome
         },
+        watcher,
     };
     run_by(alloc, &staged, source, plan.turns(), sink)
 }

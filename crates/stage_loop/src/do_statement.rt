@@ -17,6 +17,7 @@ ghost use Rattle.evaluator.specs.Unset.{LeavesItsVariable};
 use crate::course::Course;
 use crate::kept::Kept;
 use crate::stages::run_stages;
+use crate::watcher::{Unwatched, Watcher};
 use array_store::Whole;
 use block_stage::Gate;
 use evaluator::{count_of, repeat_in, take_turn};
@@ -30,7 +31,7 @@ use std::thread::Threads;
 use whole_runs::{limits_whole, set_whole};
 
 // Executes a DO statement with its range.
-fn run_do<R: Threads + Wait + Sync, G: Gate + Sync>(
+fn run_do<R: Threads + Wait + Sync, G: Gate + Sync, W: Watcher>(
     rt: &R,
     alloc: Global,
     program: &Program,
@@ -41,6 +42,7 @@ fn run_do<R: Threads + Wait + Sync, G: Gate + Sync>(
     cells: &mut Whole,
     turns: &mut u64,
     gate: &G,
+    watcher: &W,
 ) -> Outcome
     requires named { AreStatements program.now (flat (range_in repeated.now)) }
     requires kept { IsKept program.now (range_in repeated.now) }
@@ -72,6 +74,7 @@ fn run_do<R: Threads + Wait + Sync, G: Gate + Sync>(
             };
             run_stages(
                 rt, alloc, program, repeated, repeat, course, plan, kept, cells, turns, gate,
+                watcher,
             )
         }
         Err(kind) => Outcome::Fault(Fault { kind, line }),
@@ -79,7 +82,7 @@ fn run_do<R: Threads + Wait + Sync, G: Gate + Sync>(
 }
 
 // Executes a DO statement with its range; what is no DO statement is passed over.
-fn run_any<R: Threads + Wait + Sync, G: Gate + Sync>(
+fn run_any<R: Threads + Wait + Sync, G: Gate + Sync, W: Watcher>(
     rt: &R,
     alloc: Global,
     program: &Program,
@@ -89,6 +92,7 @@ fn run_any<R: Threads + Wait + Sync, G: Gate + Sync>(
     cells: &mut Whole,
     turns: &mut u64,
     gate: &G,
+    watcher: &W,
 ) -> Outcome
     requires named { AreStatements program.now (flat (range_in repeated.now)) }
     requires kept { IsKept program.now (range_in repeated.now) }
@@ -104,7 +108,7 @@ fn run_any<R: Threads + Wait + Sync, G: Gate + Sync>(
 {
     match repeat_in(program, &repeated.head) {
         Some(repeat) => run_do(
-            rt, alloc, program, repeated, repeat, plan, kept, cells, turns, gate,
+            rt, alloc, program, repeated, repeat, plan, kept, cells, turns, gate, watcher,
         ),
         None => Outcome::Normal,
     }
@@ -137,8 +141,8 @@ pub fn run_loop<R: Threads + Wait + Sync, G: Gate + Sync>(
     ensures len { length cells.new ≡ length cells.old }
 {
     let mut kept = Kept::new(alloc);
-    run_loop_with(
-        rt, alloc, program, repeated, cells, turns, plan, &mut kept, gate,
+    run_loop_watched(
+        rt, alloc, program, repeated, cells, turns, plan, &mut kept, gate, &Unwatched,
     )
 }
 
@@ -168,9 +172,40 @@ pub fn run_loop_with<R: Threads + Wait + Sync, G: Gate + Sync>(
     ensures within { result.turns_used ≤ turns }
     ensures len { length cells.new ≡ length cells.old }
 {
+    run_loop_watched(
+        rt, alloc, program, repeated, cells, turns, plan, kept, gate, &Unwatched,
+    )
+}
+
+/// The same with a watcher, which is told of the DO statement and its stages. What it does is never seen in the answer.
+pub fn run_loop_watched<R: Threads + Wait + Sync, G: Gate + Sync, W: Watcher>(
+    rt: &R,
+    alloc: Global,
+    program: &Program,
+    repeated: &Loop,
+    cells: &mut Whole,
+    turns: u64,
+    plan: &Plan,
+    kept: &mut Kept,
+    gate: &G,
+    watcher: &W,
+) -> Run
+    requires named { AreStatements program.now (flat (range_in repeated.now)) }
+    requires kept { IsKept program.now (range_in repeated.now) }
+    requires quiet { WritesNothing (range_in repeated.now) }
+    requires leaves { LeavesItsVariable repeated.now }
+    requires head { IsStatement program.now (item_tree (out-Loop repeated.now).head) }
+    requires sized { length cells.old ≡ count_in program.now }
+    ensures moves { MovesIn program.now cells.old cells.new
+        (loop_as (items_in program.now) (shape_in repeated.now) repeated.now)
+        turns (turns - result.turns_used) result.outcome }
+    ensures spends { Spends result.outcome turns (turns - result.turns_used) }
+    ensures within { result.turns_used ≤ turns }
+    ensures len { length cells.new ≡ length cells.old }
+{
     let mut left = turns;
     let outcome = run_any(
-        rt, alloc, program, repeated, plan, kept, cells, &mut left, gate,
+        rt, alloc, program, repeated, plan, kept, cells, &mut left, gate, watcher,
     );
     let turns_used = turns - left;
     Run {

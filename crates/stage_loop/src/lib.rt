@@ -7,7 +7,9 @@ mod do_statement;
 mod kept;
 mod size;
 mod stages;
+mod watcher;
 
-pub use block_stage::{Gate, Open};
-pub use do_statement::{run_loop, run_loop_with};
+pub use block_stage::{Cause, Dependence, Gate, Open, StageTold};
+pub use do_statement::{run_loop, run_loop_watched, run_loop_with};
 pub use kept::Kept;
+pub use watcher::{Unwatched, Watcher};

@@ -12,6 +12,7 @@ ghost use Rattle.stage_loop.specs.Loops.{AreIntegers, IsQuietLoop, LeavesIn};
 use crate::course::{Course, behind};
 use crate::kept::Kept;
 use crate::size::{blocks_of, trips_in, workers_of};
+use crate::watcher::{Watch, Watcher};
 use array_store::Whole;
 use block_stage::{Gate, Job, Taken, cut, run_stage_in};
 use evaluator::run_trips;
@@ -48,13 +49,14 @@ struct Advance {
 }
 
 // Runs the blocks of a job, and takes those before the cut. None where memory was refused or the first block was lost.
-fn take_blocks<'a, R: Threads + Wait + Sync, G: Gate + Sync>(
+fn take_blocks<'a, R: Threads + Wait + Sync, G: Gate + Sync, W: Watcher>(
     rt: &R,
     alloc: Global,
     job: &Job<'a>,
     workers: u32,
     kept: &mut Kept,
     gate: &'a G,
+    watch: &Watch<'_, W>,
 ) -> Option<Front>
     requires { 0 < workers }
     ensures { IfSome result (λ f. IsFront job.now f.cut f.taken) }
@@ -66,6 +68,7 @@ fn take_blocks<'a, R: Threads + Wait + Sync, G: Gate + Sync>(
     };
     let turns = posted.turns();
     let blocks = cut(&posted);
+    watch.tell(&posted, blocks);
     if blocks == 0 {
         kept.keep_spares(posted.into_spares());
         return None;
@@ -79,7 +82,7 @@ fn take_blocks<'a, R: Threads + Wait + Sync, G: Gate + Sync>(
 
 // Runs some first trips as a stage, which stands on the cells themselves, and commits the blocks before its cut. None where memory was
 // refused or the first block was lost, and nothing is done then.
-fn run_blocks<R: Threads + Wait + Sync, G: Gate + Sync>(
+fn run_blocks<R: Threads + Wait + Sync, G: Gate + Sync, W: Watcher>(
     rt: &R,
     alloc: Global,
     program: &Program,
@@ -92,6 +95,7 @@ fn run_blocks<R: Threads + Wait + Sync, G: Gate + Sync>(
     cells: &mut Whole,
     turns: &mut u64,
     gate: &G,
+    watch: &Watch<'_, W>,
 ) -> Option<Stage>
     requires quiet { IsQuietLoop program.now repeated.now }
     requires repeats { Repeats program.now repeat.now (shape_in repeated.now) }
@@ -122,7 +126,7 @@ fn run_blocks<R: Threads + Wait + Sync, G: Gate + Sync>(
         blocks,
         *turns,
     );
-    let front = match take_blocks(rt, alloc, &job, workers, kept, gate) {
+    let front = match take_blocks(rt, alloc, &job, workers, kept, gate, watch) {
         Some(front) => front,
         None => return None,
     };
@@ -189,7 +193,7 @@ fn run_in_order(
 }
 
 // Runs some first trips as a stage, or those of the next block in order.
-fn run_next<R: Threads + Wait + Sync, G: Gate + Sync>(
+fn run_next<R: Threads + Wait + Sync, G: Gate + Sync, W: Watcher>(
     rt: &R,
     alloc: Global,
     program: &Program,
@@ -202,6 +206,7 @@ fn run_next<R: Threads + Wait + Sync, G: Gate + Sync>(
     cells: &mut Whole,
     turns: &mut u64,
     gate: &G,
+    watch: &Watch<'_, W>,
 ) -> Advance
     requires quiet { IsQuietLoop program.now repeated.now }
     requires repeats { Repeats program.now repeat.now (shape_in repeated.now) }
@@ -217,7 +222,7 @@ fn run_next<R: Threads + Wait + Sync, G: Gate + Sync>(
     ensures len { length cells.new ≡ length cells.old }
 {
     match run_blocks(
-        rt, alloc, program, repeated, repeat, course, plan, last, kept, cells, turns, gate,
+        rt, alloc, program, repeated, repeat, course, plan, last, kept, cells, turns, gate, watch,
     ) {
         Some(stage) => Advance {
             done: stage.done,
@@ -238,7 +243,7 @@ fn keep_first(kept: &mut Kept, line: u32, is_first: bool, turns: Option<u64>) {
 }
 
 /// Executes the range once for each trip, by stages; the variable has its value in the first of them.
-pub(crate) fn run_stages<R: Threads + Wait + Sync, G: Gate + Sync>(
+pub(crate) fn run_stages<R: Threads + Wait + Sync, G: Gate + Sync, W: Watcher>(
     rt: &R,
     alloc: Global,
     program: &Program,
@@ -250,6 +255,7 @@ pub(crate) fn run_stages<R: Threads + Wait + Sync, G: Gate + Sync>(
     cells: &mut Whole,
     turns: &mut u64,
     gate: &G,
+    watcher: &W,
 ) -> Outcome
     requires quiet { IsQuietLoop program.now repeated.now }
     requires repeats { Repeats program.now repeat.now (shape_in repeated.now) }
@@ -266,13 +272,20 @@ pub(crate) fn run_stages<R: Threads + Wait + Sync, G: Gate + Sync>(
     let line = repeated.head.line;
     let mut last = kept.turns_at(line);
     let mut rest = course;
+    watcher.reached(line, course.trips);
     while rest.trips > 0 {
+        let watch = Watch {
+            watcher,
+            line,
+            done: course.trips - rest.trips,
+        };
         let Advance {
             done,
             outcome,
             turns: all,
         } = run_next(
             rt, alloc, program, repeated, repeat, rest, plan, last, kept, cells, turns, gate,
+            &watch,
         );
         keep_first(kept, line, rest.trips == course.trips, all);
         match outcome {

@@ -11,7 +11,7 @@ use Rattle.stage_loop.proofs.stages.run_stages.Goals as goal
 
 pub loop-rest-init : goal.loop-rest-init
 loop-rest-init g c =
-    record { so_far = reaches_none _ c.args.turns.now; step = refl; has = λ some. c.requires.has; fits = c.requires.fits; len = refl }
+    record { so_far = reaches_none _ c.args.turns.now; step = refl; has = λ some. c.requires.has; few = omega arith; fits = c.requires.fits; len = refl }
 
 pub run_next-done-requires-clause-moves : goal.run_next-done-requires-clause-moves
 run_next-done-requires-clause-moves g c = λ κs h none. c.requires.moves (sym c.loop-rest.invariant.step ∙ none)
@@ -179,6 +179,7 @@ loop-rest-preserved g c =
       so_far = subst (λ n. Reaches whole (on all l step next.value n new left) c.args.turns.now left) (sym trips) (trips_go all l step whole c.args.turns.now t rest.value done rest.trips le m new left inv.so_far next.value told);
       step = c.behind-rest.ensures.step ∙ inv.step;
       has = λ h. next_value all l step c.requires.quiet.unset rest.value done m new t left (inv.has c.loop-rest-test.true) told ∙ sym (value h);
+      few = (let f = inv.few in omega (arith, trips, f));
       fits = λ k lt. integers_further rest.value next.value step done rest.trips inv.fits (value (omega arith)) k (omega arith);
       len = y.ensures.len ∙ inv.len;
     }

@@ -1,4 +1,4 @@
-use Rattle.std.proofs.Common.{◌≡◌, ◌<◌, [], length}
+use Rattle.std.proofs.Common.{◌≡◌, ◌<◌, ◌≤◌, [], length}
 use Rattle.numbering.specs.Checked.{items_in}
 use Rattle.numbering.specs.Starts.{map_of}
 use Rattle.evaluator.specs.Statements.{Reaches}
@@ -15,6 +15,7 @@ invariant-loop-rest g l = record {
       l.initial.turns l.turns;
   step : l.rest.step ≡ l.fn.course.step;
   has : 0 < l.rest.trips → map_of l.program l.cells (variable_in l.repeated) [] ≡ l.rest.value;
+  few : l.rest.trips ≤ l.fn.course.trips;
   fits : AreIntegers l.rest.value l.fn.course.step l.rest.trips;
   len : length l.cells ≡ length l.initial.cells;
 }

@@ -3,7 +3,7 @@ use Rattle.numbering.specs.Checked.{items_in}
 use Rattle.evaluator.specs.Over.{MovesIn, loop_as}
 use Rattle.block_stage.specs.Jobs.{shape_in}
 use Rattle.stage_loop.proofs.Advances.{left_by_used}
-use Rattle.stage_loop.proofs.do_statement.run_loop_with.Goals as goal
+use Rattle.stage_loop.proofs.do_statement.run_loop_watched.Goals as goal
 
 pub returns-clause-moves : goal.returns-clause-moves
 returns-clause-moves g c =

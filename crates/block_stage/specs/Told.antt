@@ -1,0 +1,16 @@
+-- What is told of a stage (own).
+use Rattle.std.specs.Prelude.{◌≡◌, ℕ, length, is_some, count_by}
+use Rattle.block_stage.specs.declared.told.StageTold.{StageTold}
+use Rattle.block_stage.specs.Causes.{IsCause}
+use Rattle.block_stage.specs.Cuts.{turns_to}
+use Rattle.block_stage.specs.Stages.{PostedParts}
+
+-- what is told of what was posted, where it is cut there
+pub record IsStageTold (p : PostedParts) (c : ℕ) (s : StageTold) : Type 0 where
+  pub trips : s.trips ≡ p.job.trips
+  pub size : s.size ≡ p.job.block
+  pub blocks : s.blocks ≡ length p.places
+  pub run : s.run ≡ count_by is_some p.places
+  pub cut : s.cut ≡ c
+  pub turns : s.turns ≡ turns_to p.places c
+  pub cause : IsCause p.job.turns p.places c s.cause

@@ -1,4 +1,0 @@
-use Rattle.executor.proofs.run.run.Goals as goal
-
-pub returns-clause-promise : goal.returns-clause-promise
-returns-clause-promise g c = rw c.turns.ensures.is at c.run_by.ensures.promise
