@@ -30,7 +30,7 @@ use Rattle.clap.specs.declared.parser.matches.ValueSource.TheVariants.{CommandLi
 use Rattle.clap.specs.declared.builder.value_parser.Reading.{Reading}
 use Rattle.clap.specs.declared.builder.value_parser.Reading.TheVariants.{AsWritten}
 use Rattle.command_line.specs.Command.{f77run, fault_for, file_rule, flag_rule, name_rule, number_rule}
-use Rattle.command_line.specs.CommandLine.{Flag, Given, Line, Name, Part, Text, Word, alone, asked_by, asked_for, asks, behind, block, checks, closed, counts, default_of, ends, errs, explains, file, first, fits_under, flag, give, gives, greatest, holding, is_in, is_number, is_on, letter_word, long_or_short, long_word, meet, moved, name_of, nothing_read, number_in, number_of, part, put, put_flag, put_if, read, rule, sets, short_word, take, turns, values, window, with_text, word_of, workers}
+use Rattle.command_line.specs.CommandLine.{Flag, Given, Line, Name, Part, Text, Word, alone, asked_by, asked_for, asks, behind, block, checks, closed, counts, default_of, ends, errs, explains, file, first, fits_under, flag, give, gives, greatest, holding, is_in, is_number, is_on, letter_word, long_or_short, long_word, meet, moved, name_of, nothing_read, number_in, number_of, part, put, put_flag, put_if, read, rule, sets, short_word, stages, take, turns, values, window, with_text, word_of, workers}
 use Rattle.command_line.specs.Matches.{AreGiven, HoldTexts, IsGiven, IsNumber, as_found, as_seen, fits, seen}
 use Rattle.command_line.specs.declared.asked.OptionsFault.{OptionsFault}
 use Rattle.command_line.specs.declared.asked.OptionsFault.TheVariants as fault
@@ -426,27 +426,28 @@ named_told : (name : Text) (value : Option Text) (word : Text) (given : Given) (
 named_told name value word given held rows waiting h all =
     pick (bytes_eq (codes "workers") name) (bytes_eq (codes "block") name) (bytes_eq (codes "window") name) (bytes_eq (codes "turns") name)
     (bytes_eq (codes "rule") name) (bytes_eq (codes "check") name) (bytes_eq (codes "count") name) (bytes_eq (codes "explain") name)
-    (bytes_eq (codes "help") name) (bytes_eq (codes "version") name)
+    (bytes_eq (codes "stages") name) (bytes_eq (codes "help") name) (bytes_eq (codes "version") name)
   where
-    pick : (a b c d r i j k f g : Bool) → Named
+    pick : (a b c d r i j k l f g : Bool) → Named
         (cond a (gives workers value) (cond b (gives block value) (cond c (gives window value) (cond d (gives turns value) (cond r (gives rule value)
-        (cond i (alone (sets checks) value) (cond j (alone (sets counts) value) (cond k (alone (sets explains) value)
-        (cond f (alone (asks fault.Help) value) (cond g (alone (asks fault.Version) value) (errs fault.NoSuchOption)))))))))))
+        (cond i (alone (sets checks) value) (cond j (alone (sets counts) value) (cond k (alone (sets explains) value) (cond l (alone (sets stages) value)
+        (cond f (alone (asks fault.Help) value) (cond g (alone (asks fault.Version) value) (errs fault.NoSuchOption))))))))))))
         (cond (a || false) (Some (rule_at workers)) (cond (b || false) (Some (rule_at block)) (cond (c || false) (Some (rule_at window)) (cond (d || false) (Some (rule_at turns))
-        (cond (r || false) (Some (rule_at rule)) (cond (i || false) (Some (flag_at checks)) (cond (j || false) (Some (flag_at counts)) (cond (k || false) (Some (flag_at explains))
-        (cond (f || false) (Some help_at) (cond (g || false) (Some version_at) None))))))))))
+        (cond (r || false) (Some (rule_at rule)) (cond (i || false) (Some (flag_at checks)) (cond (j || false) (Some (flag_at counts)) (cond (k || false) (Some (flag_at explains)) (cond (l || false) (Some (flag_at stages))
+        (cond (f || false) (Some help_at) (cond (g || false) (Some version_at) None)))))))))))
         value word given held rows waiting
-    pick true b c d r i j k f g = part_told workers value word given held rows waiting h all
-    pick false true c d r i j k f g = part_told block value word given held rows waiting h all
-    pick false false true d r i j k f g = part_told window value word given held rows waiting h all
-    pick false false false true r i j k f g = part_told turns value word given held rows waiting h all
-    pick false false false false true i j k f g = part_told rule value word given held rows waiting h all
-    pick false false false false false true j k f g = flag_told checks value word given held rows waiting h all
-    pick false false false false false false true k f g = flag_told counts value word given held rows waiting h all
-    pick false false false false false false false true f g = flag_told explains value word given held rows waiting h all
-    pick false false false false false false false false true g = help_told value word given held rows waiting h all
-    pick false false false false false false false false false true = version_told value word given held rows waiting h all
-    pick false false false false false false false false false false = (kind.UnknownArgument, refl, refl)
+    pick true b c d r i j k l f g = part_told workers value word given held rows waiting h all
+    pick false true c d r i j k l f g = part_told block value word given held rows waiting h all
+    pick false false true d r i j k l f g = part_told window value word given held rows waiting h all
+    pick false false false true r i j k l f g = part_told turns value word given held rows waiting h all
+    pick false false false false true i j k l f g = part_told rule value word given held rows waiting h all
+    pick false false false false false true j k l f g = flag_told checks value word given held rows waiting h all
+    pick false false false false false false true k l f g = flag_told counts value word given held rows waiting h all
+    pick false false false false false false false true l f g = flag_told explains value word given held rows waiting h all
+    pick false false false false false false false false true f g = flag_told stages value word given held rows waiting h all
+    pick false false false false false false false false false true g = help_told value word given held rows waiting h all
+    pick false false false false false false false false false false true = version_told value word given held rows waiting h all
+    pick false false false false false false false false false false false = (kind.UnknownArgument, refl, refl)
 
 -- ---- a file, or a value
 
@@ -740,16 +741,17 @@ default_told f flags given rows h name = by (seen id rows) refl (bytes_eq id oth
         ∙ ap (λ o. added o (codes "false")) lacks ∙ sym (not_there (is_among other flags) (values name given) (sym (h name) ∙ lacks)))
 
 abbrev flags_at : List Rule
-flags_at = flag_at checks ∷ flag_at counts ∷ flag_at explains ∷ []
+flags_at = flag_at checks ∷ flag_at counts ∷ flag_at explains ∷ flag_at stages ∷ []
 
 abbrev all_flags : List Text
-all_flags = name_of (flag explains) ∷ name_of (flag counts) ∷ name_of (flag checks) ∷ []
+all_flags = name_of (flag stages) ∷ name_of (flag explains) ∷ name_of (flag counts) ∷ name_of (flag checks) ∷ []
 
 with_flags : (given : Given) (rows : List Row) → Rows given rows → Defaulted all_flags given (fold with_default rows flags_at)
 with_flags given rows h =
-    default_told explains (name_of (flag counts) ∷ name_of (flag checks) ∷ []) given _
+    default_told stages (name_of (flag explains) ∷ name_of (flag counts) ∷ name_of (flag checks) ∷ []) given _
+    (default_told explains (name_of (flag counts) ∷ name_of (flag checks) ∷ []) given _
     (default_told counts (name_of (flag checks) ∷ []) given _
-    (default_told checks [] given rows (λ name. h name ∙ without_default (values name given))))
+    (default_told checks [] given rows (λ name. h name ∙ without_default (values name given)))))
 
 found_of_flag : (f : Flag) (vs : List Text) → as_far true vs ≡ as_found (flag f) vs
 found_of_flag f [] = refl
@@ -767,6 +769,7 @@ some_flag : (f : Flag) → is_among (name_of (flag f)) all_flags ≡ true
 some_flag checks = refl
 some_flag counts = refl
 some_flag explains = refl
+some_flag stages = refl
 
 all_found : (given : Given) (rows : List Row) → Defaulted all_flags given rows → HoldTexts given rows
 all_found given rows h (part p) = h (part p) ∙ ap (λ b. as_far b (values (part p) given)) (no_flag p) ∙ sym (without_default (values (part p) given))
@@ -857,6 +860,7 @@ same_flag : (a b : Flag) → bytes_eq (name_of (flag a)) (name_of (flag b)) ≡ 
 same_flag checks checks e = refl
 same_flag counts counts e = refl
 same_flag explains explains e = refl
+same_flag stages stages e = refl
 same_flag a b e = absurd (true≢false (sym e))
 
 apart : (p : Part) (f : Flag) → name_of (part p) ≡ name_of (flag f) → ⊥

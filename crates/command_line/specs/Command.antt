@@ -46,7 +46,7 @@ with_options app =
 
 abbrev pub f77run : App
 f77run =
-    with_rule (with_rule (with_rule (with_rule (with_options versioned) (flag_rule (codes "check"))) (flag_rule (codes "count"))) (flag_rule (codes "explain"))) file_rule
+    with_rule (with_rule (with_rule (with_rule (with_rule (with_options versioned) (flag_rule (codes "check"))) (flag_rule (codes "count"))) (flag_rule (codes "explain"))) (flag_rule (codes "stages"))) file_rule
 
 abbrev pub fault_for : ErrorKind → OptionsFault
 fault_for kind.DisplayHelp = fault.Help

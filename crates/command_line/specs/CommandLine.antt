@@ -31,6 +31,7 @@ pub data Flag : Type 0 where
   checks : Flag
   counts : Flag
   explains : Flag
+  stages : Flag
 
 pub data Name : Type 0 where
   part : Part → Name
@@ -46,6 +47,7 @@ name_of (part file) = codes "FILE"
 name_of (flag checks) = codes "check"
 name_of (flag counts) = codes "count"
 name_of (flag explains) = codes "explain"
+name_of (flag stages) = codes "stages"
 
 -- the greatest number that an option takes; the least is 1
 abbrev pub greatest : Part → Option ℕ
@@ -101,9 +103,10 @@ long_word name value =
     else (if bytes_eq (codes "check") name then alone (sets checks) value
     else (if bytes_eq (codes "count") name then alone (sets counts) value
     else (if bytes_eq (codes "explain") name then alone (sets explains) value
+    else (if bytes_eq (codes "stages") name then alone (sets stages) value
     else (if bytes_eq (codes "help") name then alone (asks fault.Help) value
     else (if bytes_eq (codes "version") name then alone (asks fault.Version) value
-    else errs fault.NoSuchOption)))))))))
+    else errs fault.NoSuchOption))))))))))
 
 -- by the character behind the minus sign: h (104) or V (86)
 abbrev pub letter_word : Option ℕ → Word
@@ -237,6 +240,7 @@ pub record Asked : Type 0 where
   pub check : Bool
   pub count : Bool
   pub explain : Bool
+  pub stages : Bool
 
 abbrev pub with_plan : Given → Option PlanNumbers → Result Asked OptionsFault
 with_plan given (Some plan) = Ok (record {
@@ -246,6 +250,7 @@ with_plan given (Some plan) = Ok (record {
   check = is_on checks given;
   count = is_on counts given;
   explain = is_on explains given;
+  stages = is_on stages given;
 })
 with_plan given None = Err fault.BadNumber
 

@@ -65,6 +65,7 @@ shown o = record {
   check = o.check;
   count = o.count;
   explain = o.explain;
+  stages = o.stages;
 }
 
 abbrev pub AsksFor : Result Asked OptionsFault → Result Options OptionsFault → Type 0

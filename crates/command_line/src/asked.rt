@@ -19,7 +19,7 @@ pub enum OptionsFault {
     #[error("an option stands without its value; f77run --help lists the options")]
     NoValue,
     /// A value stands behind an option that takes none, as in `--count=value`.
-    #[error("--check, --count, --explain, --help and --version take no value")]
+    #[error("--check, --count, --explain, --stages, --help and --version take no value")]
     NeedlessValue,
     /// An option is given a second time.
     #[error("an option is given twice")]
@@ -53,4 +53,6 @@ pub struct Options<'a> {
     pub count: bool,
     /// Whether `--explain` stands among the words.
     pub explain: bool,
+    /// Whether `--stages` stands among the words.
+    pub stages: bool,
 }

@@ -20,6 +20,7 @@ Options:
   --check        checks the source against the rules, and runs nothing
   --count        tells behind the ending how many turns the program used
   --explain      shows the statement that is refused or at fault, and says what the rule or the fault is
+  --stages       tells of each loop that was run by stages how many blocks were committed, and what cut the others off
   --rule NAME    shows the rule or the fault of this name, as K3 or F2, with a short program that breaks it and one
                  that doesn't, and runs nothing
   -h, --help     shows this text

@@ -18,8 +18,8 @@ use std::alloc::{AllocError, Global};
 /// Reads a command line, the first word of which is the program's name: options and a file in any order, each option once at
 /// most. `--workers` (1 to 64; 4 where it isn't given), `--block` (1 to 1,000,000; 64), `--window` (1 to 256; 8) and
 /// `--turns` (1 to 1,000,000,000,000; 1,000,000,000) take a number as `--turns 5` or `--turns=5`, in digits with a plus
-/// sign in front or not. `--rule` takes any text. `--check`, `--count` and `--explain` take none, and are false where they
-/// aren't given. Behind `--` each word is a file, and a minus sign alone is one too.
+/// sign in front or not. `--rule` takes any text. `--check`, `--count`, `--explain` and `--stages` take none, and are false where
+/// they aren't given. Behind `--` each word is a file, and a minus sign alone is one too.
 ///
 /// # Errors
 ///
@@ -50,6 +50,7 @@ fn command<'a>(alloc: Global) -> Result<Command<'a>, AllocError>
         .arg(flag(alloc, "check"))?
         .arg(flag(alloc, "count"))?
         .arg(flag(alloc, "explain"))?
+        .arg(flag(alloc, "stages"))?
         .arg(files(alloc))
 }
 
@@ -124,6 +125,7 @@ fn asked<'a>(matches: &ArgMatches<'a>) -> Result<Options<'a>, OptionsFault>
             check: flag_given(matches, "check"),
             count: flag_given(matches, "count"),
             explain: flag_given(matches, "explain"),
+            stages: flag_given(matches, "stages"),
         }),
         None => Err(OptionsFault::BadNumber),
     }

@@ -10,7 +10,7 @@ use std::alloc::{AllocError, Global};
 use strsim::levenshtein;
 
 // So many options there are.
-const OPTIONS: usize = 12;
+const OPTIONS: usize = 13;
 
 /// Where the word stands for which `options` answers `NoSuchOption`, if it does: it has another answer for the words before
 /// that one, and this one for them and it. The words are halved, so that many of them are read a few times.
@@ -71,7 +71,7 @@ pub fn nearest_option(alloc: Global, text: &str) -> Result<&'static str, AllocEr
 
 // The option at a place of their list, as it is written in words.
 fn option_at(place: usize) -> &'static str
-    requires { place < 12 }
+    requires { place < 13 }
     ensures { result.now ≡ name_at place }
 {
     match place {
@@ -82,10 +82,11 @@ fn option_at(place: usize) -> &'static str
         4 => "--check",
         5 => "--count",
         6 => "--explain",
-        7 => "--rule",
-        8 => "--help",
-        9 => "-h",
-        10 => "--version",
+        7 => "--stages",
+        8 => "--rule",
+        9 => "--help",
+        10 => "-h",
+        11 => "--version",
         _ => "-V",
     }
 }

@@ -1,2 +1,3 @@
+mod Also
 pub mod Front
 pub mod Told

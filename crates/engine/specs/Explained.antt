@@ -1,17 +1,13 @@
 -- What --explain tells behind the line of an ending.
-use Rattle.std.specs.Prelude.{◌≡◌, ℕ, Bool, true, false, List, [], ◌++◌, map, Option, Some, None, codes, if◌then◌else◌}
+use Rattle.std.specs.Prelude.{◌≡◌, ◌⊎◌, ℕ, Bool, true, false, List, [], ◌++◌, map, Option, Some, None, codes, if◌then◌else◌}
 use Rattle.std.specs.List.{flat_map}
 use Rattle.meaning.specs.declared.ending.Ending.{Ending}
 use Rattle.meaning.specs.declared.ending.Ending.TheVariants as endings
-use Rattle.meaning.specs.declared.ending.Report.{Report}
-use Rattle.meaning.specs.Promise.{Told}
 use Rattle.meaning.specs.Statements.{is_printable}
 use Rattle.source_columns.specs.Excerpts.{excerpt}
 use Rattle.rule_texts.specs.declared.FaultText.{FaultText}
 use Rattle.rule_texts.specs.declared.RuleText.{RuleText}
-use Rattle.command_line.specs.declared.asked.Options.{Options}
 use Rattle.engine.specs.declared.explaining.Matter.{Matter}
-use Rattle.engine.specs.Lines.{IsTold, lines_of}
 
 -- a byte, or a question mark (63) in place of what isn't printable
 abbrev pub shown : ℕ → ℕ
@@ -39,13 +35,12 @@ IsMatter (endings.Refused rule line) None = ⊥
 IsMatter ending None = Unit {0}
 IsMatter ending (Some matter) = ⊥
 
--- where it is asked for and there is any
-abbrev pub explanation : Bool → List ℕ → Option Matter → List ℕ
-explanation true source (Some matter) = explained source matter
-explanation true source None = []
-explanation false source matter = []
+-- what a fault was about, in a line; nothing where that can't be said, and where a growth was refused, that
+abbrev pub IsDetail : List ℕ → Type 0
+IsDetail lines = (lines ≡ []) ⊎ ((text : List ℕ) × (lines ≡ told_line text))
 
--- what is told of a run, or of a check
-abbrev pub AreTold : Report → Options → List ℕ → Told → Told → Type 0
-AreTold report asked source old new =
-    (matter : Option Matter) × IsMatter report.ending matter × IsTold (lines_of asked.count report ++ explanation asked.explain source matter) old new
+-- where it is asked for and there is any
+abbrev pub explanation : Bool → List ℕ → Option Matter → List ℕ → List ℕ
+explanation true source (Some matter) detail = explained source matter ++ detail
+explanation true source None detail = []
+explanation false source matter detail = []

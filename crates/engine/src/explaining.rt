@@ -68,8 +68,8 @@ fn put_continued<S: Sink>(source: &[u8], err: &mut S)
     }
 }
 
-// Writes a line behind two blanks.
-fn put_line<S: Sink>(line: &[u8], err: &mut S)
+/// Writes a line behind two blanks.
+pub fn put_line<S: Sink>(line: &[u8], err: &mut S)
     ensures { IsTold (told_line line.now) (S.told err.old) (S.told err.new) }
 {
     put("  ", err);

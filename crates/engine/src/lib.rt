@@ -5,6 +5,8 @@
 
 mod explaining;
 mod lines;
+mod notes;
 mod running;
+mod telling;
 
 pub use running::engine;

@@ -89,9 +89,9 @@ fn put_stop<S: Sink>(message: &[u8], err: &mut S)
     put("\n", err);
 }
 
-// Writes a word, a name and the number of a line.
+/// Writes a word, a name and the number of a line.
 #[tactic(auto, using(crate::proofs::Told::told_at))]
-fn put_at<S: Sink>(word: &str, name: &str, line: u32, err: &mut S)
+pub fn put_at<S: Sink>(word: &str, name: &str, line: u32, err: &mut S)
     ensures { IsTold (line_at word.now name.now line) (S.told err.old) (S.told err.new) }
 {
     put(word, err);

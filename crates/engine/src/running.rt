@@ -2,19 +2,21 @@
 
 ghost use Rattle.std.specs.Prelude.{◌≡◌, ◌⊎◌, IfOk, IfSome};
 ghost use Rattle.engine.specs.declared.running.NoRun.TheVariants.{Memory};
-ghost use Rattle.engine.specs.Explained.{AreTold};
 ghost use Rattle.engine.specs.Lines.{IsTold, line_of_none};
 ghost use Rattle.engine.specs.Source.{SpellsAs};
+ghost use Rattle.engine.specs.Told.{AreTold};
 ghost use Rattle.engine.specs.Status.{IsCheck, IsNamedBy, IsStatusOf, status_of, no_run_for};
 ghost use Rattle.meaning.specs.Answers.{program_of};
 
-use crate::explaining::{matter_of, put_matter, put_shown};
+use crate::explaining::{matter_of, put_shown};
 use crate::lines::{Texts, put, tell_ending, tell_turns};
+use crate::notes::{Noted, Notes};
+use crate::telling::{is_further, is_staged, tell_further, tell_matter, tell_stages};
 use command_line::asked::{Options, OptionsFault};
 use command_line::help::{HELP, VERSION};
 use command_line::options::options;
 use command_line::unknown::{nearest_option, unknown_place};
-use executor::run::run;
+use executor::run::run_watched;
 use executor::{Open, Out, Sink};
 use in_order::program_in;
 use meaning::ending::{Ending, Report};
@@ -166,7 +168,9 @@ fn by_source<R: AllocGlobal + Threads + Wait + Sync, O: Write + Drop, S: Sink>(
     out: O,
     err: &mut S,
 ) -> u8 {
-    tell(report_of(rt, asked, source, out), asked, source, err)
+    let notes = Notes::new(rt.alloc(), asked);
+    let report = report_of(rt, asked, source, &notes, out);
+    tell(rt.alloc(), report, asked, source, notes.into_noted(), err)
 }
 
 // What comes of a source: of its check, where that is asked for, and else of its run.
@@ -174,6 +178,7 @@ fn report_of<R: AllocGlobal + Threads + Wait + Sync, O: Write + Drop>(
     rt: &R,
     asked: &Options<'_>,
     source: &[u8],
+    notes: &Notes,
     out: O,
 ) -> Report {
     if asked.check {
@@ -182,7 +187,7 @@ fn report_of<R: AllocGlobal + Threads + Wait + Sync, O: Write + Drop>(
             turns: None,
         }
     } else {
-        run_whole(rt, &asked.plan, source, out)
+        run_whole(rt, &asked.plan, source, notes, out)
     }
 }
 
@@ -271,10 +276,11 @@ fn run_whole<R: AllocGlobal + Threads + Wait + Sync, O: Write + Drop>(
     rt: &R,
     plan: &Plan,
     source: &[u8],
+    notes: &Notes,
     out: O,
 ) -> Report {
     let mut sink = Out::new(out);
-    let report = run(rt, rt.alloc(), source, plan, &mut sink, &Open);
+    let report = run_watched(rt, rt.alloc(), source, plan, &mut sink, &Open, notes);
     match sink.into_inner().flush() {
         Ok(()) => report,
         Err(_) => Report {
@@ -284,22 +290,29 @@ fn run_whole<R: AllocGlobal + Threads + Wait + Sync, O: Write + Drop>(
     }
 }
 
-// Writes what is told of a run: the line of its ending, its turns where they are asked for and there are any, and what there is
-// to explain where that is asked for. Answers the exit status. A line that can't be written changes nothing.
-#[tactic(auto, using(crate::proofs::Told::told_then))]
-fn tell<S: Sink>(report: Report, asked: &Options<'_>, source: &[u8], err: &mut S) -> u8
+// Writes what is told of a run, or of a check: the line of its ending, its turns, and what else is asked for. Answers the exit
+// status. A line that can't be written changes nothing.
+fn tell<S: Sink>(
+    alloc: Global,
+    report: Report,
+    asked: &Options<'_>,
+    source: &[u8],
+    noted: Noted,
+    err: &mut S,
+) -> u8
     ensures status { result ≡ status_of report.ending }
     ensures lines { AreTold report asked.now source.now (S.told err.old) (S.told err.new) }
 {
     let Report { ending, turns } = report;
+    let Noted { rows, detail } = noted;
     let matter = matter_of(&ending);
+    let is_staged = is_staged(asked, &ending);
+    let is_further = is_further(asked, &ending);
     let status = tell_ending(ending, err);
     tell_turns(asked.count, turns, err);
-    if asked.explain {
-        if let Some(matter) = matter {
-            put_matter(source, matter, err);
-        }
-    }
+    tell_stages(is_staged, alloc, source, rows, turns, err);
+    tell_matter(asked.explain, source, matter, detail, err);
+    tell_further(is_further, alloc, source, err);
     status
 }
 

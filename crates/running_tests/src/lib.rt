@@ -3,6 +3,8 @@
 #![tactic(auto)]
 
 #[cfg(test)]
+mod also;
+#[cfg(test)]
 mod command;
 #[cfg(test)]
 mod kept;

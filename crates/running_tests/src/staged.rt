@@ -12,4 +12,5 @@ mod seen;
 mod spares;
 mod states;
 mod watch;
+mod watched;
 mod watching;

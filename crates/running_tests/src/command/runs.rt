@@ -80,10 +80,10 @@ impl Write for Narrow {
 
 /// What a run of the program left: its exit status, and what stands on standard output and standard error.
 #[derive(Drop)]
-struct Run {
-    status: u8,
-    out: Vec<u8>,
-    err: Vec<u8>,
+pub struct Run {
+    pub status: u8,
+    pub out: Vec<u8>,
+    pub err: Vec<u8>,
 }
 
 impl Run {
@@ -93,8 +93,8 @@ impl Run {
     }
 }
 
-// Runs the program of some words over a reader.
-fn run_of<R: Files + AllocGlobal + Threads + Wait + Sync, I: Read>(
+/// Runs the program of some words over a reader.
+pub fn run_of<R: Files + AllocGlobal + Threads + Wait + Sync, I: Read>(
     rt: &R,
     words: &[&[u8]],
     input: &mut I,
@@ -333,7 +333,7 @@ const FAULTY: &[(&[&[u8]], &str)] = &[
     ),
     (
         &[b"f77run", b"--help=yes"],
-        "--check, --count, --explain, --help and --version take no value\n",
+        "--check, --count, --explain, --stages, --help and --version take no value\n",
     ),
     (
         &[b"f77run", b"--turns", b"5", b"--turns=5"],
@@ -404,6 +404,14 @@ const FLAGGED: &[(&[&[u8]], &str, u8, &str, &str)] = &[
         "REFUSED K3 LINE 1\n",
         "",
     ),
+    // further pairs of the phase
+    (
+        &[b"f77run", b"--check"],
+        "      X=1\n      I=1.EQ.1\n      J=N(I)\n      END\n",
+        2,
+        "REFUSED K3 LINE 1\n  ALSO K5 LINE 2\n  ALSO K13 LINE 3\n",
+        "",
+    ),
     // nothing is explained of END and STOP
     (&[b"f77run", b"--explain"], ANSWER, 0, "", "    42\n"),
     (
@@ -418,14 +426,14 @@ const FLAGGED: &[(&[&[u8]], &str, u8, &str, &str)] = &[
         &[b"f77run", b"--explain"],
         DIVIDED,
         1,
-        "FAULT F1 LINE 3\n        J=I/\n       1  (I-1)\n       2  +1\n  The divisor of a quotient, or the second argument of MOD, is zero.\n",
+        "FAULT F1 LINE 3\n        J=I/\n       1  (I-1)\n       2  +1\n  The divisor of a quotient, or the second argument of MOD, is zero.\n  1/0\n",
         "    1\n",
     ),
     (
         &[b"f77run", b"--count", b"--explain"],
         DIVIDED,
         1,
-        "FAULT F1 LINE 3\nTURNS 3\n        J=I/\n       1  (I-1)\n       2  +1\n  The divisor of a quotient, or the second argument of MOD, is zero.\n",
+        "FAULT F1 LINE 3\nTURNS 3\n        J=I/\n       1  (I-1)\n       2  +1\n  The divisor of a quotient, or the second argument of MOD, is zero.\n  1/0\n",
         "    1\n",
     ),
     (
@@ -448,7 +456,7 @@ const FLAGGED: &[(&[&[u8]], &str, u8, &str, &str)] = &[
         &[b"f77run", b"--explain"],
         "      J=0\n      I=1/J                                                             DIVIDE\n      END\n",
         1,
-        "FAULT F1 LINE 2\n        I=1/J                                                             DIVIDE\n  The divisor of a quotient, or the second argument of MOD, is zero.\n",
+        "FAULT F1 LINE 2\n        I=1/J                                                             DIVIDE\n  The divisor of a quotient, or the second argument of MOD, is zero.\n  1/0\n",
         "",
     ),
     // END is missing at the last statement's line
@@ -460,6 +468,53 @@ const FLAGGED: &[(&[&[u8]], &str, u8, &str, &str)] = &[
         "",
     ),
 ];
+
+// What stages are told of some programs by four workers, with blocks of two trips, four at a time: the lines on standard error, and the
+// records. The counts are worked by hand.
+const STAGED: &[(&str, &str, &str)] = &[
+    // the third block reads what the first one wrote
+    (
+        "      INTEGER A(12)\n      DO 10 I=5,12\n   10 A(I)=A(I-4)+1\n      END\n",
+        "  LOOP LINE 2 REACHED 1 TRIPS 8 STAGES 2 RUN 6 COMMITTED 4 DROPPED 2 LOST 0 CUT DEPENDENCE 1 EXIT 0 TURNS 0 LOSS 0\n    A(5) WRITTEN IN TRIPS 1 TO 2, READ IN TRIPS 5 TO 6\n  TURNS IN COMMITTED BLOCKS 8 OF 9\n",
+        "",
+    ),
+    // the second block leaves the loop
+    (
+        "      DO 10 I=1,8\n      IF (I.EQ.3) GO TO 20\n   10 CONTINUE\n   20 END\n",
+        "  LOOP LINE 1 REACHED 1 TRIPS 8 STAGES 1 RUN 4 COMMITTED 2 DROPPED 2 LOST 0 CUT DEPENDENCE 0 EXIT 1 TURNS 0 LOSS 0\n  TURNS IN COMMITTED BLOCKS 6 OF 7\n",
+        "",
+    ),
+    // a dependence in the second execution alone, and a loop with output, which isn't run by stages
+    (
+        "      INTEGER A(16)\n      DO 20 K=1,2\n      DO 10 I=9,16\n   10 A(I)=A(I-4*(3-K))+1\n   20 WRITE (6,30) K\n   30 FORMAT (I2)\n      END\n",
+        "  LOOP LINE 3 REACHED 2 TRIPS 16 STAGES 3 RUN 10 COMMITTED 8 DROPPED 2 LOST 0 CUT DEPENDENCE 1 EXIT 0 TURNS 0 LOSS 0\n    A(9) WRITTEN IN TRIPS 1 TO 2, READ IN TRIPS 5 TO 6 OF EXECUTION 2\n  TURNS IN COMMITTED BLOCKS 16 OF 21\n",
+        " 1\n 2\n",
+    ),
+    // no DO statement
+    (ANSWER, "  TURNS IN COMMITTED BLOCKS 0 OF 1\n", "    42\n"),
+];
+
+const STAGES: &[&[u8]] = &[
+    b"f77run",
+    b"--workers=4",
+    b"--block=2",
+    b"--window=4",
+    b"--stages",
+];
+
+#[test]
+fn stages(rt: HostRuntime) {
+    for &(source, lines, records) in STAGED {
+        let run = run_of(&rt, STAGES, &mut source.as_bytes());
+        assert!(rt;
+            run.left(0, lines.as_bytes(), records.as_bytes()),
+            "{lines}"
+        );
+    }
+    // nothing is told behind a write that is refused
+    let run = left_narrow(&rt, STAGES, &mut ANSWER.as_bytes(), 3);
+    assert!(rt; run.left(5, b"WRITE REFUSED\n", b""));
+}
 
 const DIVIDED: &str =
     "      I=1\n      PRINT '(I5)', I\n      J=I/\n     1  (I-1)\nC     TWO\n     2  +1\n      END\n";

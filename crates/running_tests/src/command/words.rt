@@ -119,32 +119,38 @@ const COUNTED: &[(&[&str], u64, Option<&str>)] = &[
     ),
 ];
 
-// Words with flags among them, whether --check, --count and --explain are asked for, and the file.
-const FLAGGED: &[(&[&str], (bool, bool, bool), Option<&str>)] = &[
-    (&["f77run"], (false, false, false), None),
-    (&["f77run", "--check"], (true, false, false), None),
-    (&["f77run", "--count"], (false, true, false), None),
-    (&["f77run", "--explain"], (false, false, true), None),
+// Words with flags among them, whether --check, --count, --explain and --stages are asked for, and the file.
+const FLAGGED: &[(&[&str], (bool, bool, bool, bool), Option<&str>)] = &[
+    (&["f77run"], (false, false, false, false), None),
+    (&["f77run", "--check"], (true, false, false, false), None),
+    (&["f77run", "--count"], (false, true, false, false), None),
+    (&["f77run", "--explain"], (false, false, true, false), None),
     (
         &["f77run", "--explain", "a.f", "--check"],
-        (true, false, true),
+        (true, false, true, false),
         Some("a.f"),
     ),
     (
         &["f77run", "--check", "--turns", "5", "--explain", "--count"],
-        (true, true, true),
+        (true, true, true, false),
         None,
     ),
     // what stands behind them or behind -- is a file
     (
         &["f77run", "--check", "true"],
-        (true, false, false),
+        (true, false, false, false),
         Some("true"),
     ),
     (
         &["f77run", "--", "--explain"],
-        (false, false, false),
+        (false, false, false, false),
         Some("--explain"),
+    ),
+    (&["f77run", "--stages"], (false, false, false, true), None),
+    (
+        &["f77run", "--stages", "-", "--check"],
+        (true, false, false, true),
+        Some("-"),
     ),
 ];
 
@@ -231,6 +237,7 @@ const REFUSED: &[(&[&str], OptionsFault)] = &[
     ),
     (&["f77run", "--check=true"], OptionsFault::NeedlessValue),
     (&["f77run", "--explain="], OptionsFault::NeedlessValue),
+    (&["f77run", "--stages=2"], OptionsFault::NeedlessValue),
     (&["f77run", "--rule", "--explain"], OptionsFault::NoValue),
     (&["f77run", "--rule"], OptionsFault::NoValue),
     (&["f77run", "--rule", "--count"], OptionsFault::NoValue),
@@ -315,7 +322,7 @@ fn flagged(rt: HostRuntime) {
     for &(words, flags, file) in FLAGGED {
         match options(rt.alloc(), words) {
             Ok(asked) => {
-                assert!(rt; (asked.check, asked.count, asked.explain) == flags);
+                assert!(rt; (asked.check, asked.count, asked.explain, asked.stages) == flags);
                 assert!(rt; asked.file == file);
             }
             Err(fault) => assert!(rt; false, "{fault}"),
@@ -360,6 +367,7 @@ const NEAREST: &[(&str, &str)] = &[
     ("--counts", "--count"),
     ("--chek", "--check"),
     ("--explian", "--explain"),
+    ("--stage", "--stages"),
     // of two that take one edit the first of OPTIONS
     ("-c", "-h"),
     ("--", "-h"),
@@ -455,6 +463,7 @@ fn help_has_each_option_and_status(rt: HostRuntime) {
         "  --check        ",
         "  --count        ",
         "  --explain      ",
+        "  --stages       ",
         "  --rule NAME    ",
         "  -h, --help     ",
         "  -V, --version  ",

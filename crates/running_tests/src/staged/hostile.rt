@@ -6,7 +6,7 @@ ghost use Rattle.executor.specs.Calls.{IsAsked, IsGiven};
 use crate::stages::Counting;
 use array_store::Whole;
 use executor::run::run_by;
-use executor::{Out, Staged};
+use executor::{Out, Staged, Unwatched};
 use meaning::ending::{Ending, Fault, FaultKind, Outcome};
 use meaning::plan::Plan;
 use meaning::syntax::Loop;
@@ -67,6 +67,7 @@ fn run<R: Abort + Threads + Wait + Sync>(rt: &R, alloc: Global, source: &[u8], p
             *turns -= run.turns_used;
             run.outcome
         },
+        watcher: &Unwatched,
     };
     let mut sink = Out::new(Vec::new(alloc));
     let report = run_by(alloc, &staged, source, plan.turns(), &mut sink);

@@ -12,7 +12,7 @@ use array_store::Whole;
 use block_stage::Job;
 use evaluator::{count_of, repeat_in};
 use executor::run::run_by;
-use executor::{Out, Staged};
+use executor::{Out, Staged, Unwatched};
 use meaning::ending::{Ending, Outcome};
 use meaning::syntax::Loop;
 use programs::{Program, Repeat};
@@ -180,6 +180,7 @@ fn run<R: Abort + Threads + Wait + Sync>(
             requires { IsAsked program.now repeated.now cells.now }
             ensures { IsGiven program.now repeated.now cells.old cells.new turns.old turns.new result }
         { look_and_run(watching, program, repeated, cells, turns) },
+        watcher: &Unwatched,
     };
     let mut sink = Out::new(Vec::new(watching.alloc));
     let report = run_by(watching.alloc, &staged, source, turns, &mut sink);

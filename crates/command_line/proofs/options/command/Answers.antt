@@ -17,4 +17,5 @@ returns c =
     let with_sixth = c.in_ok-arg-6.ensures.shape (search rules) ∙ ap₂ with_rule with_fifth c.flag.ensures.rule in
     let with_seventh = c.in_ok-arg-7.ensures.shape (search rules) ∙ ap₂ with_rule with_sixth c.flag-2.ensures.rule in
     let with_eighth = c.in_ok-arg-8.ensures.shape (search rules) ∙ ap₂ with_rule with_seventh c.flag-3.ensures.rule in
-    IfOk-weaker c.arg-9.result _ _ (λ r h. h.shape (search rules) ∙ ap₂ with_rule with_eighth c.files.ensures.rule) c.arg-9.ensures
+    let with_ninth = c.in_ok-arg-9.ensures.shape (search rules) ∙ ap₂ with_rule with_eighth c.flag-4.ensures.rule in
+    IfOk-weaker c.arg-10.result _ _ (λ r h. h.shape (search rules) ∙ ap₂ with_rule with_ninth c.files.ensures.rule) c.arg-10.ensures
