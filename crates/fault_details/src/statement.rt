@@ -1,4 +1,4 @@
-//! Statements, evaluated up to the first fault (ANSI X3.9-1978, chapters 10 and 11, and 12.8).
+//! Statements, evaluated up to the first fault (ANSI X3.9-1978, chapters 10 and 11).
 
 ghost use Rattle.std.specs.Prelude.{◌≡◌, IfErr};
 ghost use Rattle.numbering.specs.Checked.{names_in};
@@ -6,12 +6,13 @@ ghost use Rattle.fault_details.specs.Details.{IsStop};
 
 use crate::detail::{Detail, Stop};
 use crate::evaluation::{Scene, element_in, named_value, value_in, with_operands};
+use crate::output::write;
 use expressions::{Numbering, as_integer, as_logical};
 use meaning::ending::{FaultKind, Value};
-use meaning::syntax::{Expr, Exprs, Limits, ListItem, ListItems, Operator, Shape};
+use meaning::syntax::{Expr, Exprs, Limits, Operator, Shape};
 
-// An expression of a statement.
-fn evaluate<'a>(expression: &'a Expr, scene: &Scene<'a>) -> Result<(), Stop<'a>>
+/// An expression of a statement.
+pub(crate) fn evaluate<'a>(expression: &'a Expr, scene: &Scene<'a>) -> Result<(), Stop<'a>>
     ensures { IfErr result (IsStop (names_in scene.now.program.now)) }
 {
     match value_in(expression, scene) {
@@ -63,62 +64,6 @@ fn repeat<'a>(variable: &[u8], limits: &'a Limits, scene: &Scene<'a>) -> Result<
     Ok(())
 }
 
-// Whether an output list has no implied DO, the variables of which would have other values than at the fault.
-fn is_plain(list: &ListItems) -> bool {
-    match list {
-        ListItems::Empty => true,
-        ListItems::More(item, rest) => match item {
-            ListItem::Value(_) => is_plain(rest),
-            ListItem::Loop {
-                items: _,
-                variable: _,
-                limits: _,
-            } => false,
-        },
-    }
-}
-
-// An item of an output list. A name, which may be an array's, is no fault.
-fn write_item<'a>(item: &'a ListItem, scene: &Scene<'a>) -> Result<(), Stop<'a>>
-    ensures { IfErr result (IsStop (names_in scene.now.program.now)) }
-{
-    match item {
-        ListItem::Value(value) => match value {
-            Expr::Name(_) => Ok(()),
-            _ => evaluate(value, scene),
-        },
-        ListItem::Loop {
-            items: _,
-            variable: _,
-            limits: _,
-        } => Err(Stop::Unknown),
-    }
-}
-
-// The items of an output list, first to last.
-fn write_items<'a>(list: &'a ListItems, scene: &Scene<'a>) -> Result<(), Stop<'a>>
-    ensures { IfErr result (IsStop (names_in scene.now.program.now)) }
-{
-    match list {
-        ListItems::Empty => Ok(()),
-        ListItems::More(item, rest) => {
-            write_item(item, scene)?;
-            write_items(rest, scene)
-        }
-    }
-}
-
-// An output list.
-fn write<'a>(list: &'a ListItems, scene: &Scene<'a>) -> Result<(), Stop<'a>>
-    ensures { IfErr result (IsStop (names_in scene.now.program.now)) }
-{
-    if is_plain(list) {
-        write_items(list, scene)
-    } else {
-        Err(Stop::Unknown)
-    }
-}
-
 // A statement that is no logical IF.
 fn execute_simple<'a>(shape: &'a Shape, scene: &Scene<'a>) -> Result<(), Stop<'a>>
     ensures { IfErr result (IsStop (names_in scene.now.program.now)) }
@@ -129,8 +74,8 @@ fn execute_simple<'a>(shape: &'a Shape, scene: &Scene<'a>) -> Result<(), Stop<'a
             subscripts,
             value,
         } => assign(name, subscripts, value, scene),
-        Shape::Write { control: _, list } => write(list, scene),
-        Shape::Print { format: _, list } => write(list, scene),
+        Shape::Write { control, list } => write(&control.format, list, scene),
+        Shape::Print { format, list } => write(format, list, scene),
         Shape::Do {
             label: _,
             comma: _,
