@@ -37,22 +37,19 @@ fn assign<'a>(
 }
 
 // The step of a DO statement, which is 1 where none is written.
-fn step_in<'a>(limits: &'a Limits, scene: &Scene<'a>) -> Result<i32, Stop<'a>>
+fn step_in<'a>(step: &'a Option<Expr>, scene: &Scene<'a>) -> Result<i32, Stop<'a>>
     ensures { IfErr result (IsStop (names_in scene.now.program.now)) }
 {
-    match &limits.step {
+    match step {
         None => Ok(1),
         Some(step) => Ok(as_integer(value_in(step, scene)?)),
     }
 }
 
-// The limits of a DO statement, and then the sum of its variable and the step.
-fn repeat<'a>(variable: &[u8], limits: &'a Limits, scene: &Scene<'a>) -> Result<(), Stop<'a>>
+// The sum of the variable of a DO statement and the step, which isn't zero.
+fn advance<'a>(variable: &[u8], step: i32, scene: &Scene<'a>) -> Result<(), Stop<'a>>
     ensures { IfErr result (IsStop (names_in scene.now.program.now)) }
 {
-    evaluate(&limits.first, scene)?;
-    evaluate(&limits.last, scene)?;
-    let step = step_in(limits, scene)?;
     if step == 0 {
         return Err(Stop::Fault {
             kind: FaultKind::F5,
@@ -60,8 +57,21 @@ fn repeat<'a>(variable: &[u8], limits: &'a Limits, scene: &Scene<'a>) -> Result<
         });
     }
     let x = as_integer(named_value(variable, scene)?);
-    let _sum = with_operands(Operator::Add, x, step, scene)?;
-    Ok(())
+    match with_operands(Operator::Add, x, step, scene) {
+        Ok(_) => Ok(()),
+        Err(stop) => Err(stop),
+    }
+}
+
+// The limits of a DO statement, and then the sum of its variable and the step.
+fn repeat<'a>(variable: &[u8], limits: &'a Limits, scene: &Scene<'a>) -> Result<(), Stop<'a>>
+    ensures { IfErr result (IsStop (names_in scene.now.program.now)) }
+{
+    let Limits { first, last, step } = limits;
+    evaluate(first, scene)?;
+    evaluate(last, scene)?;
+    let step = step_in(step, scene)?;
+    advance(variable, step, scene)
 }
 
 // A statement that is no logical IF.
