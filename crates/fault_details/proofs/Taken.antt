@@ -1,14 +1,13 @@
 -- The edit descriptors to which values go: how many a part has, and which is whose.
-use Rattle.std.proofs.Common.{◌≡◌, ℕ, zero, suc, ◌+◌, ◌-◌, ◌*◌, ◌%◌, ◌^◌, ◌<◌, ◌≤◌, ◌⊎◌, inl, inr, min, Bool, true, false, List, [], ◌∷◌, ◌++◌, length, Option, Some, None, slice_get, refl, sym, ap, subst, ◌∙◌, if◌then◌else◌, arith}
-use Rattle.std.specs.Prelude.{◌||◌}
+use Rattle.std.proofs.Common.{◌≡◌, ℕ, zero, suc, ◌+◌, ◌-◌, ◌*◌, ◌%◌, ◌<◌, ◌≤◌, min, Bool, true, false, List, [], ◌∷◌, ◌++◌, length, Option, Some, None, slice_get, refl, sym, ap, subst, ◌∙◌, if◌then◌else◌, arith}
 use Rattle.std.proofs.Math.Nat.{mul-le-mul_left}
-use Rattle.std.proofs.lemmas.Bool.{cases_Bool, or_parts}
+use Rattle.std.proofs.lemmas.Bool.{or_parts}
 use Rattle.std.proofs.lemmas.List.{length-append}
 use Rattle.std.proofs.lemmas.Option.{slice_get_past}
 use Rattle.meaning.specs.declared.ending.Value.{Value}
 use Rattle.meaning.specs.declared.ending.Value.TheVariants as values
 use Rattle.meaning.specs.Formats.{Descriptor, colon, slash, Part, single, group, Parts, no_parts, parts}
-use Rattle.meaning.specs.Records.{times, unrolled, pass, is_field, has_field, have_field, reverted, course, clashes, sequence}
+use Rattle.meaning.specs.Records.{times, unrolled, pass, is_field, has_field, have_field, reverted, course, clashes}
 use Rattle.fault_details.specs.declared.detail.Field.{Field}
 use Rattle.fault_details.specs.declared.detail.Field.TheVariants.{Integer, Logical}
 use Rattle.fault_details.specs.Fields.{field_of, fields, field_for, differs}

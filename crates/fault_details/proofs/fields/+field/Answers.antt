@@ -1,9 +1,8 @@
-use Rattle.std.proofs.Common.{◌≡◌, ◌+◌, ◌-◌, ◌^◌, ◌%◌, ◌<◌, ◌≤◌, min, drop, length, slice_get, sym, ap, subst, ◌∙◌, option_map, arith}
-use Rattle.meaning.specs.Formats.{group}
+use Rattle.std.proofs.Common.{◌≡◌, ◌+◌, ◌-◌, ◌^◌, ◌%◌, ◌<◌, ◌≤◌, min, drop, length, slice_get, sym, ap, subst, ◌∙◌, arith}
 use Rattle.meaning.specs.Records.{unrolled, pass}
 use Rattle.format_edit.specs.Formatted.{descriptor_of, part_of, parts_of}
-use Rattle.format_edit.proofs.Parts.{group_is, left_more, left_none}
-use Rattle.fault_details.specs.Fields.{field_of, fields}
+use Rattle.format_edit.proofs.Parts.{group_is, left_more}
+use Rattle.fault_details.specs.Fields.{fields}
 use Rattle.fault_details.proofs.Taken.{single_found, group_found, group_count, first_found, later_found}
 use Rattle.fault_details.proofs.fields.+field.Goals as goal
 

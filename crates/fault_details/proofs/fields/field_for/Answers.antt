@@ -1,4 +1,4 @@
-use Rattle.std.proofs.Common.{◌≡◌, ◌-◌, ◌^◌, ◌%◌, ◌<◌, ◌≤◌, min, length, slice_get, sym, ap, ◌∙◌, arith}
+use Rattle.std.proofs.Common.{◌-◌, ◌^◌, ◌<◌, min, length, slice_get, sym, ap, ◌∙◌, arith}
 use Rattle.meaning.specs.Records.{pass, reverted}
 use Rattle.format_edit.specs.Formatted.{parts_of, descriptors}
 use Rattle.fault_details.specs.Fields.{fields}
