@@ -1,1 +1,3 @@
 pub mod Rooms
+pub mod Repeats
+pub mod Taken

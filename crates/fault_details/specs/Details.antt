@@ -1,10 +1,11 @@
 -- What is told of a fault.
-use Rattle.std.specs.Prelude.{◌≡◌, ℕ, ℤ, List, [], Some, None, Err, length, slice_get}
+use Rattle.std.specs.Prelude.{◌≡◌, ℕ, ℤ, List, [], ◌∷◌, Some, None, Err, length, slice_get}
 use Rattle.meaning.specs.declared.ending.FaultKind.{FaultKind}
-use Rattle.meaning.specs.declared.ending.FaultKind.TheVariants.{F3, F5}
+use Rattle.meaning.specs.declared.ending.FaultKind.TheVariants.{F3, F5, F7}
 use Rattle.meaning.specs.declared.ending.Value.TheVariants as values
 use Rattle.meaning.specs.Arrays.{above}
 use Rattle.meaning.specs.Intrinsics.{intrinsic_named}
+use Rattle.meaning.specs.Records.{course, clashes}
 use Rattle.meaning.specs.Values.{integer, operated, with_sign}
 use Rattle.expressions.specs.Dimensions.{dimension}
 use Rattle.expressions.specs.Functions.{intrinsic, value_from}
@@ -15,6 +16,7 @@ use Rattle.fault_details.specs.declared.detail.Detail.TheVariants as details
 use Rattle.fault_details.specs.declared.detail.Stop.{Stop}
 use Rattle.fault_details.specs.declared.detail.Stop.TheVariants as stops
 use Rattle.fault_details.specs.Subscripts.{subscripts_of}
+use Rattle.fault_details.specs.Fields.{field_of}
 
 -- the bounds are those of the array's dimension behind so many, and the subscript isn't within them
 pub record IsOutside (g : Glossary) (array : List ℕ) (before : ℕ) (subscript : ℤ) (bounds : Dimension) : Type 0 where
@@ -30,6 +32,8 @@ IsDetail g k (details.Operands operator left right) = operated operator (values.
 IsDetail g k (details.Signed sign operand) = integer (with_sign sign operand) ≡ Err k
 IsDetail g k (details.Function name function arguments) = (intrinsic_named name.now ≡ Some (intrinsic function)) × (value_from (intrinsic function) arguments [] ≡ Err k)
 IsDetail g k details.Step = k ≡ F5
+IsDetail g k (details.Clash value field) = (k ≡ F7) × (course (field_of field ∷ []) (value ∷ []) ≡ clashes)
+IsDetail g k (details.Unedited value) = k ≡ F7
 
 abbrev pub IsStop : Glossary → Stop → Type 0
 IsStop g (stops.Fault k d) = IsDetail g k d

@@ -1,3 +1,4 @@
 pub mod Subscripts
+pub mod Fields
 pub mod Details
 pub mod Texts

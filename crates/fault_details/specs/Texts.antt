@@ -1,7 +1,10 @@
 -- What is told of a fault, as text.
-use Rattle.std.specs.Prelude.{◌++◌, ℤ, pos, ℕ, Bool, true, false, List, [], int_lt, codes, flat_map, if◌then◌else◌}
-use Rattle.std.specs.Fmt.{signed_decimal}
+use Rattle.std.specs.Prelude.{◌++◌, ℤ, pos, ℕ, Bool, true, false, List, [], int_lt, codes, flat_map, ◌==◌, if◌then◌else◌}
+use Rattle.std.specs.Fmt.{decimal, signed_decimal}
 use Rattle.meaning.specs.Spelling.{operator_text}
+use Rattle.meaning.specs.declared.ending.Value.{Value}
+use Rattle.meaning.specs.declared.ending.Value.TheVariants as values
+use Rattle.meaning.specs.Records.{logical_text}
 use Rattle.meaning.specs.declared.syntax.Sign.{Sign}
 use Rattle.meaning.specs.declared.syntax.Sign.TheVariants as signs
 use Rattle.expressions.specs.declared.dimension.Dimension.{Dimension}
@@ -9,6 +12,8 @@ use Rattle.expressions.specs.declared.intrinsics.Arguments.{Arguments}
 use Rattle.expressions.specs.declared.intrinsics.Arguments.TheVariants as arguments
 use Rattle.fault_details.specs.declared.detail.Detail.{Detail}
 use Rattle.fault_details.specs.declared.detail.Detail.TheVariants as details
+use Rattle.fault_details.specs.declared.detail.Field.{Field}
+use Rattle.fault_details.specs.declared.detail.Field.TheVariants as fields
 use Rattle.fault_details.specs.Subscripts.{subscripts_of}
 
 -- an operand, a negative one in parentheses
@@ -42,6 +47,19 @@ element_text array before subscript further = array ++ codes "(" ++ passed_text 
 abbrev pub bounds_text : Dimension → List ℕ
 bounds_text bounds = codes ", BOUNDS " ++ signed_decimal bounds.lower ++ codes " TO " ++ signed_decimal bounds.upper
 
+-- a value of an output list
+abbrev pub value_text : Value → List ℕ
+value_text (values.Int z) = signed_decimal z
+value_text (values.Bool b) = logical_text b
+
+-- the least number of digits, where it isn't that of Iw (13.5.9.1)
+abbrev pub least_text : ℕ → List ℕ
+least_text least = if least == 1 then [] else codes "." ++ decimal least
+
+abbrev pub field_text : Field → List ℕ
+field_text (fields.Integer width least) = codes "I" ++ decimal width ++ least_text least
+field_text (fields.Logical width) = codes "L" ++ decimal width
+
 abbrev pub detail_text : Detail → List ℕ
 detail_text (details.Outside array before subscript bounds further) =
     element_text array.now (subscripts_of before) subscript further ++ bounds_text bounds
@@ -49,3 +67,5 @@ detail_text (details.Operands operator left right) = operand_text left ++ operat
 detail_text (details.Signed sign operand) = sign_text sign ++ operand_text operand
 detail_text (details.Function name function arguments) = name.now ++ codes "(" ++ arguments_text arguments ++ codes ")"
 detail_text details.Step = codes "STEP 0"
+detail_text (details.Clash value field) = value_text value ++ codes ", EDIT DESCRIPTOR " ++ field_text field
+detail_text (details.Unedited value) = value_text value ++ codes ", NO EDIT DESCRIPTOR"

@@ -3,7 +3,7 @@
 ghost use Rattle.std.specs.Prelude.{◌≤◌};
 
 use expressions::{Arguments, Dimension, Intrinsic};
-use meaning::ending::FaultKind;
+use meaning::ending::{FaultKind, Value};
 use meaning::syntax::{Operator, Sign};
 
 /// The values of an element's first subscripts, in their order. An array has seven dimensions at most (ANSI X3.9-1978, 5.1.1), so
@@ -13,6 +13,15 @@ pub struct Subscripts {
     pub(crate) values: [i32; 7],
     pub(crate) count: usize,
     ghost few: { count ≤ 7 },
+}
+
+/// An edit descriptor that edits a value (ANSI X3.9-1978, 13.5.9.1 and 13.5.10).
+#[derive(Clone, Copy)]
+pub enum Field {
+    /// `Iw.m`: an integer in so many positions, with at least m digits; `Iw` is `Iw.1`.
+    Integer { width: u16, least: u16 },
+    /// `Lw`: a logical value in so many positions.
+    Logical { width: u16 },
 }
 
 /// What a fault was about.
@@ -47,6 +56,15 @@ pub enum Detail<'a> {
     },
     /// The step of a DO statement, which is zero.
     Step,
+    /// A value of an output list, and the edit descriptor of the other type that it meets.
+    Clash {
+        value: Value,
+        field: Field,
+    },
+    /// A value of an output list for which the format has no edit descriptor.
+    Unedited {
+        value: Value,
+    },
 }
 
 /// Why an evaluation stops.

@@ -49,8 +49,8 @@ fn typed(data_type: Option<DataType>, number: i32) -> Value {
     }
 }
 
-// The value of a cell.
-fn cell_value<'a>(
+/// The value of a cell.
+pub(crate) fn cell_value<'a>(
     data_type: Option<DataType>,
     at: usize,
     scene: &Scene<'a>,

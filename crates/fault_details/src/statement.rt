@@ -1,4 +1,4 @@
-//! Statements, evaluated up to the first fault (ANSI X3.9-1978, chapters 10 and 11, and 12.8).
+//! Statements, evaluated up to the first fault (ANSI X3.9-1978, chapters 10 and 11).
 
 ghost use Rattle.std.specs.Prelude.{◌≡◌, IfErr};
 ghost use Rattle.numbering.specs.Checked.{names_in};
@@ -6,12 +6,13 @@ ghost use Rattle.fault_details.specs.Details.{IsStop};
 
 use crate::detail::{Detail, Stop};
 use crate::evaluation::{Scene, element_in, named_value, value_in, with_operands};
+use crate::output::write;
 use expressions::{Numbering, as_integer, as_logical};
 use meaning::ending::{FaultKind, Value};
-use meaning::syntax::{Expr, Exprs, Limits, ListItem, ListItems, Operator, Shape};
+use meaning::syntax::{Expr, Exprs, Limits, Operator, Shape};
 
-// An expression of a statement.
-fn evaluate<'a>(expression: &'a Expr, scene: &Scene<'a>) -> Result<(), Stop<'a>>
+/// An expression of a statement.
+pub(crate) fn evaluate<'a>(expression: &'a Expr, scene: &Scene<'a>) -> Result<(), Stop<'a>>
     ensures { IfErr result (IsStop (names_in scene.now.program.now)) }
 {
     match value_in(expression, scene) {
@@ -36,22 +37,19 @@ fn assign<'a>(
 }
 
 // The step of a DO statement, which is 1 where none is written.
-fn step_in<'a>(limits: &'a Limits, scene: &Scene<'a>) -> Result<i32, Stop<'a>>
+fn step_in<'a>(step: &'a Option<Expr>, scene: &Scene<'a>) -> Result<i32, Stop<'a>>
     ensures { IfErr result (IsStop (names_in scene.now.program.now)) }
 {
-    match &limits.step {
+    match step {
         None => Ok(1),
         Some(step) => Ok(as_integer(value_in(step, scene)?)),
     }
 }
 
-// The limits of a DO statement, and then the sum of its variable and the step.
-fn repeat<'a>(variable: &[u8], limits: &'a Limits, scene: &Scene<'a>) -> Result<(), Stop<'a>>
+// The sum of the variable of a DO statement and the step, which isn't zero.
+fn advance<'a>(variable: &[u8], step: i32, scene: &Scene<'a>) -> Result<(), Stop<'a>>
     ensures { IfErr result (IsStop (names_in scene.now.program.now)) }
 {
-    evaluate(&limits.first, scene)?;
-    evaluate(&limits.last, scene)?;
-    let step = step_in(limits, scene)?;
     if step == 0 {
         return Err(Stop::Fault {
             kind: FaultKind::F5,
@@ -59,64 +57,21 @@ fn repeat<'a>(variable: &[u8], limits: &'a Limits, scene: &Scene<'a>) -> Result<
         });
     }
     let x = as_integer(named_value(variable, scene)?);
-    let _sum = with_operands(Operator::Add, x, step, scene)?;
-    Ok(())
-}
-
-// Whether an output list has no implied DO, the variables of which would have other values than at the fault.
-fn is_plain(list: &ListItems) -> bool {
-    match list {
-        ListItems::Empty => true,
-        ListItems::More(item, rest) => match item {
-            ListItem::Value(_) => is_plain(rest),
-            ListItem::Loop {
-                items: _,
-                variable: _,
-                limits: _,
-            } => false,
-        },
+    match with_operands(Operator::Add, x, step, scene) {
+        Ok(_) => Ok(()),
+        Err(stop) => Err(stop),
     }
 }
 
-// An item of an output list. A name, which may be an array's, is no fault.
-fn write_item<'a>(item: &'a ListItem, scene: &Scene<'a>) -> Result<(), Stop<'a>>
+// The limits of a DO statement, and then the sum of its variable and the step.
+fn repeat<'a>(variable: &[u8], limits: &'a Limits, scene: &Scene<'a>) -> Result<(), Stop<'a>>
     ensures { IfErr result (IsStop (names_in scene.now.program.now)) }
 {
-    match item {
-        ListItem::Value(value) => match value {
-            Expr::Name(_) => Ok(()),
-            _ => evaluate(value, scene),
-        },
-        ListItem::Loop {
-            items: _,
-            variable: _,
-            limits: _,
-        } => Err(Stop::Unknown),
-    }
-}
-
-// The items of an output list, first to last.
-fn write_items<'a>(list: &'a ListItems, scene: &Scene<'a>) -> Result<(), Stop<'a>>
-    ensures { IfErr result (IsStop (names_in scene.now.program.now)) }
-{
-    match list {
-        ListItems::Empty => Ok(()),
-        ListItems::More(item, rest) => {
-            write_item(item, scene)?;
-            write_items(rest, scene)
-        }
-    }
-}
-
-// An output list.
-fn write<'a>(list: &'a ListItems, scene: &Scene<'a>) -> Result<(), Stop<'a>>
-    ensures { IfErr result (IsStop (names_in scene.now.program.now)) }
-{
-    if is_plain(list) {
-        write_items(list, scene)
-    } else {
-        Err(Stop::Unknown)
-    }
+    let Limits { first, last, step } = limits;
+    evaluate(first, scene)?;
+    evaluate(last, scene)?;
+    let step = step_in(step, scene)?;
+    advance(variable, step, scene)
 }
 
 // A statement that is no logical IF.
@@ -129,8 +84,8 @@ fn execute_simple<'a>(shape: &'a Shape, scene: &Scene<'a>) -> Result<(), Stop<'a
             subscripts,
             value,
         } => assign(name, subscripts, value, scene),
-        Shape::Write { control: _, list } => write(list, scene),
-        Shape::Print { format: _, list } => write(list, scene),
+        Shape::Write { control, list } => write(&control.format, list, scene),
+        Shape::Print { format, list } => write(format, list, scene),
         Shape::Do {
             label: _,
             comma: _,

@@ -1,14 +1,17 @@
-//! What a fault was about, as text: `A(2,11,..), BOUNDS 1 TO 10`, `7/0`, `-(-2147483648)`, `MOD(7,0)` or `STEP 0`.
+//! What a fault was about, as text: `A(2,11,..), BOUNDS 1 TO 10`, `7/0`, `-(-2147483648)`, `MOD(7,0)`, `STEP 0`,
+//! `5, EDIT DESCRIPTOR L3` or `5, NO EDIT DESCRIPTOR`.
 
 ghost use Rattle.std.specs.Prelude.{◌≡◌, ◌≤◌, ◌++◌, OnOk, codes, length};
-ghost use Rattle.std.specs.Fmt.{signed_decimal};
+ghost use Rattle.std.specs.Fmt.{decimal, signed_decimal};
+ghost use Rattle.meaning.specs.Records.{logical_text};
 ghost use Rattle.meaning.specs.Spelling.{operator_text};
 ghost use Rattle.fault_details.specs.Subscripts.{subscripts_of};
-ghost use Rattle.fault_details.specs.Texts.{arguments_text, bounds_text, detail_text, element_text, further_text, last_text, operand_text, passed_text, sign_text};
+ghost use Rattle.fault_details.specs.Texts.{arguments_text, bounds_text, detail_text, element_text, field_text, further_text, last_text, least_text, operand_text, passed_text, sign_text, value_text};
 
-use crate::detail::{Detail, Subscripts};
+use crate::detail::{Detail, Field, Subscripts};
 use expressions::{Arguments, Dimension};
 use itoa::Buffer;
+use meaning::ending::Value;
 use meaning::syntax::{Operator, Sign};
 use std::alloc::AllocError;
 
@@ -175,6 +178,78 @@ fn add_bounds(bytes: &mut Vec<u8>, bounds: Dimension) -> Result<(), AllocError>
     add_number(bytes, bounds.upper)
 }
 
+// How a logical value is written.
+fn truth_text(truth: bool) -> &'static str
+    ensures { result.now ≡ logical_text truth }
+{
+    if truth { "T" } else { "F" }
+}
+
+// Puts a value of an output list.
+fn add_value(bytes: &mut Vec<u8>, value: Value) -> Result<(), AllocError>
+    ensures { OnOk result (bytes.new.items ≡ bytes.old.items ++ value_text value) }
+{
+    match value {
+        Value::Int(number) => add_number(bytes, number),
+        Value::Bool(truth) => add(bytes, truth_text(truth)),
+    }
+}
+
+// Puts a width or a number of digits.
+fn add_count(bytes: &mut Vec<u8>, count: u16) -> Result<(), AllocError>
+    ensures { OnOk result (bytes.new.items ≡ bytes.old.items ++ decimal count) }
+{
+    add(bytes, Buffer::new().format(count))
+}
+
+// Puts the least number of digits of an integer, where it isn't 1.
+fn add_least(bytes: &mut Vec<u8>, least: u16) -> Result<(), AllocError>
+    ensures { OnOk result (bytes.new.items ≡ bytes.old.items ++ least_text least) }
+{
+    if least == 1 {
+        Ok(())
+    } else {
+        add(bytes, ".")?;
+        add_count(bytes, least)
+    }
+}
+
+// Puts an edit descriptor.
+fn add_field(bytes: &mut Vec<u8>, field: Field) -> Result<(), AllocError>
+    ensures { OnOk result (bytes.new.items ≡ bytes.old.items ++ field_text field) }
+{
+    match field {
+        Field::Integer { width, least } => {
+            add(bytes, "I")?;
+            add_count(bytes, width)?;
+            add_least(bytes, least)
+        }
+        Field::Logical { width } => {
+            add(bytes, "L")?;
+            add_count(bytes, width)
+        }
+    }
+}
+
+// Puts a value and the edit descriptor that it meets.
+fn add_clash(bytes: &mut Vec<u8>, value: Value, field: Field) -> Result<(), AllocError>
+    ensures { OnOk result (bytes.new.items ≡
+        bytes.old.items ++ value_text value ++ codes ", EDIT DESCRIPTOR " ++ field_text field) }
+{
+    add_value(bytes, value)?;
+    add(bytes, ", EDIT DESCRIPTOR ")?;
+    add_field(bytes, field)
+}
+
+// Puts a value that no edit descriptor edits.
+fn add_unedited(bytes: &mut Vec<u8>, value: Value) -> Result<(), AllocError>
+    ensures { OnOk result (bytes.new.items ≡
+        bytes.old.items ++ value_text value ++ codes ", NO EDIT DESCRIPTOR") }
+{
+    add_value(bytes, value)?;
+    add(bytes, ", NO EDIT DESCRIPTOR")
+}
+
 /// Puts what a fault was about behind a text. Where memory was refused, a beginning of it may stand there.
 pub fn add_text(bytes: &mut Vec<u8>, detail: Detail) -> Result<(), AllocError>
     ensures { OnOk result (bytes.new.items ≡ bytes.old.items ++ detail_text detail.entry) }
@@ -202,5 +277,7 @@ pub fn add_text(bytes: &mut Vec<u8>, detail: Detail) -> Result<(), AllocError>
             arguments,
         } => add_function(bytes, name, arguments),
         Detail::Step => add(bytes, "STEP 0"),
+        Detail::Clash { value, field } => add_clash(bytes, value, field),
+        Detail::Unedited { value } => add_unedited(bytes, value),
     }
 }
