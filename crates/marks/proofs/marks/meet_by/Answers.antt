@@ -4,6 +4,9 @@ use Rattle.marks.proofs.Words.{masks_more, no_more_masks, one_ends, told_none}
 use Rattle.marks.proofs.marks.meet_by.Goals.{else-mask-ne0-via-then-mask-ne0+else-meet_groups, else-mask-ne0-via-else-mask-ne0}
 use Rattle.marks.proofs.marks.meet_by.Goals as goal
 
+pub loop-at-init : goal.loop-at-init
+loop-at-init c = search rules
+
 pub loop-at-preserved : goal.loop-at-preserved
 loop-at-preserved c =
     masks_more c.args.a.now c.args.b.now c.args.mine.now c.args.others.now c.loop-at.at c.loop-at.invariant (elim c.else-mask-ne0.branch [

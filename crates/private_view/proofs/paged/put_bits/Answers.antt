@@ -7,6 +7,9 @@ use Rattle.private_view.specs.Views.{of_page}
 use Rattle.private_view.proofs.Marked.{has_cell, in_more, its_value, put_one}
 use Rattle.private_view.proofs.paged.put_bits.Goals as goal
 
+pub bits-init : goal.bits-init
+bits-init c = search rules
+
 pub write-requires : goal.write-requires
 write-requires c =
     c.bits.invariant.within (64 * c.args.page + c.lowest_bit-bit.result) (has_cell c.args.page c.lowest_bit-bit.result c.lowest_bit-bit.ensures.small c.bits.left c.lowest_bit-bit.ensures.has)

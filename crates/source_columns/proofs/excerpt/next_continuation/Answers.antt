@@ -1,4 +1,4 @@
-use Rattle.std.proofs.Common.{◌≡◌, true, false, arith, ap, sym, ◌∙◌}
+use Rattle.std.proofs.Common.{rules, ◌≡◌, true, false, arith, ap, sym, ◌∙◌}
 use Rattle.meaning.specs.Lines.{card, is_comment, is_initial, lines_of}
 use Rattle.source_columns.specs.Excerpts.{continued}
 use Rattle.source_columns.proofs.Excerpts.{at_continuation, past_comment}
@@ -20,3 +20,6 @@ loop-line-preserved c =
       told = sym (ap continued c.in-Some.ensures.lines ∙ past_comment c.in-Some.line.now (lines_of c.in-Some.behind.now) comment) ∙ c.loop-line.invariant.told;
       shorter = omega (arith, c.in-Some.ensures.shorter, c.loop-line.invariant.shorter);
     }
+
+pub returns-then-is_initial_line-clause-lines : goal.returns-then-is_initial_line-clause-lines
+returns-then-is_initial_line-clause-lines c = search rules

@@ -19,3 +19,9 @@ invariant_of-self g c =
     let left : c.self.inside.next < length c.self.inside.places.items = search rules in
     let idle : slice_get c.self.inside.outs.items c.args.worker ≡ Some None = search rules in
     rw c.note.ensures.items (roomier _ _ _ _ _ c.note.ensures.capacity (claimed_board _ _ _ _ _ c.self.invariant left idle))
+
+pub returns-then-self-len-clause-claims : goal.returns-then-self-len-clause-claims
+returns-then-self-len-clause-claims g c = search rules
+
+pub returns-clause-claims : goal.returns-clause-claims
+returns-clause-claims g c = search rules

@@ -24,3 +24,6 @@ pub invariant_of-self : goal.invariant_of-self
 invariant_of-self g c =
     let out : IsOut c.self.inside.outs.items c.args.ticket = search rules in
     rw c.note.ensures.items (roomier _ _ _ _ _ c.note.ensures.capacity (posted_board _ _ _ _ c.args.ticket c.args.run c.self.invariant out c.requires))
+
+pub returns-clause-put : goal.returns-clause-put
+returns-clause-put g c = search rules
