@@ -3,7 +3,8 @@
 /// What `--version` shows.
 pub const VERSION: &str = "f77run 0.1.0\n";
 
-/// What `--help` shows: what the program does, its options, its exit statuses, and a line for each rule and each fault.
+/// What `--help` shows: what the program does, its options, its exit statuses, and of each rule and each fault the sentence that
+/// `rule_texts` has, which `bench/sentences` compares.
 pub const HELP: &str =
     "f77run runs a FORTRAN 77 program: one program unit in fixed form, of INTEGER and LOGICAL data.
 
@@ -37,42 +38,74 @@ Exit statuses, with the line on standard error:
   5  FILE or standard input can't be read: FILE REFUSED; a write failed: WRITE REFUSED
 
 Rules, which a source is refused for breaking:
-  C1   a byte outside 32 to 126 in columns 1 to 72 of a line that is no comment, a tab for one
-  C2   columns 1 to 5 of an initial line hold anything but digits and blanks, or zeros alone
-  C3   a continuation line that isn't blank in columns 1 to 5
-  C4   a continuation line with no initial line before it
-  C5   more than 19 continuation lines
-  C6   an odd number of apostrophes in a statement
-  C7   more than 1048576 bytes or 65535 lines
-  G1   a text that has no reading as a statement
-  G2   a FORTRAN 77 statement that is left out, such as READ, CALL, COMMON, WRITE (*,*) or PRINT *
-  G3   more than 64 parentheses open at once
-  N1   a statement that may not stand behind one before it
-  N2   END is missing, or a statement follows it
-  N3   ELSE IF, ELSE, END IF or END where no block IF, or none of its arms, may go on or end so
-  N4   a DO range that crosses a block IF or another, ends wrongly or never; END DO that ends none
-  N5   more than 32 DO and DO WHILE statements and block IFs open at once
-  K1   a label that an earlier statement has
-  K2   a transfer to a label that no statement has, or that may not be a target, or into a range or an arm
-  K3   a name that is REAL, or that no type statement names under IMPLICIT NONE
-  K4   a name that is given too much or used against what it is; IMPLICIT NONE beside IMPLICIT
-  K5   an operand, argument, condition, subscript, bound, limit or value of the wrong type
-  K6   an integer constant above 2147483647, or a bound or PARAMETER value that is no constant expression or that faults
-  K7   more than seven dimensions, a lower bound above the upper one, or more than 16777216 elements of arrays
-  K8   a wrong number of subscripts or arguments, or an array's name alone
-  K9   a DO variable that is no INTEGER variable, or that is set within its range
-  K10  a DATA statement that doesn't give each of its variables and elements one value of its type
-  K11  a unit that isn't 6 or *, or a format that isn't there or isn't one
-  K12  a statement function out of place, with wrong dummies or uses, or too large
-  K13  a function that isn't known
+  C1   Columns 1 to 72 of a line that is no comment hold characters from the blank to the tilde
+       alone; a tab is none of them.
+  C2   Columns 1 to 5 of an initial line hold a statement label, which is one to five digits that
+       are not all zero, or they are blank.
+  C3   A continuation line is blank in columns 1 to 5, since the statement label stands on the
+       initial line.
+  C4   A continuation line stands behind the initial line of its statement: the first line that is
+       no comment has a blank or a zero in column 6.
+  C5   A statement has at most 19 continuation lines.
+  C6   Each character constant ends with an apostrophe, so a statement has an even number of them
+       over all its lines.
+  C7   A source has at most 1,048,576 bytes and at most 65,535 lines, comment lines included.
+  G1   A statement has the form of one of the language's statements; so no two arithmetic operators
+       stand side by side, and 2*-3 is written 2*(-3).
+  G2   A statement is none of those of FORTRAN 77 that are left out, as READ, CALL, COMMON or REAL,
+       and output is not list-directed: records are written under a format.
+  G3   At most 64 parentheses are open at once in a statement, outside character constants.
+  N1   PROGRAM, where it stands, is the first statement; IMPLICIT comes before each type and
+       DIMENSION statement, and these and PARAMETER before each DATA and executable statement.
+  N2   END is the last statement of the program unit, and stands in it once.
+  N3   ELSE IF, ELSE and END IF stand where a block IF is the innermost thing that is open, only END
+       IF does behind its ELSE, and END IF closes it before END.
+  N4   The range of a DO statement ends with a terminal statement that may stand there, or with END
+       DO, before anything ends that holds the DO statement.
+  N5   At most 32 DO statements, DO WHILE statements and block IFs are open at once.
+  K1   No two statements of a program unit have the same statement label.
+  K2   A transfer of control is to the label of an executable statement other than ELSE and ELSE IF,
+       and never from outside into the range of a DO-loop, an IF-block, ELSE IF-block or ELSE-block.
+  K3   A variable, array, constant, statement function or dummy argument is INTEGER or LOGICAL by a
+       type statement, IMPLICIT or a first letter I to N, and under IMPLICIT NONE by a type
+       statement.
+  K4   A name gets a type, bounds, a value or an expression once, and is used as the constant,
+       array, variable or function that it is; a letter has one IMPLICIT type, and IMPLICIT NONE
+       stands alone.
+  K5   An operand, argument, condition, subscript, bound, limit or assigned value has the type that
+       its place asks for; INTEGER and LOGICAL are not converted into each other.
+  K6   An integer constant is at most 2147483647, and a PARAMETER value and each bound of an array
+       is a constant expression without a fault.
+  K7   An array has one to seven dimensions, none with a lower bound above its upper bound, and all
+       arrays together have at most 16,777,216 elements.
+  K8   An array element has one subscript for each dimension, and a function reference as many
+       arguments as the function takes; an array's name stands alone only in a type statement or as
+       a list's item.
+  K9   The variable of a DO statement or an implied DO is an INTEGER variable, and no assignment, DO
+       or implied DO within its range sets it.
+  K10  A DATA statement has one constant of the right type for each variable and element of its
+       list, gives none of them a second value, and has constant expressions as subscripts and
+       limits.
+  K11  A unit is 6 or *, a format is a character constant or the label of a FORMAT statement, a
+       FORMAT statement has a label, and formats have I, L, X, slashes, colons, texts and groups
+       alone.
+  K12  A statement function stands before all executable statements, has at most 16 dummy arguments
+       with distinct names, uses only those before it, and has at most 32 levels and 65,536 parts in
+       all.
+  K13  A function is a statement function of the program unit or one of ABS, IABS, MOD, MAX, MAX0,
+       MIN, MIN0, SIGN, ISIGN, DIM and IDIM.
 
 Faults, which end a run:
-  F1  a divisor of zero
-  F2  a result outside -2147483648 to 2147483647
-  F3  a subscript outside its bounds
-  F4  the turn limit
-  F5  a DO step of zero
-  F6  zero to the power of zero or less
-  F7  a value that meets the descriptor of the other type, or for which the format has no field
-  F8  a list of more than 65536 items, or more than 1048576 bytes in one WRITE or PRINT
+  F1  The divisor of a quotient, or the second argument of MOD, is zero.
+  F2  The result of an operation or a function, or the addition to a DO variable, lies outside
+      -2147483648 to 2147483647.
+  F3  A subscript lies outside the bounds of its dimension.
+  F4  There is no turn left for a statement that was to be executed: the limit is the plan's, and a
+      program that goes on for ever meets it.
+  F5  The increment of a DO statement or of an implied DO is zero.
+  F6  Zero is raised to the power of zero or of a negative number.
+  F7  A value of an output list meets an edit descriptor of the other type, or the format has no
+      edit descriptor for the values that are left.
+  F8  An output list has more than 65,536 items, or the records of a WRITE or PRINT statement have
+      more than 1,048,576 bytes, line feeds included.
 ";

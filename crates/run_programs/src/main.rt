@@ -6,10 +6,7 @@
 //! 1,000,000,000. The examples, in the folder `examples` there, end without a fault; the files beside them hold their records alone.
 //! A program with a DO or DO WHILE statement is run by 40 plans; any other by two, and so is each example. By each plan it comes to
 //! the same. By four plans a program that used n turns comes to the same with n, and with n - 1, where that is a limit, to F4.
-//! The programs that `rule_texts` has for each rule and each fault are run by two plans, and end as is said of them there.
 #![tactic(auto)]
-
-mod texts;
 
 use executor::run::run;
 use executor::{Open, Out};
@@ -21,7 +18,6 @@ use std::rt::Files;
 use std::sync::Wait;
 use std::thread::Threads;
 use std::{fs, io, str};
-use texts::tell_texts;
 
 /// The turns that a program has which doesn't say them.
 const TURNS: u64 = 1_000_000_000;
@@ -368,5 +364,5 @@ fn main(rt: HostRuntime) -> io::Result<()> {
     )?;
     let count = count_examples(&rt)?;
     println!(rt; "{count} examples write what another compiler's programs write")?;
-    tell_texts(&rt)
+    Ok(())
 }

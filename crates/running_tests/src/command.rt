@@ -1,6 +1,5 @@
-//! The program without its streams, and its command line: which words ask for which plan and file, what is wrong with others, and what
-//! a run writes and answers.
+//! The program without its streams, and its command line: which words ask for which plan and file, and what a run answers where reads and
+//! writes fail.
 
-mod details;
 mod runs;
 mod words;

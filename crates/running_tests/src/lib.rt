@@ -1,15 +1,12 @@
-//! Tests of running that no FORTRAN program of run_programs says: sources by their bytes, turns, and where records go; the codes that are
-//! kept of statements; what a fault in a list leaves; consecutive members of a list; loops by stages, step by step; and the program itself with its command line.
+//! Tests of running that can't be asked of the program as it is built, by `tests/run` and `run_programs`: where records go; plans; the codes
+//! that are kept of statements; what a fault in a list leaves; consecutive members of a list; loops by stages, step by step; which plan and
+//! file a command line names; and the program over readers and writers that fail.
 #![tactic(auto)]
 
-#[cfg(test)]
-mod also;
 #[cfg(test)]
 mod command;
 #[cfg(test)]
 mod kept;
-#[cfg(test)]
-mod limits;
 #[cfg(test)]
 mod lists;
 #[cfg(test)]
@@ -19,14 +16,8 @@ mod plans;
 #[cfg(test)]
 mod sinks;
 #[cfg(test)]
-mod sizes;
-#[cfg(test)]
 mod slices;
-#[cfg(test)]
-mod sources;
 #[cfg(test)]
 mod staged;
 #[cfg(test)]
 mod stages;
-#[cfg(test)]
-mod turns;

@@ -12,5 +12,4 @@ mod seen;
 mod spares;
 mod states;
 mod watch;
-mod watched;
 mod watching;
