@@ -17,3 +17,6 @@ turns_before-requires-clause-fits c =
     let turns = c.parts-parts.ensures.turns in
     let small : c.parts-parts.result.turns < 2 ^ 64 = search rules in
     subst (λ ps. turns_to ps c.args.cut < 2 ^ 64) (sym c.places-places.ensures) (omega (arith, few, turns, small))
+
+pub returns : goal.returns
+returns c = search rules
