@@ -1,8 +1,8 @@
 //! Why a stage is cut where it is.
 
-ghost use Rattle.std.specs.Prelude.{◌≡◌, false, MatchOption};
+ghost use Rattle.std.specs.Prelude.{◌≡◌, false, length, if◌then◌else◌, MatchOption};
 ghost use Rattle.std.specs.List.{list_any};
-ghost use Rattle.block_stage.specs.Causes.{IsCarried, IsCause};
+ghost use Rattle.block_stage.specs.Causes.{IsCarried, IsCause, has_ended};
 ghost use Rattle.block_stage.specs.Cuts.{IsCut, reads_place};
 
 use crate::cuts::ended_early;
@@ -21,7 +21,7 @@ pub struct Dependence {
 /// Why a stage is cut where it is. Of several causes the first in this order is told.
 #[derive(Clone, Copy, Debug, PartialEq, Eq)]
 pub enum Cause {
-    /// There is no block behind the cut.
+    /// There is no block behind the cut, and the last one went on.
     Whole,
     /// The block behind the cut has no run.
     Loss,
@@ -33,14 +33,14 @@ pub enum Cause {
     Turns,
 }
 
-/// Why the stage is cut there.
+/// Why the stage is cut there; where several causes hold, the first of loss, exit, dependence and turns.
 pub fn cause_of(posted: &Posted, cut: usize) -> Cause
     requires { IsCut posted.now.job.turns posted.now.places cut }
     ensures { IsCause posted.now.job.turns posted.now.places cut result }
 {
     let places = posted.places();
     let Some(place) = places.get(cut) else {
-        return Cause::Whole;
+        return cause_behind(places);
     };
     let Some(trace) = place else {
         return Cause::Loss;
@@ -51,6 +51,22 @@ pub fn cause_of(posted: &Posted, cut: usize) -> Cause
     match carried(trace, &places[..cut]) {
         Some(dependence) => Cause::Dependence(dependence),
         None => Cause::Turns,
+    }
+}
+
+// Why a stage is cut behind its last block.
+fn cause_behind(places: &[Option<Trace<'_>>]) -> Cause
+    ensures { result ≡ if has_ended places.now (length places.now) then Cause.Exit else Cause.Whole }
+{
+    match places.last() {
+        Some(last) => {
+            if ended_early(last) {
+                Cause::Exit
+            } else {
+                Cause::Whole
+            }
+        }
+        None => Cause::Whole,
     }
 }
 

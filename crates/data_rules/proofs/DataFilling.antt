@@ -1,5 +1,6 @@
 -- What lists give, one list behind another.
-use Rattle.std.proofs.Common.{◌≡◌, ℕ, suc, ◌+◌, ℤ, Bool, List, [], ◌∷◌, ◌++◌, length, map, Option, Some, None, Result, Ok, Err, refl, sym, ap, subst, ◌∙◌, arith}
+use Rattle.std.proofs.Common.{◌≡◌, ℕ, zero, suc, ◌+◌, ◌≤◌, ◌⊎◌, inl, inr, ℤ, Bool, true, false, min, List, [], ◌∷◌, ◌++◌, length, map, Option, Some, None, Result, Ok, Err, refl, sym, ap, subst, ◌∙◌, arith}
+use Rattle.std.specs.Prelude.{if◌then◌else◌}
 use Rattle.std.specs.List.{range_with_len}
 use Rattle.std.specs.Result.{IfOk}
 use Rattle.meaning.specs.Arrays.{Dimension, elements, place, size}
@@ -57,6 +58,24 @@ module _ (ns : Names) where
   pub filled_whole : (n : List ℕ) (ds : List Dimension) (s : Stage) → ns.arrays n ≡ Some ds → filled ns (Some (map (target n) (elements ds))) s ≡ give_places ns.types n (range_with_len 0 (size ds)) s
   filled_whole n ds s is =
       by_places n ds is (elements ds) 0 s (elements-numbered ds) ∙ ap (λ k. give_places ns.types n (range_with_len 0 k) s) (elements-length ds)
+
+  -- places of which the first ones aren't all given values
+  short_rest : (n : List ℕ) (i k m : ℕ) → ((r : Stage) → give_places ns.types n (range_with_len i k) r ≡ None → give_places ns.types n (range_with_len i m) r ≡ None) → (o : Option Stage) → and_also o (give_places ns.types n (range_with_len i k)) ≡ None → and_also o (give_places ns.types n (range_with_len i m)) ≡ None
+  short_rest n i k m rest None e = refl
+  short_rest n i k m rest (Some r) e = rest r e
+
+  short : (n : List ℕ) (i k m : ℕ) (s : Stage) → k ≤ m → give_places ns.types n (range_with_len i k) s ≡ None → give_places ns.types n (range_with_len i m) s ≡ None
+  short n i zero m s le none = absurd cc
+  short n i (suc k) zero s le none = absurd (omega arith)
+  short n i (suc k) (suc m) s le none = short_rest n (i + 1) k m (λ r. short n (i + 1) k m r (omega arith)) (give ns.types n i s) none
+
+  -- so many places, counted no further than a bound that isn't reached where all are given values
+  pub capped : (n : List ℕ) (k m most : ℕ) (s t : Stage) (given : Bool) → k ≡ min m most → ((given ≡ true) × (k ≡ most → ⊥)) ⊎ (given ≡ false) → give_places ns.types n (range_with_len 0 k) s ≡ (if given then Some t else None) → give_places ns.types n (range_with_len 0 m) s ≡ (if given then Some t else None)
+  capped n k m most s t false e either comes = short n 0 k m s (omega (arith, e)) comes
+  capped n k m most s t true e (inl below) comes =
+      let same : k ≡ m = omega (arith, e, below.1) in
+      ap (λ j. give_places ns.types n (range_with_len 0 j) s) (sym same) ∙ comes
+  capped n k m most s t true e (inr none) comes = absurd cc
 
   -- ---- trips
 

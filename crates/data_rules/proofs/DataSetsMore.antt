@@ -1,6 +1,6 @@
 -- One set, and one set more.
-use Rattle.std.proofs.Common.{◌≡◌, ℕ, ◌+◌, ◌<◌, ◌≤◌, Bool, List, [], length, get_or, drop, map, Option, Some, None, Result, Ok, Err, sym, ap, ◌∙◌}
-use Rattle.std.specs.Prelude.{if◌then◌else◌, IfOk}
+use Rattle.std.proofs.Common.{◌≡◌, ℕ, ◌+◌, ◌<◌, ◌≤◌, Bool, List, [], length, get_or, drop, map, Option, Some, None, sym, ap, ◌∙◌}
+use Rattle.std.specs.Prelude.{if◌then◌else◌}
 use Rattle.std.proofs.lemmas.List.{drop_all, drop_more}
 use Rattle.meaning.specs.declared.syntax.DataSet.{DataSet}
 use Rattle.meaning.specs.declared.syntax.DataValue.{DataValue}
@@ -20,10 +20,9 @@ use Rattle.data_rules.specs.Filled.{stage_at}
 use Rattle.declarations.specs.Tables.{known_at, scope_known, with_own}
 
 -- a list that was given its values, of which some may be left over
-pub used_up_given : {E : Type 0} (result : Result Bool E) (o : Option Stage) (s : Stage) → o ≡ Some s → IfOk result (λ b. b ≡ is_empty_list s.values) → IfOk result (λ b. and_also o if_used_up ≡ (if b then Some (with_values [] s) else None))
-used_up_given (Ok b) o s is h =
+pub used_up_given : (b : Bool) (o : Option Stage) (s : Stage) → o ≡ Some s → b ≡ is_empty_list s.values → and_also o if_used_up ≡ (if b then Some (with_values [] s) else None)
+used_up_given b o s is h =
     ap (λ p. and_also p if_used_up) is ∙ ap (λ d. if d then Some (with_values [] s) else None) (sym h)
-used_up_given (Err e) o s is h = tt
 
 -- what the list of a set is given, in a scope with no names of its own
 pub set_given : (t : Table) (s : Scope) (v : Values) (f : Filling) (x : DataSet) (xs : List DataValue) → s.table.now ≡ t → s.own.items ≡ [] → values_left v ≡ values_of (known_at t) (map data_value_tree xs) → xs ≡ x.values.items → fill_list (roles_at s.table.now.roles.now) (scope_known s) (list_items_tree x.list) (stage_at f v) ≡ fill_set (roles_at t.roles.now) (known_at t) (data_set_tree x) (stage_by f)

@@ -1,14 +1,12 @@
 -- The values of DATA statements, one after another (ANSI X3.9-1978, 9.1).
-use Rattle.std.specs.Prelude.{◌++◌, ℕ, pos, List, [], ◌∷◌, map, flat_map, option_map, replicate, Option, Some, None}
+use Rattle.std.specs.Prelude.{◌++◌, ℕ, List, [], ◌∷◌, map, flat_map, option_map, replicate, Option, Some, None}
 use Rattle.meaning.specs.declared.ending.Value.{Value}
-use Rattle.meaning.specs.declared.ending.Value.TheVariants.{Int}
 use Rattle.meaning.specs.declared.syntax.DataConstant.{DataConstant}
 use Rattle.meaning.specs.declared.syntax.DataValue.{DataValue}
 use Rattle.meaning.specs.declared.syntax.RepeatCount.{RepeatCount}
-use Rattle.meaning.specs.Characters.{number_of}
 use Rattle.meaning.specs.Syntax.{DataValueTree, data_constant_tree, data_value_tree, repeat_tree}
 use Rattle.meaning.specs.Values.{Known}
-use Rattle.meaning.specs.Initial.{count_if, data_value, repeat_value, repeated}
+use Rattle.meaning.specs.Initial.{data_value, repeat_value, repeated}
 use Rattle.data_rules.specs.declared.data_values.Run.{Run}
 use Rattle.data_rules.specs.declared.data_values.Values.{Values}
 use Rattle.declarations.specs.declared.known.Table.{Table}
@@ -23,9 +21,6 @@ abbrev pub values_of : Known → List DataValueTree → List (Option Value)
 values_of known vs = flat_map (λ v. or_one_none (repeated known v)) vs
 
 -- how often a constant stands, its value, and both
-abbrev pub count_spelled : List ℕ → Option ℕ
-count_spelled digits = count_if (Some (Int (pos (number_of digits))))
-
 abbrev pub count_at : Table → Option RepeatCount → Option ℕ
 count_at t n = repeat_value (known_at t) (option_map repeat_tree n)
 

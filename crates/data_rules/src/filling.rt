@@ -73,7 +73,7 @@ fn give(
     ensures { IfOk result (GivesSlot data_type place
         (slots_at slots.old values.old) (slots_at slots.new values.new)) }
 {
-    match next_value(values)? {
+    match next_value(values) {
         Some(value) => {
             if differs(data_type, value) || is_given(slots, place) {
                 return Ok(false);

@@ -1,6 +1,6 @@
 //! What the items in the lists of DATA statements are given (ANSI X3.9-1978, 9.1).
 
-ghost use Rattle.std.specs.Prelude.{◌≡◌, map, IfOk};
+ghost use Rattle.std.specs.Prelude.{◌≡◌, ◌-◌, ◌^◌, map, min, IfOk};
 ghost use Rattle.meaning.specs.Arrays.{size};
 ghost use Rattle.expressions.specs.Dimensions.{dimension};
 ghost use Rattle.declarations.specs.ArraysKept.{AreArrays};
@@ -25,19 +25,13 @@ pub struct Giving<'a> {
     pub scope: Scope<'a>,
 }
 
-/// How many elements an array of these dimensions has. The `AllocError` comes where there are 2^64 or more.
-fn size_of(dimensions: &[Dimension]) -> Result<u64, AllocError>
-    ensures { IfOk result (λ n. n ≡ size (map dimension dimensions.now)) }
+/// How many elements an array of these dimensions has, or 2^64-1 where it has more.
+fn size_of(dimensions: &[Dimension]) -> u64
+    ensures { result ≡ min (size (map dimension dimensions.now)) (2 ^ 64 - 1) }
 {
     match dimensions.split_first() {
-        None => Ok(1),
-        Some((first, more)) => {
-            let rows = size_of(more)?;
-            match first.extent().checked_mul(rows) {
-                Some(elements) => Ok(elements),
-                None => Err(AllocError),
-            }
-        }
+        None => 1,
+        Some((first, more)) => first.extent().saturating_mul(size_of(more)),
     }
 }
 
@@ -55,8 +49,8 @@ fn give_name(
     let roles = giving.scope.table.roles;
     match arrays.get(name) {
         Some(dimensions) => {
-            let size = size_of(dimensions)?;
-            give_places(
+            let size = size_of(dimensions);
+            let given = give_places(
                 &mut giving.filling,
                 &mut giving.values,
                 alloc,
@@ -64,7 +58,12 @@ fn give_name(
                 name,
                 0,
                 size,
-            )
+            )?;
+            // No memory has so many places that all were given values.
+            if given && size == u64::MAX {
+                return Err(AllocError);
+            }
+            Ok(given)
         }
         None => {
             if is_other_name(roles, name) {

@@ -38,7 +38,7 @@ fn give_list<'a>(
     if !given {
         return Ok(false);
     }
-    is_used_up(&mut giving.values)
+    Ok(is_used_up(&mut giving.values))
 }
 
 /// Fills a set, unless what its list stands for and its values don't fit.

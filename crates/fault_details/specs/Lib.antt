@@ -1,4 +1,5 @@
 pub mod Subscripts
 pub mod Fields
+pub mod Meeting
 pub mod Details
 pub mod Texts

@@ -55,7 +55,7 @@ pub(crate) fn cell_value<'a>(
     at: usize,
     scene: &Scene<'a>,
 ) -> Result<Value, Stop<'a>>
-    ensures { IfErr result (IsStop (names_in scene.now.program.now)) }
+    ensures { IfErr result (IsStop scene.now.program.now) }
 {
     match scene.cells.get(at) {
         Some(number) => Ok(typed(data_type, *number)),
@@ -65,7 +65,7 @@ pub(crate) fn cell_value<'a>(
 
 // The value of an integer constant.
 fn number_value<'a>(digits: &[u8], scene: &Scene<'a>) -> Result<Value, Stop<'a>>
-    ensures { IfErr result (IsStop (names_in scene.now.program.now)) }
+    ensures { IfErr result (IsStop scene.now.program.now) }
 {
     match i32::try_from(number(digits)) {
         Ok(x) => Ok(Value::Int(x)),
@@ -75,7 +75,7 @@ fn number_value<'a>(digits: &[u8], scene: &Scene<'a>) -> Result<Value, Stop<'a>>
 
 /// The value of a variable or a constant.
 pub(crate) fn named_value<'a>(name: &[u8], scene: &Scene<'a>) -> Result<Value, Stop<'a>>
-    ensures { IfErr result (IsStop (names_in scene.now.program.now)) }
+    ensures { IfErr result (IsStop scene.now.program.now) }
 {
     match scene.program.named(name) {
         Named::Constant(x) => Ok(x),
@@ -96,7 +96,7 @@ fn argument_named(name: &[u8], scene: &Scene) -> Option<Value> {
 
 // The value of a name, which is a dummy argument's first.
 fn name_value<'a>(name: &[u8], scene: &Scene<'a>) -> Result<Value, Stop<'a>>
-    ensures { IfErr result (IsStop (names_in scene.now.program.now)) }
+    ensures { IfErr result (IsStop scene.now.program.now) }
 {
     match argument_named(name, scene) {
         Some(x) => Ok(x),
@@ -106,7 +106,7 @@ fn name_value<'a>(name: &[u8], scene: &Scene<'a>) -> Result<Value, Stop<'a>>
 
 // A sign and its operand.
 fn with_sign<'a>(sign: Sign, operand: i32, scene: &Scene<'a>) -> Result<Value, Stop<'a>>
-    ensures { IfErr result (IsStop (names_in scene.now.program.now)) }
+    ensures { IfErr result (IsStop scene.now.program.now) }
 {
     match signed(sign, operand) {
         Ok(x) => Ok(x),
@@ -124,7 +124,7 @@ pub(crate) fn with_operands<'a>(
     right: i32,
     scene: &Scene<'a>,
 ) -> Result<Value, Stop<'a>>
-    ensures { IfErr result (IsStop (names_in scene.now.program.now)) }
+    ensures { IfErr result (IsStop scene.now.program.now) }
 {
     match operated(operator, Value::Int(left), Value::Int(right)) {
         Ok(x) => Ok(x),
@@ -147,7 +147,7 @@ fn with_arguments<'a>(
     scene: &Scene<'a>,
 ) -> Result<Value, Stop<'a>>
     requires { intrinsic_named name.now ≡ Some (intrinsic function) }
-    ensures { IfErr result (IsStop (names_in scene.now.program.now)) }
+    ensures { IfErr result (IsStop scene.now.program.now) }
 {
     match arguments.value(function) {
         Ok(x) => Ok(x),
@@ -174,7 +174,7 @@ fn is_decided(operator: Operator, left: Value) -> bool {
 /// The value of an expression, or why there is none.
 #[cycle(evaluation)]
 pub(crate) fn value_in<'a>(expression: &'a Expr, scene: &Scene<'a>) -> Result<Value, Stop<'a>>
-    ensures { IfErr result (IsStop (names_in scene.now.program.now)) }
+    ensures { IfErr result (IsStop scene.now.program.now) }
 {
     match expression {
         Expr::Number(digits) => number_value(digits, scene),
@@ -214,7 +214,7 @@ pub(crate) fn element_in<'a>(
     scene: &Scene<'a>,
 ) -> Result<Value, Stop<'a>>
     requires { (names_in scene.now.program.now).arrays name.now ≡ Some (left array.place) }
-    ensures { IfErr result (IsStop (names_in scene.now.program.now)) }
+    ensures { IfErr result (IsStop scene.now.program.now) }
 {
     let dimensions = array.place.dimensions();
     let passed = Passed {
@@ -236,7 +236,7 @@ fn cell_in<'a>(
     scene: &Scene<'a>,
 ) -> Result<usize, Stop<'a>>
     requires { (names_in scene.now.program.now).arrays name.now ≡ Some (map dimension dimensions.now) }
-    ensures { IfErr result (IsStop (names_in scene.now.program.now)) }
+    ensures { IfErr result (IsStop scene.now.program.now) }
 {
     match list {
         Exprs::Empty => Ok(passed.cell),
@@ -266,7 +266,7 @@ fn subscripted<'a>(
     scene: &Scene<'a>,
 ) -> Result<Passed, Stop<'a>>
     requires { (names_in scene.now.program.now).arrays array.now ≡ Some (map dimension dimensions.now) }
-    ensures { IfErr result (IsStop (names_in scene.now.program.now)) }
+    ensures { IfErr result (IsStop scene.now.program.now) }
 {
     let before = passed.subscripts;
     let bounds = match dimensions.get(before.values().len()) {
@@ -296,7 +296,7 @@ fn behind<'a>(
     above: u64,
     scene: &Scene<'a>,
 ) -> Result<Passed, Stop<'a>>
-    ensures { IfErr result (IsStop (names_in scene.now.program.now)) }
+    ensures { IfErr result (IsStop scene.now.program.now) }
 {
     match passed.subscripts.with(subscript) {
         Some(subscripts) => Ok(Passed {
@@ -313,7 +313,7 @@ fn behind<'a>(
 // The value of a function with arguments, or why there is none.
 #[cycle(evaluation)]
 fn reference_in<'a>(name: &'a [u8], list: &'a Exprs, scene: &Scene<'a>) -> Result<Value, Stop<'a>>
-    ensures { IfErr result (IsStop (names_in scene.now.program.now)) }
+    ensures { IfErr result (IsStop scene.now.program.now) }
 {
     if scene.program.function(name).is_some() {
         let given = arguments_in(Given::none(), list, scene)?;
@@ -328,7 +328,7 @@ fn reference_in<'a>(name: &'a [u8], list: &'a Exprs, scene: &Scene<'a>) -> Resul
 // The values of arguments, first to last behind those so far, or why there are none.
 #[cycle(evaluation)]
 fn arguments_in<'a>(so_far: Given, list: &'a Exprs, scene: &Scene<'a>) -> Result<Given, Stop<'a>>
-    ensures { IfErr result (IsStop (names_in scene.now.program.now)) }
+    ensures { IfErr result (IsStop scene.now.program.now) }
 {
     match list {
         Exprs::Empty => Ok(so_far),
@@ -345,7 +345,7 @@ fn arguments_in<'a>(so_far: Given, list: &'a Exprs, scene: &Scene<'a>) -> Result
 // The value of a statement function. A fault within it isn't told.
 #[cycle(evaluation)]
 fn call_in<'a>(name: &[u8], arguments: Given, scene: &Scene<'a>) -> Result<Value, Stop<'a>>
-    ensures { IfErr result (IsStop (names_in scene.now.program.now)) }
+    ensures { IfErr result (IsStop scene.now.program.now) }
 {
     match callable(name, scene.callable, scene.program) {
         Some(function) => {
@@ -375,7 +375,7 @@ fn intrinsic_in<'a>(
     scene: &Scene<'a>,
 ) -> Result<Value, Stop<'a>>
     requires { intrinsic_named name.now ≡ Some (intrinsic function) }
-    ensures { IfErr result (IsStop (names_in scene.now.program.now)) }
+    ensures { IfErr result (IsStop scene.now.program.now) }
 {
     match list {
         Exprs::Empty => with_arguments(name, function, so_far, scene),

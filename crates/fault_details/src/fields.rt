@@ -1,12 +1,12 @@
 //! The edit descriptors to which values go (ANSI X3.9-1978, 13.3).
 
 ghost use Rattle.std.specs.Prelude.{◌≡◌, ◌<◌, ◌-◌, ◌^◌, Some, None, length, min, option_map, slice_get, if◌then◌else◌};
-ghost use Rattle.meaning.specs.Records.{unrolled, pass, is_field, is_group, reverted};
+ghost use Rattle.meaning.specs.Records.{unrolled, pass, is_field};
 ghost use Rattle.format_edit.specs.Formatted.{descriptor_of, part_of, parts_of, descriptors};
 ghost use Rattle.fault_details.specs.Fields.{field_of, fields, field_for};
 
 use crate::detail::Field;
-use format_edit::{Descriptor, Format, Part};
+use format_edit::{Descriptor, Format, Part, reverted};
 
 // An edit descriptor, if values go to it.
 fn field_in(descriptor: &Descriptor) -> Option<Field>
@@ -91,36 +91,6 @@ fn field_among(parts: &[Part], before: usize) -> Option<Field>
         left -= count;
     }
     None
-}
-
-// Whether a part is a group.
-fn is_group(part: &Part) -> bool
-    ensures { result ≡ is_group (part_of part.now) }
-{
-    match part {
-        Part::Single(_, _) => false,
-        Part::Group(_, _) => true,
-    }
-}
-
-// These parts where the first of them is a group, and else those that were found before.
-fn from_group<'a>(part: &Part, from_part: &'a [Part], found: &'a [Part]) -> &'a [Part]
-    ensures { result.now ≡ if is_group (part_of part.now) then from_part.now else found.now }
-{
-    if is_group(part) { from_part } else { found }
-}
-
-// What control goes back to: the parts from the last group on, or all where there is none.
-fn reverted(parts: &[Part]) -> &[Part]
-    ensures { parts_of result.now ≡ reverted (parts_of parts.now) }
-{
-    let mut found = parts;
-    let mut rest = parts;
-    while let Some((part, behind)) = rest.split_first() {
-        found = from_group(part, rest, found);
-        rest = behind;
-    }
-    found
 }
 
 /// The edit descriptor to which the value behind so many others of an output list goes, with repeats written out and control going

@@ -1,7 +1,6 @@
 //! The statement that faulted, and what its fault was about.
 
 ghost use Rattle.std.specs.Prelude.{◌≡◌, IfSome};
-ghost use Rattle.numbering.specs.Checked.{names_in};
 ghost use Rattle.fault_details.specs.Details.{IsDetail, IsStop};
 
 use crate::detail::{Detail, Stop};
@@ -62,8 +61,8 @@ fn shape_in_arms(arms: &[Arm], line: u32) -> Option<&Shape> {
 
 // What stopped an evaluation, if it was a fault of this kind.
 fn of_kind<'a>(kind: FaultKind, stop: Stop<'a>, program: &Program) -> Option<Detail<'a>>
-    requires { IsStop (names_in program.now) stop }
-    ensures { IfSome result (IsDetail (names_in program.now) kind) }
+    requires { IsStop program.now stop }
+    ensures { IfSome result (IsDetail program.now kind) }
 {
     match stop {
         Stop::Fault {
@@ -78,7 +77,7 @@ fn of_kind<'a>(kind: FaultKind, stop: Stop<'a>, program: &Program) -> Option<Det
 /// the statement once more: within a statement function or an implied DO, where a value was changed since, or where the fault is
 /// none of an expression.
 pub fn detail_of<'a>(program: &'a Program, fault: Fault, cells: &'a [i32]) -> Option<Detail<'a>>
-    ensures { IfSome result (IsDetail (names_in program.now) fault.kind) }
+    ensures { IfSome result (IsDetail program.now fault.kind) }
 {
     let scene = Scene {
         program,

@@ -1,9 +1,10 @@
 //! WRITE and PRINT statements, evaluated up to the first fault (ANSI X3.9-1978, 12.8 and 13.3).
 
-ghost use Rattle.std.specs.Prelude.{◌≡◌, IfErr};
-ghost use Rattle.numbering.specs.Checked.{names_in};
+ghost use Rattle.std.specs.Prelude.{◌≡◌, Some, IfErr, IfSome};
+ghost use Rattle.format_edit.specs.Formatted.{descriptors};
 ghost use Rattle.fault_details.specs.Details.{IsStop};
-ghost use Rattle.fault_details.specs.Fields.{differs};
+ghost use Rattle.fault_details.specs.Fields.{differs, field_of};
+ghost use Rattle.fault_details.specs.Meeting.{GoesTo, HasFormat};
 
 use crate::detail::{Detail, Field, Stop};
 use crate::evaluation::{Scene, cell_value, named_value, value_in};
@@ -35,7 +36,7 @@ fn is_plain(list: &ListItems) -> bool {
 
 // An item of an output list. A name, which may be an array's, is no fault.
 fn write_item<'a>(item: &'a ListItem, scene: &Scene<'a>) -> Result<(), Stop<'a>>
-    ensures { IfErr result (IsStop (names_in scene.now.program.now)) }
+    ensures { IfErr result (IsStop scene.now.program.now) }
 {
     match item {
         ListItem::Value(value) => match value {
@@ -52,7 +53,7 @@ fn write_item<'a>(item: &'a ListItem, scene: &Scene<'a>) -> Result<(), Stop<'a>>
 
 // The items of an output list, first to last.
 fn write_items<'a>(list: &'a ListItems, scene: &Scene<'a>) -> Result<(), Stop<'a>>
-    ensures { IfErr result (IsStop (names_in scene.now.program.now)) }
+    ensures { IfErr result (IsStop scene.now.program.now) }
 {
     match list {
         ListItems::Empty => Ok(()),
@@ -81,7 +82,8 @@ fn differs(value: Value, field: Field) -> bool
 
 // A value and the edit descriptor that it meets.
 fn meet<'a>(value: Value, field: Field, scene: &Scene<'a>) -> Result<(), Stop<'a>>
-    ensures { IfErr result (IsStop (names_in scene.now.program.now)) }
+    requires { GoesTo scene.now.program.now (Some (field_of field)) }
+    ensures { IfErr result (IsStop scene.now.program.now) }
 {
     if differs(value, field) {
         Err(Stop::Fault {
@@ -100,7 +102,8 @@ fn edit_value<'a>(
     format: &Format,
     scene: &Scene<'a>,
 ) -> Result<usize, Stop<'a>>
-    ensures { IfErr result (IsStop (names_in scene.now.program.now)) }
+    requires { HasFormat scene.now.program.now (descriptors format.now) }
+    ensures { IfErr result (IsStop scene.now.program.now) }
 {
     if before >= MOST_VALUES {
         return Err(Stop::Unknown);
@@ -124,7 +127,8 @@ fn edit_array<'a>(
     format: &Format,
     scene: &Scene<'a>,
 ) -> Result<usize, Stop<'a>>
-    ensures { IfErr result (IsStop (names_in scene.now.program.now)) }
+    requires { HasFormat scene.now.program.now (descriptors format.now) }
+    ensures { IfErr result (IsStop scene.now.program.now) }
 {
     let first = array.place.first().unwrap_or(0);
     let mut count = before;
@@ -142,7 +146,8 @@ fn edit_name<'a>(
     format: &Format,
     scene: &Scene<'a>,
 ) -> Result<usize, Stop<'a>>
-    ensures { IfErr result (IsStop (names_in scene.now.program.now)) }
+    requires { HasFormat scene.now.program.now (descriptors format.now) }
+    ensures { IfErr result (IsStop scene.now.program.now) }
 {
     match scene.program.array(name) {
         Some(array) => edit_array(array, before, format, scene),
@@ -160,7 +165,8 @@ fn edit_item<'a>(
     format: &Format,
     scene: &Scene<'a>,
 ) -> Result<usize, Stop<'a>>
-    ensures { IfErr result (IsStop (names_in scene.now.program.now)) }
+    requires { HasFormat scene.now.program.now (descriptors format.now) }
+    ensures { IfErr result (IsStop scene.now.program.now) }
 {
     match item {
         ListItem::Value(expression) => match expression {
@@ -185,7 +191,8 @@ fn edit_items<'a>(
     format: &Format,
     scene: &Scene<'a>,
 ) -> Result<(), Stop<'a>>
-    ensures { IfErr result (IsStop (names_in scene.now.program.now)) }
+    requires { HasFormat scene.now.program.now (descriptors format.now) }
+    ensures { IfErr result (IsStop scene.now.program.now) }
 {
     match list {
         ListItems::Empty => Ok(()),
@@ -197,7 +204,9 @@ fn edit_items<'a>(
 }
 
 // The format that a statement names or has.
-fn format_of<'a>(source: &FormatSource, program: &'a Program) -> Option<&'a Format> {
+fn format_of<'a>(source: &FormatSource, program: &'a Program) -> Option<&'a Format>
+    ensures { IfSome result (λ f. HasFormat program.now (descriptors f.now)) }
+{
     match source {
         FormatSource::Label(digits) => program.format(digits),
         FormatSource::Constant(text) => program.text_format(text),
@@ -206,7 +215,7 @@ fn format_of<'a>(source: &FormatSource, program: &'a Program) -> Option<&'a Form
 
 // The values of an output list under the format that its statement names or has.
 fn edit<'a>(source: &FormatSource, list: &'a ListItems, scene: &Scene<'a>) -> Result<(), Stop<'a>>
-    ensures { IfErr result (IsStop (names_in scene.now.program.now)) }
+    ensures { IfErr result (IsStop scene.now.program.now) }
 {
     match format_of(source, scene.program) {
         Some(format) => edit_items(list, 0, format, scene),
@@ -220,7 +229,7 @@ pub(crate) fn write<'a>(
     list: &'a ListItems,
     scene: &Scene<'a>,
 ) -> Result<(), Stop<'a>>
-    ensures { IfErr result (IsStop (names_in scene.now.program.now)) }
+    ensures { IfErr result (IsStop scene.now.program.now) }
 {
     if is_plain(list) {
         write_items(list, scene)?;

@@ -1,7 +1,6 @@
 //! Statements, evaluated up to the first fault (ANSI X3.9-1978, chapters 10 and 11).
 
 ghost use Rattle.std.specs.Prelude.{◌≡◌, IfErr};
-ghost use Rattle.numbering.specs.Checked.{names_in};
 ghost use Rattle.fault_details.specs.Details.{IsStop};
 
 use crate::detail::{Detail, Stop};
@@ -13,7 +12,7 @@ use meaning::syntax::{Expr, Exprs, Limits, Operator, Shape};
 
 /// An expression of a statement.
 pub(crate) fn evaluate<'a>(expression: &'a Expr, scene: &Scene<'a>) -> Result<(), Stop<'a>>
-    ensures { IfErr result (IsStop (names_in scene.now.program.now)) }
+    ensures { IfErr result (IsStop scene.now.program.now) }
 {
     match value_in(expression, scene) {
         Ok(_) => Ok(()),
@@ -28,7 +27,7 @@ fn assign<'a>(
     value: &'a Expr,
     scene: &Scene<'a>,
 ) -> Result<(), Stop<'a>>
-    ensures { IfErr result (IsStop (names_in scene.now.program.now)) }
+    ensures { IfErr result (IsStop scene.now.program.now) }
 {
     if let Some(array) = scene.program.array(name) {
         let _old = element_in(name, array, subscripts, scene)?;
@@ -38,7 +37,7 @@ fn assign<'a>(
 
 // The step of a DO statement, which is 1 where none is written.
 fn step_in<'a>(step: &'a Option<Expr>, scene: &Scene<'a>) -> Result<i32, Stop<'a>>
-    ensures { IfErr result (IsStop (names_in scene.now.program.now)) }
+    ensures { IfErr result (IsStop scene.now.program.now) }
 {
     match step {
         None => Ok(1),
@@ -48,7 +47,7 @@ fn step_in<'a>(step: &'a Option<Expr>, scene: &Scene<'a>) -> Result<i32, Stop<'a
 
 // The sum of the variable of a DO statement and the step, which isn't zero.
 fn advance<'a>(variable: &[u8], step: i32, scene: &Scene<'a>) -> Result<(), Stop<'a>>
-    ensures { IfErr result (IsStop (names_in scene.now.program.now)) }
+    ensures { IfErr result (IsStop scene.now.program.now) }
 {
     if step == 0 {
         return Err(Stop::Fault {
@@ -65,7 +64,7 @@ fn advance<'a>(variable: &[u8], step: i32, scene: &Scene<'a>) -> Result<(), Stop
 
 // The limits of a DO statement, and then the sum of its variable and the step.
 fn repeat<'a>(variable: &[u8], limits: &'a Limits, scene: &Scene<'a>) -> Result<(), Stop<'a>>
-    ensures { IfErr result (IsStop (names_in scene.now.program.now)) }
+    ensures { IfErr result (IsStop scene.now.program.now) }
 {
     let Limits { first, last, step } = limits;
     evaluate(first, scene)?;
@@ -76,7 +75,7 @@ fn repeat<'a>(variable: &[u8], limits: &'a Limits, scene: &Scene<'a>) -> Result<
 
 // A statement that is no logical IF.
 fn execute_simple<'a>(shape: &'a Shape, scene: &Scene<'a>) -> Result<(), Stop<'a>>
-    ensures { IfErr result (IsStop (names_in scene.now.program.now)) }
+    ensures { IfErr result (IsStop scene.now.program.now) }
 {
     match shape {
         Shape::Assignment {
@@ -116,7 +115,7 @@ fn execute_simple<'a>(shape: &'a Shape, scene: &Scene<'a>) -> Result<(), Stop<'a
 
 /// A statement up to its first fault; of a logical IF the condition, and where that is true its statement.
 pub(crate) fn execute<'a>(shape: &'a Shape, scene: &Scene<'a>) -> Result<(), Stop<'a>>
-    ensures { IfErr result (IsStop (names_in scene.now.program.now)) }
+    ensures { IfErr result (IsStop scene.now.program.now) }
 {
     match shape {
         Shape::LogicalIf(condition, statement) => {

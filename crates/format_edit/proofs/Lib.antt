@@ -2,12 +2,11 @@ pub mod Ahead
 pub mod Justified
 pub mod Parts
 pub mod Walk
-pub mod Reverted
+pub mod GoneBack
 pub mod Laid
 pub mod Front
 pub mod Quoted
 pub mod Joined
-pub mod Items
 pub mod Sound
 pub mod Complete
 pub mod Denoting

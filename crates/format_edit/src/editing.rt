@@ -243,8 +243,9 @@ fn from_group<'a>(part: &Part, from_part: &'a [Part], found: &'a [Part]) -> &'a 
     if is_group(part) { from_part } else { found }
 }
 
-/// What control goes back to: the parts from the last group on, or all where there is none.
-fn reverted(parts: &[Part]) -> &[Part]
+/// What control goes back to where parts are used up and values are left: those from the last group on, or all where there is none
+/// (ANSI X3.9-1978, 13.3).
+pub fn reverted(parts: &[Part]) -> &[Part]
     ensures { parts_of result.now ≡ reverted (parts_of parts.now) }
 {
     let mut found = parts;

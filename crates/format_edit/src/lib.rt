@@ -9,7 +9,7 @@ mod reading;
 mod records;
 mod sheet;
 
-pub use editing::edit;
+pub use editing::{edit, reverted};
 pub use fault::{EditFault, FormatFault};
 pub use format::{Descriptor, Format, Part};
 pub use laws::one_format;

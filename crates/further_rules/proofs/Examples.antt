@@ -1,7 +1,7 @@
 -- Worked examples: the pairs of a phase, as docs/LANGUAGE.md says them.
 use Rattle.std.proofs.Common.{◌≡◌, [], ◌∷◌, refl}
 use Rattle.std.specs.Prelude.{codes}
-use Rattle.meaning.specs.declared.refusal.Rule.TheVariants.{C4, C6, G1, G2, K3, K6, N2, N3}
+use Rattle.meaning.specs.declared.refusal.Rule.TheVariants.{C4, C6, G1, G2, K3, K6, K10, N2, N3}
 use Rattle.meaning.proofs.Examples.{all_definitions}
 use Rattle.further_rules.specs.Phases.{broken_pairs}
 
@@ -22,6 +22,16 @@ order = refl
 unit : broken_pairs (codes "      X=1\n      Y=2147483648\n      Z=2147483649\n      END\n") ≡ record { line = 1; rule = K3 } ∷ record { line = 2; rule = K6 } ∷ []
 unfolding all_definitions broken_pairs
 unit = refl
+
+-- a number that is too great is one of the constants of a DATA statement, and so has the right type
+great_in_data : broken_pairs (codes "      DATA I/-2147483648/\n      END\n") ≡ record { line = 1; rule = K6 } ∷ []
+unfolding all_definitions broken_pairs
+great_in_data = refl
+
+-- and may be one too many
+great_and_too_many : broken_pairs (codes "      DATA I/1,2147483648/\n      END\n") ≡ record { line = 1; rule = K6 } ∷ record { line = 1; rule = K10 } ∷ []
+unfolding all_definitions broken_pairs
+great_and_too_many = refl
 
 accepted : broken_pairs (codes "      I=1\n      END\n") ≡ []
 unfolding all_definitions broken_pairs

@@ -3,3 +3,4 @@ pub mod Phases
 pub mod Further
 pub mod Texts
 pub mod Parts
+pub mod Adding

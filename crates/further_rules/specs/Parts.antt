@@ -13,7 +13,7 @@ use Rattle.meaning.specs.Refusals.{least}
 use Rattle.meaning.specs.Surroundings.{in_body, told_in}
 use Rattle.meaning.specs.Syntax.{ItemTree}
 use Rattle.meaning.specs.Trees.{Members}
-use Rattle.meaning.specs.Uses.{Roles}
+use Rattle.meaning.specs.Uses.{Roles, roles_of}
 
 -- on what names and expressions are
 abbrev pub parts_of_names : Roles → List ItemTree → List (List Broken)
@@ -26,9 +26,15 @@ parts_of_functions r all =
     told (has_misuse r) K8 [] all ∷ told (breaks_function_rules r) K12 [] all ∷ told (has_unknown_function r) K13 [] all ∷ []
 
 -- on numbers, DATA statements and formats
+abbrev pub bad_data_pairs : Roles → List ItemTree → List Broken
+bad_data_pairs r all = told (has_bad_data r) K10 [] all
+
+abbrev pub bad_output_pairs : Roles → List ItemTree → List Broken
+bad_output_pairs r all = told (has_bad_output r all) K11 [] all
+
 abbrev pub parts_of_values : Roles → List ItemTree → List (List Broken)
 parts_of_values r all =
-    told (has_bad_number r) K6 [] all ∷ told (has_large_array r) K7 [] all ∷ told (has_bad_data r) K10 [] all ∷ told (has_bad_output r all) K11 [] all ∷ []
+    told (has_bad_number r) K6 [] all ∷ told (has_large_array r) K7 [] all ∷ bad_data_pairs r all ∷ bad_output_pairs r all ∷ []
 
 -- on transfers and the variables of loops
 abbrev pub parts_in_lists : Roles → List ItemTree → Members → List (List Broken)
@@ -42,3 +48,7 @@ parts_by r all ms =
 -- the least pair of each, where there is one
 abbrev pub leasts : List (List Broken) → List Broken
 leasts parts = flat_map (λ bs. option_to_list (least bs)) parts
+
+-- those of a program unit with these statements in these lists
+abbrev pub pairs_of_members : List ItemTree → Members → List Broken
+pairs_of_members all ms = leasts (parts_by (roles_of all) all ms)

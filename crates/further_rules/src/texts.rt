@@ -1,15 +1,13 @@
 //! What statements say, and each rule that their texts break.
 
-ghost use Rattle.std.specs.Prelude.{◌≡◌, ◌++◌, map, IfOk, OnOk, Result};
-ghost use Rattle.std.specs.Option.{option_to_list};
-ghost use Rattle.meaning.specs.declared.refusal.Broken.{Broken as Pair};
+ghost use Rattle.std.specs.Prelude.{◌≡◌, map, IfOk, OnOk};
 ghost use Rattle.meaning.specs.Answers.{member_of};
 ghost use Rattle.meaning.specs.Reports.{Gives};
 ghost use Rattle.meaning.specs.Statements.{entry_of};
-ghost use Rattle.meaning.specs.Syntax.{ItemTree};
 ghost use Rattle.meaning.specs.Trees.{item_tree};
-ghost use Rattle.further_rules.specs.Phases.{pairs_of_texts, refused_by};
-ghost use Rattle.further_rules.specs.Texts.{members_read, read_by};
+ghost use Rattle.further_rules.specs.Adding.{AddsBroken, AddsMember};
+ghost use Rattle.further_rules.specs.Phases.{pairs_of_texts};
+ghost use Rattle.further_rules.specs.Texts.{members_read};
 
 use lexer::bare;
 use meaning::refusal::{Broken, Refusal};
@@ -45,8 +43,8 @@ fn add_said(
     broken: &mut Vec<Broken>,
     said: Result<Item, Refusal>,
 ) -> Result<(), AllocError>
-    ensures members { (r : Result ItemTree Pair) → Gives item_tree said r → OnOk result (map item_tree members.new.items ≡ map item_tree members.old.items ++ option_to_list (read_by r)) }
-    ensures broken { (r : Result ItemTree Pair) → Gives item_tree said r → OnOk result (broken.new.items ≡ broken.old.items ++ option_to_list (refused_by r)) }
+    ensures members { OnOk result (AddsMember said members.old.items members.new.items) }
+    ensures broken { OnOk result (AddsBroken said broken.old.items broken.new.items) }
 {
     match said {
         Ok(member) => match members.push(member) {
@@ -66,7 +64,8 @@ fn add_said(
 
 /// What statements say.
 pub fn texts_in(alloc: Global, found: &[Statement]) -> Result<Texts, AllocError>
-    ensures members { IfOk result (λ t. map item_tree t.members.items ≡ members_read (map entry_of found.now)) }
+    ensures members { IfOk result (λ t.
+        map item_tree t.members.items ≡ members_read (map entry_of found.now)) }
     ensures broken { IfOk result (λ t. t.broken.items ≡ pairs_of_texts (map entry_of found.now)) }
 {
     let mut members = Vec::new(alloc);

@@ -1,17 +1,12 @@
 //! The least pair of each of the rules K that a program unit breaks (ANSI X3.9-1978, chapters 2 to 15).
 
-ghost use Rattle.std.specs.Prelude.{◌≡◌, ◌++◌, [], map, IfOk, OnOk};
+ghost use Rattle.std.specs.Prelude.{◌≡◌, ◌++◌, map, IfOk, OnOk};
 ghost use Rattle.std.specs.Option.{option_to_list};
-ghost use Rattle.meaning.specs.Initial.{has_bad_data};
-ghost use Rattle.meaning.specs.LabelRules.{has_bad_output};
-ghost use Rattle.meaning.specs.NameRules.{told};
-ghost use Rattle.meaning.specs.Refusals.{least};
 ghost use Rattle.meaning.specs.Trees.{members_tree, nested};
-ghost use Rattle.meaning.specs.Uses.{roles_of};
-ghost use Rattle.roles.specs.RolesAt.{roles_at};
 ghost use Rattle.rule_passes.specs.Listed.{tree_at};
+ghost use Rattle.further_rules.specs.Adding.{AddsLeasts, IsLeastOf, all_parts, by_roles, in_lists};
 ghost use Rattle.further_rules.specs.Ordered.{HaveSame};
-ghost use Rattle.further_rules.specs.Parts.{leasts, parts_by, parts_in_lists, parts_of_functions, parts_of_names, parts_of_values};
+ghost use Rattle.further_rules.specs.Parts.{bad_data_pairs, bad_output_pairs, leasts, pairs_of_members, parts_of_functions, parts_of_names, parts_of_values};
 ghost use Rattle.further_rules.specs.Phases.{pairs_of_unit};
 
 use data_rules::{Passed, given_by_data};
@@ -38,7 +33,7 @@ fn add(pairs: &mut Vec<Broken>, pair: Option<Broken>) -> Result<(), AllocError>
 
 /// Adds those of the rules on what names and expressions are.
 fn add_names(pairs: &mut Vec<Broken>, alloc: Global, roles: &Roles) -> Result<(), AllocError>
-    ensures { OnOk result (pairs.new.items ≡ pairs.old.items ++ leasts (parts_of_names (roles_at roles.now) (map tree_at roles.now.items.now))) }
+    ensures { OnOk result (AddsLeasts parts_of_names roles.now pairs.old.items pairs.new.items) }
 {
     let real = real_name(alloc, roles, roles.items)?;
     add(pairs, real)?;
@@ -50,7 +45,7 @@ fn add_names(pairs: &mut Vec<Broken>, alloc: Global, roles: &Roles) -> Result<()
 
 /// Adds those of the rules on subscripts, arguments and functions.
 fn add_functions(pairs: &mut Vec<Broken>, alloc: Global, roles: &Roles) -> Result<(), AllocError>
-    ensures { OnOk result (pairs.new.items ≡ pairs.old.items ++ leasts (parts_of_functions (roles_at roles.now) (map tree_at roles.now.items.now))) }
+    ensures { OnOk result (AddsLeasts parts_of_functions roles.now pairs.old.items pairs.new.items) }
 {
     let misused = misused_name(alloc, roles, roles.items)?;
     add(pairs, misused)?;
@@ -62,7 +57,7 @@ fn add_functions(pairs: &mut Vec<Broken>, alloc: Global, roles: &Roles) -> Resul
 
 /// That of the rule on DATA statements.
 fn bad_data(alloc: Global, roles: &Roles) -> Result<Option<Broken>, AllocError>
-    ensures { IfOk result (λ b. b ≡ least (told (has_bad_data (roles_at roles.now)) Rule.K10 [] (map tree_at roles.now.items.now))) }
+    ensures { IfOk result (IsLeastOf bad_data_pairs roles.now) }
 {
     let declared = declared_in(alloc, roles)?;
     match given_by_data(alloc, roles, &declared.arrays, roles.items, None) {
@@ -81,7 +76,7 @@ fn bad_data(alloc: Global, roles: &Roles) -> Result<Option<Broken>, AllocError>
 
 /// That of the rule on units and formats.
 fn bad_formats(alloc: Global, roles: &Roles) -> Result<Option<Broken>, AllocError>
-    ensures { IfOk result (λ b. b ≡ least (told (has_bad_output (roles_at roles.now) (map tree_at roles.now.items.now)) Rule.K11 [] (map tree_at roles.now.items.now))) }
+    ensures { IfOk result (IsLeastOf bad_output_pairs roles.now) }
 {
     let Output { broken, formats } = bad_output(alloc, roles)?;
     drop(formats);
@@ -90,7 +85,7 @@ fn bad_formats(alloc: Global, roles: &Roles) -> Result<Option<Broken>, AllocErro
 
 /// Adds those of the rules on numbers, DATA statements and formats.
 fn add_values(pairs: &mut Vec<Broken>, alloc: Global, roles: &Roles) -> Result<(), AllocError>
-    ensures { OnOk result (pairs.new.items ≡ pairs.old.items ++ leasts (parts_of_values (roles_at roles.now) (map tree_at roles.now.items.now))) }
+    ensures { OnOk result (AddsLeasts parts_of_values roles.now pairs.old.items pairs.new.items) }
 {
     let number = bad_number(alloc, roles, roles.items)?;
     add(pairs, number)?;
@@ -109,7 +104,7 @@ fn add_in_lists(
     roles: &Roles,
     members: &[Member],
 ) -> Result<(), AllocError>
-    ensures { OnOk result (pairs.new.items ≡ pairs.old.items ++ leasts (parts_in_lists (roles_at roles.now) (map tree_at roles.now.items.now) (members_tree members.now))) }
+    ensures { OnOk result (AddsLeasts (in_lists members.now) roles.now pairs.old.items pairs.new.items) }
 {
     let missed = missed_label(alloc, roles, roles.items, members)?;
     let misused = misused_variable(alloc, roles, members)?;
@@ -119,7 +114,7 @@ fn add_in_lists(
 
 /// The least pair of each rule that a program unit breaks, by what is known of its names.
 fn pairs_in(alloc: Global, roles: &Roles, members: &[Member]) -> Result<Vec<Broken>, AllocError>
-    ensures { IfOk result (λ v. v.items ≡ leasts (parts_by (roles_at roles.now) (map tree_at roles.now.items.now) (members_tree members.now))) }
+    ensures { IfOk result (λ v. v.items ≡ leasts (by_roles (all_parts members.now) roles.now)) }
 {
     let repeated = repeated_label(alloc, roles.items)?;
     let mut pairs = Vec::new(alloc);
@@ -133,7 +128,7 @@ fn pairs_in(alloc: Global, roles: &Roles, members: &[Member]) -> Result<Vec<Brok
 
 /// The least pair of each rule that a program unit with these statements breaks.
 fn pairs_by(alloc: Global, items: &[&Item], members: &[Member]) -> Result<Vec<Broken>, AllocError>
-    ensures { IfOk result (λ v. v.items ≡ leasts (parts_by (roles_of (map tree_at items.now)) (map tree_at items.now) (members_tree members.now))) }
+    ensures { IfOk result (λ v. v.items ≡ pairs_of_members (map tree_at items.now) (members_tree members.now)) }
 {
     let roles = Roles::new(alloc, &*items)?;
     pairs_in(alloc, &roles, members)

@@ -24,3 +24,4 @@ mod TurnExamples
 pub mod Doubled
 pub mod Repeats
 pub mod FirstBroken
+pub mod Capped

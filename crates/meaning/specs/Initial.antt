@@ -1,5 +1,5 @@
 -- DATA statements: the variables and elements that they give values, and the rule K10 (ANSI X3.9-1978, chapter 9).
-use Rattle.std.specs.Prelude.{ℕ, suc, ℤ, pos, Bool, true, false, ◌&&◌, ◌||◌, List, [], ◌∷◌, ◌++◌, map, is_some, is_none, replicate, if◌then◌else◌, Option, Some, None}
+use Rattle.std.specs.Prelude.{ℕ, suc, ℤ, pos, Bool, true, false, ◌&&◌, ◌||◌, List, [], ◌∷◌, ◌++◌, map, is_some, is_none, min, replicate, if◌then◌else◌, Option, Some, None}
 use Rattle.std.specs.List.{list_any, fold}
 use Rattle.std.specs.Ordering.{int_eq}
 use Rattle.std.specs.Str.{bytes_eq}
@@ -110,8 +110,12 @@ abbrev pub sign_value : Option Sign → ℤ → ℤ
 sign_value None z = z
 sign_value (Some s) z = with_sign s z
 
+-- a number above 2147483647, which K6 refuses at the same line, counts as 2147483647 here (own)
+abbrev pub number_given : List ℕ → ℤ
+number_given digits = pos (min (number_of digits) 2147483647)
+
 abbrev pub data_value : Known → DataConstantTree → Option Value
-data_value known (data_number sign digits) = Some (values.Int (sign_value sign (pos (number_of digits))))
+data_value known (data_number sign digits) = Some (values.Int (sign_value sign (number_given digits)))
 data_value known (data_truth b) = Some (values.Bool b)
 data_value known (data_name n) = known n
 
@@ -122,7 +126,7 @@ count_if v = None
 
 abbrev pub repeat_value : Known → Option RepeatTree → Option ℕ
 repeat_value known None = Some 1
-repeat_value known (Some (repeat_number digits)) = count_if (Some (values.Int (pos (number_of digits))))
+repeat_value known (Some (repeat_number digits)) = count_if (Some (values.Int (number_given digits)))
 repeat_value known (Some (repeat_name n)) = count_if (known n)
 
 abbrev pub repeated : Known → DataValueTree → Option (List Value)

@@ -9,5 +9,5 @@ use Rattle.data_rules.proofs.data_values.is_used_up.Goals as goal
 pub returns : goal.returns
 returns c =
     let v = c.fill_run.new.values in
-    used_up v.run.count v.run.value (values_of (known_at v.table.now) (map data_value_tree v.rest.now)) c.in_ok-fill_run.ensures.empty
-    ∙ ap is_empty_list c.in_ok-fill_run.ensures.left
+    used_up v.run.count v.run.value (values_of (known_at v.table.now) (map data_value_tree v.rest.now)) c.fill_run.ensures.empty
+    ∙ ap is_empty_list c.fill_run.ensures.left

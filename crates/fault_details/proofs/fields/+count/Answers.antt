@@ -2,7 +2,7 @@ use Rattle.std.proofs.Common.{◌+◌, ◌-◌, ◌^◌, min, drop, length, sym,
 use Rattle.meaning.specs.Records.{unrolled, pass}
 use Rattle.format_edit.specs.Formatted.{descriptor_of, part_of, parts_of}
 use Rattle.format_edit.proofs.Parts.{group_is, left_more, left_none}
-use Rattle.format_edit.proofs.Items.{sum_more, product_is}
+use Rattle.meaning.proofs.Capped.{sum_more, product_is}
 use Rattle.fault_details.specs.Fields.{fields}
 use Rattle.fault_details.proofs.Taken.{single_count, times_count, pass_count}
 use Rattle.fault_details.proofs.fields.+count.Goals as goal

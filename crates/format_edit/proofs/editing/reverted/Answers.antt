@@ -1,4 +1,4 @@
-use Rattle.format_edit.proofs.Reverted.{reverted_more}
+use Rattle.format_edit.proofs.GoneBack.{reverted_more}
 use Rattle.format_edit.proofs.editing.reverted.Goals as goal
 
 pub loop-part-preserved : goal.loop-part-preserved

@@ -2,7 +2,7 @@ use Rattle.std.proofs.Common.{◌+◌, ◌-◌, ◌^◌, min, drop, sym, ap, ◌
 use Rattle.meaning.specs.Formats.{items_of, items}
 use Rattle.format_edit.specs.Formatted.{part_of, parts_of}
 use Rattle.format_edit.proofs.Parts.{group_is, left_more, left_none}
-use Rattle.format_edit.proofs.Items.{sum_more, product_is}
+use Rattle.meaning.proofs.Capped.{sum_more, product_is}
 use Rattle.format_edit.proofs.reading.+items.Goals as goal
 
 pub items-loop-part-init : goal.items-loop-part-init

@@ -1,0 +1,44 @@
+-- What is added to what was found before.
+use Rattle.std.specs.Prelude.{◌≡◌, ◌++◌, List, map, Option, Result}
+use Rattle.std.specs.Option.{option_to_list}
+use Rattle.meaning.specs.declared.refusal.Broken.{Broken}
+use Rattle.meaning.specs.declared.refusal.Refusal.{Refusal}
+use Rattle.meaning.specs.declared.syntax.Item.{Item}
+use Rattle.meaning.specs.Refusals.{least}
+use Rattle.meaning.specs.Reports.{Gives}
+use Rattle.meaning.specs.Syntax.{ItemTree}
+use Rattle.meaning.specs.declared.syntax.Member.{Member}
+use Rattle.meaning.specs.Trees.{item_tree, members_tree}
+use Rattle.meaning.specs.Uses.{Roles}
+use Rattle.roles.specs.declared.names.Roles.{Roles as Known}
+use Rattle.roles.specs.RolesAt.{roles_at}
+use Rattle.rule_passes.specs.Listed.{tree_at}
+use Rattle.further_rules.specs.Parts.{leasts, parts_by, parts_in_lists}
+use Rattle.further_rules.specs.Phases.{refused_by}
+use Rattle.further_rules.specs.Texts.{read_by}
+
+-- what one statement says, or what its text breaks, comes behind what was there before
+abbrev pub AddsMember : Result Item Refusal → List Item → List Item → Type 0
+AddsMember said old new = (r : Result ItemTree Broken) → Gives item_tree said r → map item_tree new ≡ map item_tree old ++ option_to_list (read_by r)
+
+abbrev pub AddsBroken : Result Item Refusal → List Broken → List Broken → Type 0
+AddsBroken said old new = (r : Result ItemTree Broken) → Gives item_tree said r → new ≡ old ++ option_to_list (refused_by r)
+
+-- the statements of a program unit, and what its names are, as they are known
+abbrev pub by_roles : {A : Type 0} → (Roles → List ItemTree → A) → Known → A
+by_roles f r = f (roles_at r) (map tree_at r.items.now)
+
+-- the least pair of each of these rules, where there is one, comes behind the pairs before
+abbrev pub AddsLeasts : (Roles → List ItemTree → List (List Broken)) → Known → List Broken → List Broken → Type 0
+AddsLeasts parts r old new = new ≡ old ++ leasts (by_roles parts r)
+
+-- the least pair of one rule, if it is broken
+abbrev pub IsLeastOf : (Roles → List ItemTree → List Broken) → Known → Option Broken → Type 0
+IsLeastOf pairs r b = b ≡ least (by_roles pairs r)
+
+-- the rules on these lists, and all of them
+abbrev pub in_lists : List Member → Roles → List ItemTree → List (List Broken)
+in_lists members r all = parts_in_lists r all (members_tree members)
+
+abbrev pub all_parts : List Member → Roles → List ItemTree → List (List Broken)
+all_parts members r all = parts_by r all (members_tree members)
