@@ -1,7 +1,14 @@
 -- Each of the rules K10 to K13 broken, and near misses.
-use Rattle.std.proofs.Common.{◌≡◌, Some, None, refl}
+use Rattle.std.proofs.Common.{◌≡◌, List, ℕ, [], ◌∷◌, Result, Ok, Err, Some, None, refl}
 use Rattle.std.specs.Prelude.{codes}
-use Rattle.meaning.specs.declared.refusal.Rule.TheVariants.{K10, K11, K12, K13}
+use Rattle.meaning.specs.declared.refusal.Broken.{Broken}
+use Rattle.meaning.specs.declared.refusal.Rule.TheVariants.{K5, K6, K7, K10, K11, K12, K13}
+use Rattle.meaning.specs.Refusals.{◌>>=◌}
+use Rattle.meaning.specs.Answers.{members_of}
+use Rattle.meaning.specs.Statements.{statements_of}
+use Rattle.meaning.specs.Nesting.{nest}
+use Rattle.meaning.specs.Rules.{broken_rules}
+use Rattle.meaning.specs.Trees.{Nested}
 use Rattle.meaning.proofs.RuleExamples.{judged, broken}
 use Rattle.meaning.proofs.Examples.{all_definitions}
 
@@ -169,3 +176,48 @@ declared_function = refl
 called_function : judged (codes "      I=J()\n      END\n") ≡ Some (broken K13 1)
 unfolding all_definitions
 called_function = refl
+
+-- ---- what has no value breaks no further rule
+
+abbrev rules_of : Result Nested Broken → List Broken
+rules_of (Ok t) = broken_rules t
+rules_of (Err b) = b ∷ []
+
+-- all pairs of a program unit
+abbrev all_judged : List ℕ → List Broken
+all_judged source = rules_of (statements_of source >>= λ entries. members_of entries >>= λ members. nest members)
+
+-- a bound that is no constant
+variable_bound : all_judged (codes "      INTEGER A(N)\n      END\n") ≡ broken K6 1 ∷ []
+unfolding all_definitions
+variable_bound = refl
+
+-- one that faults
+faulty_bound : all_judged (codes "      INTEGER A(1/0)\n      END\n") ≡ broken K6 1 ∷ []
+unfolding all_definitions
+faulty_bound = refl
+
+-- one that is no INTEGER
+logical_bound : all_judged (codes "      INTEGER A(.FALSE.)\n      END\n") ≡ broken K5 1 ∷ []
+unfolding all_definitions
+logical_bound = refl
+
+-- a constant without a value, in DATA
+constant_without_value : all_judged (codes "      PARAMETER (N=1/0)\n      DATA I/N/\n      END\n") ≡ broken K6 1 ∷ []
+unfolding all_definitions
+constant_without_value = refl
+
+-- and in a bound
+bound_without_value : all_judged (codes "      PARAMETER (N=1/0)\n      INTEGER A(N-2)\n      END\n") ≡ broken K6 1 ∷ (broken K6 2 ∷ [])
+unfolding all_definitions
+bound_without_value = refl
+
+-- an array without a size
+array_without_size : all_judged (codes "      INTEGER A(0:N)\n      DATA A/3*1/\n      END\n") ≡ broken K6 1 ∷ []
+unfolding all_definitions
+array_without_size = refl
+
+-- an array and a list with values of their own break theirs
+size_of_its_own : all_judged (codes "      INTEGER A(N),B(1:0)\n      DATA I/1,2/\n      END\n") ≡ broken K6 1 ∷ (broken K7 1 ∷ (broken K10 2 ∷ []))
+unfolding all_definitions
+size_of_its_own = refl

@@ -1,6 +1,8 @@
 -- The rules on constants and on the sizes of arrays: K6 and K7 (ANSI X3.9-1978, 4.3, 5.1.1 and 8.6).
-use Rattle.std.specs.Prelude.{ℕ, ◌+◌, int_lt, Bool, false, ◌&&◌, ◌||◌, nat_lt, length, List, [], ◌∷◌, ◌++◌, map, flat_map, sum_by, is_some, is_none, if◌then◌else◌}
-use Rattle.std.specs.List.{list_any}
+use Rattle.std.specs.Prelude.{ℕ, ◌+◌, int_lt, Bool, true, false, not, ◌&&◌, ◌||◌, nat_lt, length, List, [], ◌∷◌, ◌++◌, map, flat_map, sum_by, is_some, is_none, if◌then◌else◌, Option, Some, None}
+use Rattle.std.specs.List.{list_any, filter}
+use Rattle.meaning.specs.declared.ending.Value.{Value}
+use Rattle.meaning.specs.declared.ending.Value.TheVariants as values
 use Rattle.meaning.specs.Characters.{number_of}
 use Rattle.meaning.specs.Syntax.{ExprTree, number, truth, name, signed, negated, binary, paren, element, call, ExprsTree, no_exprs, exprs, DeclaratorTree, ConstantTree, DataConstantTree, data_number, data_truth, data_name, RepeatTree, repeat_number, repeat_name, DataValueTree, ShapeTree, initializing, ItemTree}
 use Rattle.meaning.specs.Arrays.{Dimension, size}
@@ -78,7 +80,32 @@ has_bad_number r before x =
     || (is_bad_constant r.names.types (known_behind_all r before) (constants_in x.shape)
     || has_bad_bound r.names.types (known_behind_all r before) (declarators_in x.shape))
 
--- ---- K7: more than seven dimensions, a lower bound above the upper one, or more than 16,777,216 elements (own)
+-- ---- bounds without a value
+
+abbrev pub is_integer : Option Value → Bool
+is_integer (Some (values.Int z)) = true
+is_integer (Some (values.Bool b)) = false
+is_integer None = false
+
+-- a bound that is no INTEGER constant breaks another rule at its line
+abbrev pub is_no_integer : Types → Known → ExprTree → Bool
+is_no_integer types known e = is_no_constant types known e || not (is_integer (constant_value types known e))
+
+abbrev pub lacks_bound : Types → Known → DeclaratorTree → Bool
+lacks_bound types known d =
+    list_any (is_no_integer types known) (flat_map (λ b. map (λ x. x.expr) (in_bounds b)) d.bounds)
+
+-- the arrays that statements declare with such a bound
+abbrev pub unsized_at : Roles → List ItemTree → ItemTree → List (List ℕ)
+unsized_at r before x =
+    map (λ d. d.name) (filter (lacks_bound r.names.types (known_behind_all r before)) (declarators_in x.shape))
+
+unfoldable pub unsized_in : Roles → List ItemTree → List ItemTree → List (List ℕ)
+unsized_in r before [] = []
+unsized_in r before (x ∷ xs) = unsized_at r before x ++ unsized_in r (before ++ x ∷ []) xs
+
+-- ---- K7: more than seven dimensions, a lower bound above the upper one, or more than 16,777,216 elements (own); an array
+-- without a bound's value has no bounds to compare, and counts no elements
 
 abbrev pub is_reversed : Dimension → Bool
 is_reversed d = int_lt d.upper d.lower
@@ -87,13 +114,14 @@ abbrev pub dimensions_by : Types → Known → DeclaratorTree → List Dimension
 dimensions_by types known d = map (dimension_of types known) d.bounds
 
 abbrev pub elements_of : Types → Known → DeclaratorTree → ℕ
-elements_of types known d = if nat_lt 0 (length d.bounds) then size (dimensions_by types known d) else 0
+elements_of types known d =
+    if nat_lt 0 (length d.bounds) && not (lacks_bound types known d) then size (dimensions_by types known d) else 0
 
 abbrev pub is_too_large : Types → Known → ℕ → DeclaratorTree → Bool
 is_too_large types known before d =
     nat_lt 7 (length d.bounds)
-    || (list_any is_reversed (dimensions_by types known d)
-    || (nat_lt 0 (length d.bounds) && nat_lt 16777216 (before + elements_of types known d)))
+    || (not (lacks_bound types known d) && (list_any is_reversed (dimensions_by types known d)
+    || (nat_lt 0 (length d.bounds) && nat_lt 16777216 (before + elements_of types known d))))
 
 abbrev pub have_too_large : Types → Known → ℕ → List DeclaratorTree → Bool
 have_too_large types known before [] = false

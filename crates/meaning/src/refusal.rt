@@ -32,8 +32,9 @@ pub enum Rule {
     G2,
     /// More than 64 parentheses open at once.
     G3,
-    /// A statement that may not stand behind one that was read: PROGRAM behind any, IMPLICIT, PARAMETER, a type statement or
-    /// DIMENSION behind an executable statement, or IMPLICIT behind a type statement or DIMENSION.
+    /// A statement that may not stand behind one that was read: PROGRAM behind any; IMPLICIT, PARAMETER, a type statement or
+    /// DIMENSION behind a DATA statement, a statement function's or an executable one, END included; or IMPLICIT behind a type
+    /// statement or DIMENSION.
     N1,
     /// The END statement is missing, or a statement follows it.
     N2,
@@ -47,27 +48,29 @@ pub enum Rule {
     K1,
     /// A transfer to a label that no statement has, or that none may be reached by.
     K2,
-    /// A variable of type REAL.
+    /// A variable, array, constant, statement function or dummy argument of type REAL, or, under IMPLICIT NONE, of no type.
     K3,
-    /// A name that is given a type or bounds twice, or that is a variable and a function.
+    /// A name that is given a type, bounds, a value or an expression twice, or that is used as what it isn't; a letter in two
+    /// IMPLICIT ranges; IMPLICIT NONE beside another IMPLICIT statement.
     K4,
     /// An expression of the wrong type.
     K5,
-    /// An integer constant outside the range of INTEGER.
+    /// An integer constant outside the range of INTEGER; a PARAMETER value or a bound that is no constant expression, or faults.
     K6,
     /// Too many dimensions or elements, or a lower bound above the upper one.
     K7,
-    /// A wrong number of subscripts, or an array without subscripts.
+    /// A wrong number of subscripts or arguments, or an array without subscripts where it has to have them.
     K8,
-    /// A statement that sets the variable of a DO around it.
+    /// A DO variable that is no INTEGER variable, or a statement that sets that of a DO or implied DO around it.
     K9,
     /// A DATA statement whose items and values don't fit.
     K10,
     /// A unit, a format label or a format that isn't allowed.
     K11,
-    /// An assignment to an element of what is no array.
+    /// An assignment to an element of what is no array, which is no statement function's there; a statement function that uses
+    /// itself or a later one, or has dummies that aren't distinct names, too many of them, too many levels or too many parts.
     K12,
-    /// A use of a function.
+    /// A reference to a function that is neither a statement function nor intrinsic.
     K13,
 }
 
