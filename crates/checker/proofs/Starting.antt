@@ -17,7 +17,7 @@ use Rattle.std.proofs.lemmas.Slice.Eq.{bytes_eq-Decides}
 use Rattle.indexmap.specs.IndexMap.{IndexMap}
 use Rattle.meaning.specs.declared.ending.Value.{Value}
 use Rattle.meaning.specs.Arrays.{cells_of, place}
-use Rattle.meaning.specs.Initial.{Start, same_target, starts_from, starts_at, starts_or_none, sets_of, target}
+use Rattle.meaning.specs.Initial.{Start, same_target, starts_from, starts_at, starts_or_none, sets_at, target}
 use Rattle.meaning.specs.Maps.{Map, put, start}
 use Rattle.meaning.specs.NumberRules.{known_behind_all}
 use Rattle.meaning.specs.Stores.{known, overlay}
@@ -55,7 +55,7 @@ unfolding starts_from
 all_placed r before [] = tt
 all_placed r before (x ∷ xs) =
     each_both r.names (starts_or_none (starts_at r before x)) (starts_from r (before ++ x ∷ []) xs)
-    (or_none_placed r.names (starts_at r before x) (sets_placed r (known_behind_all r before) (sets_of x.shape)))
+    (or_none_placed r.names (starts_at r before x) (sets_placed r (known_behind_all r before) (sets_at r before x)))
     (all_placed r (before ++ x ∷ []) xs)
 
 -- ---- the map of what was given

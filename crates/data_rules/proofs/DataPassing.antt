@@ -3,7 +3,7 @@ use Rattle.std.proofs.Common.{◌≡◌, ℕ, Bool, true, false, List, [], ◌�
 use Rattle.std.specs.Prelude.{if◌then◌else◌, is_some}
 use Rattle.meaning.specs.declared.refusal.Broken.{Broken}
 use Rattle.meaning.specs.declared.refusal.Rule.TheVariants.{K10}
-use Rattle.meaning.specs.Initial.{has_bad_data, sets_of}
+use Rattle.meaning.specs.Initial.{has_bad_data, sets_at}
 use Rattle.meaning.specs.NameRules.{told}
 use Rattle.meaning.specs.NumberRules.{known_behind_all}
 use Rattle.meaning.specs.Refusals.{least, merge}
@@ -61,7 +61,7 @@ module _ (r : Roles) (others : Option Broken) (before : List ItemTree) (x : Item
       filled : IsFilledBy r before (stage_by f)
       filled = has_filled r others before p h f some
 
-      pub fitting : (more : Filling) → Some (stage_by more) ≡ fill_sets r (known_behind_all r before) (sets_of x.shape) (stage_by f) → IsPassed r others (before ++ x ∷ []) (record { broken = p.broken; filling = Some more })
+      pub fitting : (more : Filling) → Some (stage_by more) ≡ fill_sets r (known_behind_all r before) (sets_at r before x) (stage_by f) → IsPassed r others (before ++ x ∷ []) (record { broken = p.broken; filling = Some more })
       fitting more is =
           let good = good_data r before x (stage_by f) filled (stage_by more) is in
           record {
@@ -69,7 +69,7 @@ module _ (r : Roles) (others : Option Broken) (before : List ItemTree) (x : Item
             filling = good.1;
           }
 
-      pub unfitting : comes_first x.line p.broken ≡ true → None ≡ fill_sets r (known_behind_all r before) (sets_of x.shape) (stage_by f) → IsPassed r others (before ++ x ∷ []) (record { broken = Some (at_line x.line); filling = None })
+      pub unfitting : comes_first x.line p.broken ≡ true → None ≡ fill_sets r (known_behind_all r before) (sets_at r before x) (stage_by f) → IsPassed r others (before ++ x ∷ []) (record { broken = Some (at_line x.line); filling = None })
       unfitting first none =
           let bad = bad_data r before x (stage_by f) filled none in
           record {

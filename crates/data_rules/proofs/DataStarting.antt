@@ -16,7 +16,7 @@ use Rattle.meaning.specs.Typing.{Names}
 use Rattle.meaning.specs.Uses.{Roles}
 use Rattle.meaning.specs.Values.{dimensions_in}
 use Rattle.meaning.specs.NumberRules.{known_behind_all}
-use Rattle.meaning.specs.Initial.{Start, and_also, given_twice, has_bad_data, same_target, sets_of, starts_at, starts_from, starts_or_none}
+use Rattle.meaning.specs.Initial.{Start, and_also, given_twice, has_bad_data, same_target, sets_at, starts_at, starts_from, starts_or_none}
 use Rattle.meaning.proofs.Elements.{one_to_one}
 use Rattle.data_rules.specs.DataSets.{Agrees, HasPlace, IsFilledBy, fill_sets, given_behind, given_by, nothing, place_at, place_of}
 use Rattle.data_rules.specs.DataStages.{Found, Stage, with_found}
@@ -143,11 +143,11 @@ module _ (r : Roles) where
     abbrev behind : Stage
     behind = stage_behind r.names here s.given
 
-    statement_filled : IsFilledBy r before s → fill_sets r (known_behind_all r before) (sets_of x.shape) s ≡ (if has_bad_data r before x then None else Some behind)
+    statement_filled : IsFilledBy r before s → fill_sets r (known_behind_all r before) (sets_at r before x) s ≡ (if has_bad_data r before x then None else Some behind)
     statement_filled h =
-        ap (λ os. fill_sets r (known_behind_all r before) (sets_of x.shape) (stage s.given os)) h.values
-        ∙ sets_filled r (known_behind_all r before) (sets_of x.shape) s.given
-        ∙ by_starts (starts_at r before x) (sets_placed r (known_behind_all r before) (sets_of x.shape))
+        ap (λ os. fill_sets r (known_behind_all r before) (sets_at r before x) (stage s.given os)) h.values
+        ∙ sets_filled r (known_behind_all r before) (sets_at r before x) s.given
+        ∙ by_starts (starts_at r before x) (sets_placed r (known_behind_all r before) (sets_at r before x))
       where
         by_starts : (o : Option (List Start)) → IfEach (λ u. HasPlace r.names u.target) o → and_also o (λ ss. accept r.names ss s.given) ≡ (if is_none o || given_twice (starts_from r [] before) (starts_or_none o) then None else Some (stage_behind r.names (starts_or_none o) s.given))
         by_starts None placed = refl
@@ -162,7 +162,7 @@ module _ (r : Roles) where
       marked =
           subst (Agrees r.names behind.given) (sym (starts_push before x))
           (agrees_behind r.names here (starts_from r [] before) s.given h.marked
-          (starts_placed (starts_at r before x) (sets_placed r (known_behind_all r before) (sets_of x.shape))));
+          (starts_placed (starts_at r before x) (sets_placed r (known_behind_all r before) (sets_at r before x))));
       given =
           ap (given_behind r.names here) h.given ∙ sym (given_append r.names (starts_from r [] before) here nothing)
           ∙ ap (given_by r.names) (sym (starts_push before x));
@@ -170,14 +170,14 @@ module _ (r : Roles) where
     }
 
     -- what the sets of a statement come to
-    pub bad_data : IsFilledBy r before s → None ≡ fill_sets r (known_behind_all r before) (sets_of x.shape) s → has_bad_data r before x ≡ true
+    pub bad_data : IsFilledBy r before s → None ≡ fill_sets r (known_behind_all r before) (sets_at r before x) s → has_bad_data r before x ≡ true
     bad_data h none = by_test (has_bad_data r before x) (none ∙ statement_filled h)
       where
         by_test : (b : Bool) → None ≡ (if b then None else Some behind) → b ≡ true
         by_test true e = refl
         by_test false e = absurd cc
 
-    pub good_data : IsFilledBy r before s → (next : Stage) → Some next ≡ fill_sets r (known_behind_all r before) (sets_of x.shape) s → (has_bad_data r before x ≡ false) × IsFilledBy r (before ++ x ∷ []) next
+    pub good_data : IsFilledBy r before s → (next : Stage) → Some next ≡ fill_sets r (known_behind_all r before) (sets_at r before x) s → (has_bad_data r before x ≡ false) × IsFilledBy r (before ++ x ∷ []) next
     good_data h next some = by_test (has_bad_data r before x) (some ∙ statement_filled h)
       where
         by_test : (b : Bool) → Some next ≡ (if b then None else Some behind) → (b ≡ false) × IsFilledBy r (before ++ x ∷ []) next

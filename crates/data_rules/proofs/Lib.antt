@@ -8,3 +8,4 @@ pub mod DataPairing
 pub mod DataStarting
 pub mod DataSetsMore
 pub mod DataPassing
+pub mod Sizeless

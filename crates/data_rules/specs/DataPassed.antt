@@ -4,6 +4,7 @@ use Rattle.meaning.specs.declared.refusal.Broken.{Broken}
 use Rattle.meaning.specs.declared.refusal.Rule.TheVariants.{K10}
 use Rattle.meaning.specs.Initial.{has_bad_data}
 use Rattle.meaning.specs.NameRules.{told}
+use Rattle.meaning.specs.NumberRules.{sizeless_in}
 use Rattle.meaning.specs.Refusals.{is_less, least, merge}
 use Rattle.meaning.specs.Syntax.{ItemTree}
 use Rattle.meaning.specs.Uses.{Roles}
@@ -28,7 +29,7 @@ pub record IsPassed (r : Roles) (others : Option Broken) (before : List ItemTree
   pub broken : p.broken ≡ merge others (least (told (has_bad_data r) K10 [] before))
   pub filling : IsFilledOr r before (is_some p.broken) p.filling
 
--- a statement is passed behind others
-abbrev pub GoesOn : Table → ItemTree → Passed → Passed → Type 0
-GoesOn t x p q =
-    (others : Option Broken) (before : List ItemTree) → IsBehind t before → IsPassed (roles_at t.roles.now) others before p → IsPassed (roles_at t.roles.now) others (before ++ x ∷ []) q
+-- a statement is passed behind others, among which these arrays have no size
+abbrev pub GoesOn : Table → List (List ℕ) → ItemTree → Passed → Passed → Type 0
+GoesOn t sizeless x p q =
+    (others : Option Broken) (before : List ItemTree) → IsBehind t before → sizeless ≡ sizeless_in (roles_at t.roles.now) [] before → IsPassed (roles_at t.roles.now) others before p → IsPassed (roles_at t.roles.now) others (before ++ x ∷ []) q

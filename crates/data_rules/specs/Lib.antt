@@ -11,3 +11,4 @@ pub mod DataItems
 pub mod DataSets
 pub mod DataTargets
 pub mod DataPassed
+pub mod Lacking

@@ -6,6 +6,7 @@ mod data_values;
 mod elements;
 mod filling;
 mod giving;
+mod lacking;
 mod starting;
 mod trips;
 

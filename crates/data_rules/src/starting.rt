@@ -11,17 +11,19 @@ ghost use Rattle.declarations.specs.ArraysKept.{AreArrays};
 ghost use Rattle.data_rules.specs.DataGiving.{roles_in};
 ghost use Rattle.data_rules.specs.DataSets.{FillsSet, FillsSets};
 ghost use Rattle.data_rules.specs.DataTargets.{FillsList};
+ghost use Rattle.data_rules.specs.Lacking.{names_kept, sets_counted};
 
 use crate::data_lists::give_items;
 use crate::data_values::{is_used_up, values_in};
 use crate::filling::Filling;
 use crate::giving::Giving;
+use crate::lacking::{Known, add_sizeless, lack_value};
 use declarations::{Table, pass_constants, scope_of, table_of};
 use expressions::Dimensions;
 use indexmap::IndexMap;
 use meaning::refusal::{Broken, Rule};
 use meaning::syntax::{DataSet, Item, ListItems, Shape};
-use roles::Roles;
+use roles::{Roles, declarators_in};
 use std::alloc::{AllocError, Global};
 
 /// Gives a list the values of its set; false where an item doesn't get its value, or a value is left over.
@@ -110,6 +112,17 @@ fn sets_in(shape: &Shape) -> &[DataSet]
     }
 }
 
+/// The sets of a DATA statement that count: none where a constant among them has no value, or an array no size.
+fn counted_sets<'a>(known: &Known, shape: &'a Shape) -> &'a [DataSet]
+    ensures { map data_set_tree result.now ≡ sets_counted known.now (shape_tree shape.now) }
+{
+    let sets = sets_in(shape);
+    if lack_value(known, sets) {
+        return &[];
+    }
+    sets
+}
+
 /// Whether a DATA statement at a line would break its rule before others are broken.
 fn is_first(line: u32, others: Option<Broken>) -> bool
     ensures { result ≡ comes_first line others }
@@ -138,11 +151,13 @@ fn pass_data<'a>(
     passed: Passed,
     alloc: Global,
     table: &'a Table<'a>,
+    sizeless: &[&[u8]],
     arrays: &IndexMap<Vec<u8>, Dimensions>,
     item: &'a Item,
 ) -> Result<Passed, AllocError>
     requires { AreArrays (roles_at table.now.roles.now) arrays.now }
-    ensures { IfOk result (λ p. GoesOn table.now (item_tree item.entry.now) passed p) }
+    ensures { IfOk result (λ p.
+        GoesOn table.now (names_kept sizeless.now) (item_tree item.entry.now) passed p) }
 {
     let Passed { broken, filling } = passed;
     if !is_first(item.line, broken) {
@@ -155,7 +170,8 @@ fn pass_data<'a>(
     match filling {
         None => Err(AllocError),
         Some(so_far) => {
-            let sets = sets_in(&*item.form.shape);
+            let known = Known { table, sizeless };
+            let sets = counted_sets(&known, &*item.form.shape);
             match give_sets(so_far, alloc, table, arrays, sets)? {
                 Some(more) => Ok(Passed {
                     broken,
@@ -185,13 +201,15 @@ pub fn given_by_data(
     ensures { IfOk result (λ p. IsPassed (roles_at roles.now) others (map tree_at items.now) p) }
 {
     let mut table = table_of(alloc, roles);
+    let mut sizeless = Vec::new(alloc);
     let given = IndexMap::new(alloc);
     let mut passed = Passed {
         broken: others,
         filling: Some(Filling { given }),
     };
     for &item in items {
-        passed = pass_data(passed, alloc, &table, arrays, item)?;
+        passed = pass_data(passed, alloc, &table, &sizeless, arrays, item)?;
+        add_sizeless(&mut sizeless, &table, declarators_in(&*item.form.shape))?;
         pass_constants(&mut table, alloc, item)?;
     }
     Ok(passed)

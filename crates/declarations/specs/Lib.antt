@@ -3,3 +3,4 @@ pub mod KnownNames
 pub mod Tables
 pub mod Dimensioned
 pub mod Unknown
+pub mod Bounded

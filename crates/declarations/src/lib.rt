@@ -3,10 +3,12 @@
 #![tactic(auto)]
 
 mod arrays;
+mod bounds;
 mod known;
 mod unknown;
 
 pub use arrays::{Declared, declared_in, dimension_of};
+pub use bounds::lacks_bound;
 pub use known::{
     Own, Scope, Table, enter_name, leave_name, pass_constants, scope_of, table_of, value_of,
 };

@@ -35,6 +35,9 @@ pub fn run<R: Threads + Wait + Sync, S: Sink, G: Gate + Sync>(
         (S.told sink.old) (S.told sink.new) result }
     ensures refused { (result.ending ≡ Ending.WriteRefused) ↔ ((S.told sink.new).refused ≡ true) }
 {
+    if plan.workers() < 2 {
+        return run_in_order(alloc, source, plan, sink);
+    }
     run_watched(rt, alloc, source, plan, sink, gate, &Unwatched)
 }
 

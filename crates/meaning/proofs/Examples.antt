@@ -22,7 +22,7 @@ use Rattle.meaning.specs.Rules.{checked}
 use Rattle.meaning.specs.Scopes.{arrays_from, definitions_of, calls_by}
 use Rattle.meaning.specs.Uses.{parts_from}
 use Rattle.meaning.specs.NameRules.{told, given_from, level_by, nodes_by}
-use Rattle.meaning.specs.NumberRules.{elements_in, unsized_in}
+use Rattle.meaning.specs.NumberRules.{elements_in, sizeless_in}
 use Rattle.meaning.specs.LabelRules.{not_executable}
 use Rattle.meaning.specs.Surroundings.{told_in}
 use Rattle.meaning.specs.Initial.{targets_in, starts_from}
@@ -45,7 +45,7 @@ shown source limit = record { pieces = (answer source limit).pieces; ending = (a
 
 -- every definition that stays folded elsewhere
 unfoldable pub all_definitions : Unit {0}
-unfolding message_at going_of printing_of quoted_text_at list_behind_comma format_in between_parentheses undoubled single_behind answer program_of members_of statements_of lines_of pieces without_return card statement_lines statements_in groups bare bare_behind read_shape shape_of kind_of kind_behind_if kind_outside_if kind_by_keyword kind_by_control_keyword behind_digits behind_closing marks_at has_limits shape_by simple_by value_of target_of assignment_of writing_of format_of alone_of range_label_at doing_of doing_while_of declarators_of typing_of declarator_at dimensions_at bounds_at separated_at name_or_element_at subscripts_at exprs_at limits_at comma_at paren_at balanced before_last_parenthesis label_at unit_at list_of items_at item_at value_item_at expression_from ends_list begins_control source_at control_at behind_unit_at whole_expression_at expression_at operations_at front_at negation_at primary_at truth_at name_at operator_at first_operator_at sign_at run after most_open is_left_out nest past breaks missing_end checked arrays_from definitions_of calls_by parts_from told given_from level_by nodes_by elements_in unsized_in not_executable told_in targets_in starts_from with_value behind followed element_values trips_listed listed elements descriptors_of parts_in parts_at next_at part_at counted_at behind_count group_at characters_at quoted_at integer_at logical_at least_at run_of exec fuelled pass_over looped repeated loop_by fold_trips goes_on leads_on tested arms_from labelled span_of format_found with_ok with_list turn more value values_of integer put start map_by edited outcome_of written text_of laid course digits when either loop_item_at format_first_at unit_first_at logical_typing_of dimensioning_of naming_of letter_at letters_at type_at implicit_at implying_of constant_at parameter_of number_behind_sign unsigned_at data_constant_at begins_repeat repeat_of repeated_value_at data_value_at data_list_at data_set_at data_sets_of initializing_of computed_going_of condition_at arithmetic_if_of block_if_of else_if_of stop_of stopping_of logical_if_of
+unfolding message_at going_of printing_of quoted_text_at list_behind_comma format_in between_parentheses undoubled single_behind answer program_of members_of statements_of lines_of pieces without_return card statement_lines statements_in groups bare bare_behind read_shape shape_of kind_of kind_behind_if kind_outside_if kind_by_keyword kind_by_control_keyword behind_digits behind_closing marks_at has_limits shape_by simple_by value_of target_of assignment_of writing_of format_of alone_of range_label_at doing_of doing_while_of declarators_of typing_of declarator_at dimensions_at bounds_at separated_at name_or_element_at subscripts_at exprs_at limits_at comma_at paren_at balanced before_last_parenthesis label_at unit_at list_of items_at item_at value_item_at expression_from ends_list begins_control source_at control_at behind_unit_at whole_expression_at expression_at operations_at front_at negation_at primary_at truth_at name_at operator_at first_operator_at sign_at run after most_open is_left_out nest past breaks missing_end checked arrays_from definitions_of calls_by parts_from told given_from level_by nodes_by elements_in sizeless_in not_executable told_in targets_in starts_from with_value behind followed element_values trips_listed listed elements descriptors_of parts_in parts_at next_at part_at counted_at behind_count group_at characters_at quoted_at integer_at logical_at least_at run_of exec fuelled pass_over looped repeated loop_by fold_trips goes_on leads_on tested arms_from labelled span_of format_found with_ok with_list turn more value values_of integer put start map_by edited outcome_of written text_of laid course digits when either loop_item_at format_first_at unit_first_at logical_typing_of dimensioning_of naming_of letter_at letters_at type_at implicit_at implying_of constant_at parameter_of number_behind_sign unsigned_at data_constant_at begins_repeat repeat_of repeated_value_at data_value_at data_list_at data_set_at data_sets_of initializing_of computed_going_of condition_at arithmetic_if_of block_if_of else_if_of stop_of stopping_of logical_if_of
 all_definitions = tt
 
 -- 31 characters are a name, and 32 are none

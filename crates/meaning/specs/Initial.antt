@@ -15,7 +15,7 @@ use Rattle.meaning.specs.Values.{Known, as_integer, with_sign}
 use Rattle.meaning.specs.Scopes.{constant_value}
 use Rattle.meaning.specs.Typing.{clash, integer_type, logical_type, SomeType}
 use Rattle.meaning.specs.Uses.{Use, Roles, data_value_uses, is_constant, is_one_of, is_other, limit_uses, uses_in}
-use Rattle.meaning.specs.NumberRules.{is_no_constant, known_behind_all, unsized_in}
+use Rattle.meaning.specs.NumberRules.{is_no_constant, known_behind_all, sizeless_in}
 use Rattle.meaning.specs.Trips.{trips}
 use Rattle.meaning.specs.Maps.{Map, start, put}
 
@@ -163,29 +163,25 @@ abbrev pub sets_of : ShapeTree → List DataSetTree
 sets_of (initializing sets) = sets
 sets_of s = []
 
--- the names in the lists and among the values of DATA statements
-abbrev pub named_in : List Use → List (List ℕ)
-named_in us = map (λ u. u.name) us
+-- the uses of names in the lists and among the values of DATA statements
+abbrev pub list_uses : ListItemsTree → List Use
+list_uses no_items = []
+list_uses (more_items (value_item e) xs) = uses_in e ++ list_uses xs
+list_uses (more_items (loop_item ys variable limits) xs) = list_uses ys ++ (limit_uses limits ++ list_uses xs)
 
-abbrev pub item_names : ListItemsTree → List (List ℕ)
-item_names no_items = []
-item_names (more_items (value_item e) xs) = named_in (uses_in e) ++ item_names xs
-item_names (more_items (loop_item ys variable limits) xs) =
-    item_names ys ++ (named_in (limit_uses limits) ++ item_names xs)
-
-abbrev pub set_names : DataSetTree → List (List ℕ)
-set_names s = item_names s.list ++ named_in (flat_map data_value_uses s.values)
+abbrev pub set_uses : DataSetTree → List Use
+set_uses s = list_uses s.list ++ flat_map data_value_uses s.values
 
 -- a constant without a value, or an array without a bound's, breaks another rule where it is defined
-abbrev pub lacks_value : Roles → Known → List (List ℕ) → List ℕ → Bool
-lacks_value r known unsized n = (is_constant r n && is_none (known n)) || is_one_of unsized n
+abbrev pub lacks_value : Roles → Known → List (List ℕ) → Use → Bool
+lacks_value r known sizeless u = (is_constant r u.name && is_none (known u.name)) || is_one_of sizeless u.name
 
 -- a DATA statement with one gives nothing, and breaks nothing (own)
 abbrev pub sets_by : Roles → Known → List (List ℕ) → List DataSetTree → List DataSetTree
-sets_by r known unsized sets = if list_any (lacks_value r known unsized) (flat_map set_names sets) then [] else sets
+sets_by r known sizeless sets = if list_any (lacks_value r known sizeless) (flat_map set_uses sets) then [] else sets
 
 abbrev pub sets_at : Roles → List ItemTree → ItemTree → List DataSetTree
-sets_at r before x = sets_by r (known_behind_all r before) (unsized_in r [] before) (sets_of x.shape)
+sets_at r before x = sets_by r (known_behind_all r before) (sizeless_in r [] before) (sets_of x.shape)
 
 abbrev pub starts_at : Roles → List ItemTree → ItemTree → Option (List Start)
 starts_at r before x = all_lists (map (set_starts r (known_behind_all r before)) (sets_at r before x))

@@ -96,13 +96,13 @@ lacks_bound types known d =
     list_any (is_no_integer types known) (flat_map (λ b. map (λ x. x.expr) (in_bounds b)) d.bounds)
 
 -- the arrays that statements declare with such a bound
-abbrev pub unsized_at : Roles → List ItemTree → ItemTree → List (List ℕ)
-unsized_at r before x =
+abbrev pub sizeless_at : Roles → List ItemTree → ItemTree → List (List ℕ)
+sizeless_at r before x =
     map (λ d. d.name) (filter (lacks_bound r.names.types (known_behind_all r before)) (declarators_in x.shape))
 
-unfoldable pub unsized_in : Roles → List ItemTree → List ItemTree → List (List ℕ)
-unsized_in r before [] = []
-unsized_in r before (x ∷ xs) = unsized_at r before x ++ unsized_in r (before ++ x ∷ []) xs
+unfoldable pub sizeless_in : Roles → List ItemTree → List ItemTree → List (List ℕ)
+sizeless_in r before [] = []
+sizeless_in r before (x ∷ xs) = sizeless_at r before x ++ sizeless_in r (before ++ x ∷ []) xs
 
 -- ---- K7: more than seven dimensions, a lower bound above the upper one, or more than 16,777,216 elements (own); an array
 -- without a bound's value has no bounds to compare, and counts no elements

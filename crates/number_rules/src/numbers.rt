@@ -4,7 +4,8 @@ ghost use Rattle.std.specs.Prelude.{◌≡◌, IfOk};
 ghost use Rattle.std.specs.List.{list_any};
 ghost use Rattle.meaning.specs.NumberRules.{has_bad_number};
 ghost use Rattle.rule_passes.specs.Telling.{IsLeast};
-ghost use Rattle.number_rules.specs.BadNumbers.{are_bad_at, defines_bad_at, exprs_in_bounds, exprs_in_declarator, have_bad_bound_at, is_bad_at};
+ghost use Rattle.number_rules.specs.BadNumbers.{are_bad_at, defines_bad_at, have_bad_bound_at, is_bad_at};
+ghost use Rattle.declarations.specs.Bounded.{exprs_in_bounds, exprs_in_declarator};
 ghost use Rattle.declarations.specs.Tables.{IsBehind};
 ghost use Rattle.roles.specs.RolesAt.{roles_at};
 

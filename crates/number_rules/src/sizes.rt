@@ -10,7 +10,7 @@ ghost use Rattle.number_rules.specs.CappedSizes.{IsCapped};
 ghost use Rattle.number_rules.specs.Sized.{AreBehind, capped_with, elements_at, has_too_many_at, have_too_large_at, is_too_large_at};
 ghost use Rattle.roles.specs.RolesAt.{roles_at};
 
-use declarations::{Table, dimension_of, pass_constants, table_of};
+use declarations::{Table, dimension_of, lacks_bound, pass_constants, table_of};
 use meaning::refusal::{Broken, Rule};
 use meaning::syntax::{Bounds, Declarator, Item};
 use roles::{Roles, declarators_in};
@@ -31,11 +31,11 @@ fn size_of(table: &Table, bounds: &[Bounds]) -> u64
     found
 }
 
-/// How many elements a declarator gives, or 2^64-1 where there are more.
+/// How many elements a declarator gives, or 2^64-1 where there are more; none where a bound has no value.
 fn elements_of(table: &Table, declarator: &Declarator) -> u64
     ensures { IsCapped result (elements_at table.now declarator.now) }
 {
-    if declarator.bounds.is_empty() {
+    if declarator.bounds.is_empty() || lacks_bound(table, declarator) {
         0
     } else {
         size_of(table, &declarator.bounds)
@@ -70,14 +70,16 @@ fn has_too_many(table: &Table, before: u64, declarator: &Declarator) -> bool
 }
 
 /// Whether a declarator has too many dimensions, a lower bound above the upper one, or too many elements with those
-/// that stand before it.
+/// that stand before it. Where a bound has no value, the number of dimensions alone counts.
 fn is_too_large(table: &Table, before: u64, declarator: &Declarator) -> bool
     ensures { Finds (IsCapped before) (is_too_large_at table.now declarator.now) result }
 {
     let number = declarator.bounds.len();
     let is_array = number > 0;
     let has_too_many_here = has_too_many(table, before, declarator);
-    number > 7 || has_reversed(table, &declarator.bounds) || (is_array && has_too_many_here)
+    number > 7
+        || (!lacks_bound(table, declarator)
+            && (has_reversed(table, &declarator.bounds) || (is_array && has_too_many_here)))
 }
 
 /// Whether one of the declarators is too large.

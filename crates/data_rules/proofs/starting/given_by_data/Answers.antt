@@ -1,13 +1,20 @@
-use Rattle.std.proofs.Common.{[], ◌∷◌, ◌++◌, map, take, sym, ap, subst, ◌∙◌}
+use Rattle.std.proofs.Common.{◌≡◌, ℕ, List, [], ◌∷◌, ◌++◌, map, filter, take, sym, ap, subst, ◌∙◌}
 use Rattle.std.specs.Map.{lookup}
 use Rattle.std.specs.Str.{bytes_eq}
+use Rattle.meaning.specs.NumberRules.{lacks_bound, sizeless_in}
+use Rattle.meaning.specs.Scopes.{declarators_in}
+use Rattle.meaning.specs.Syntax.{DeclaratorTree, declarator_tree, shape_tree}
+use Rattle.meaning.specs.Values.{Known}
+use Rattle.meaning.specs.Trees.{item_tree}
 use Rattle.roles.specs.RolesAt.{roles_at}
 use Rattle.data_rules.specs.DataPassed.{IsPassed}
 use Rattle.rule_passes.specs.Listed.{tree_at}
+use Rattle.data_rules.specs.Lacking.{names_kept}
 use Rattle.data_rules.specs.Slots.{slot_if}
-use Rattle.declarations.specs.Tables.{IsBehind}
+use Rattle.declarations.specs.Tables.{IsBehind, known_at}
 use Rattle.data_rules.proofs.DataPairing.{stage}
 use Rattle.data_rules.proofs.DataPassing.{none_passed}
+use Rattle.data_rules.proofs.Sizeless.{sizeless_none, sizeless_push}
 use Rattle.rule_passes.proofs.Passes.{trees_more}
 use Rattle.data_rules.proofs.starting.given_by_data.Goals as goal
 
@@ -19,6 +26,7 @@ pub loop-item-init : goal.loop-item-init
 loop-item-init c = record {
   roles = c.table_of-table.ensures.roles;
   behind = c.table_of-table.ensures.behind;
+  sizeless = ap names_kept c.new-sizeless.ensures.items ∙ sizeless_none (roles_at c.args.roles.now);
   passed =
       none_passed (roles_at c.args.roles.now) c.args.others (record { given = c.new-given.result })
       (ap (λ es. stage (λ n i. slot_if (lookup (λ k. bytes_eq n k.items) es) i) []) c.new-given.ensures.empty);
@@ -32,12 +40,25 @@ loop-item-preserved c =
     let front = map tree_at (take i items) in
     let more = sym (trees_more items i c.item-item.result c.loop-item-test.true c.item-item.is) in
     let p = c.in_ok-passed.passed in
+    let x = item_tree c.item-item.result.now in
+    let q = c.loop-item.table.roles.now in
+    let sizeless : names_kept c.loop-item.sizeless.items ≡ sizeless_in (roles_at q) [] front = before.sizeless ∙ ap (λ r. sizeless_in (roles_at r) [] front) (sym before.roles) in
+    let t = c.loop-item.table in
+    let at : Known → List DeclaratorTree → List (List ℕ) = λ k ds. map (λ d. d.name) (filter (lacks_bound (roles_at q).names.types k) ds) in
+    let here : names_kept c.add_sizeless.new.sizeless.items ≡ sizeless_in (roles_at q) [] (front ++ x ∷ []) =
+    c.in_ok-add_sizeless.ensures
+    ∙ ap (λ ns. ns ++ at (known_at t) (map declarator_tree c.declarators_in.result.now)) sizeless
+    ∙ ap (λ ds. sizeless_in (roles_at q) [] front ++ at (known_at t) ds) (c.declarators_in.ensures ∙ ap (λ s. declarators_in (shape_tree s)) c.deref-in-loop-item.ensures)
+    ∙ ap (λ k. sizeless_in (roles_at q) [] front ++ at k (declarators_in x.shape)) before.behind
+    ∙ sym (sizeless_push (roles_at q) front x)
+    in
     record {
       roles = ap (λ r. r.now) c.in_ok-pass_constants.ensures.roles ∙ before.roles;
       behind = subst (IsBehind c.pass_constants.new.table) more (c.in_ok-pass_constants.ensures.behind front before.behind);
+      sizeless = here ∙ ap (λ p. sizeless_in (roles_at p) [] (front ++ x ∷ [])) before.roles ∙ ap (sizeless_in (roles_at c.args.roles.now) []) more;
       passed =
           subst (λ xs. IsPassed (roles_at c.args.roles.now) c.args.others xs p) more
           (subst (λ q. IsPassed (roles_at q) c.args.others (front ++ tree_at c.item-item.result ∷ []) p) before.roles
-          (c.in_ok-passed.ensures c.args.others front before.behind
+          (c.in_ok-passed.ensures c.args.others front before.behind (ap names_kept c.deref.ensures.value ∙ sizeless)
           (subst (λ q. IsPassed (roles_at q) c.args.others front c.loop-item.passed) (sym before.roles) before.passed)));
     }

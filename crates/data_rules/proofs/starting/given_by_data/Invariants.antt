@@ -1,6 +1,8 @@
-use Rattle.std.proofs.Common.{◌≡◌, map, take}
+use Rattle.std.proofs.Common.{◌≡◌, [], map, take}
+use Rattle.meaning.specs.NumberRules.{sizeless_in}
 use Rattle.roles.specs.RolesAt.{roles_at}
 use Rattle.data_rules.specs.DataPassed.{IsPassed}
+use Rattle.data_rules.specs.Lacking.{names_kept}
 use Rattle.rule_passes.specs.Listed.{tree_at}
 use Rattle.declarations.specs.Tables.{IsBehind}
 use Rattle.data_rules.proofs.starting.given_by_data.Given as goal
@@ -9,5 +11,6 @@ abbrev pub invariant-loop-item : goal.invariant-loop-item
 invariant-loop-item l = record {
   roles : l.table.roles.now ≡ l.fn.roles;
   behind : IsBehind l.table (map tree_at (take l.item-index l.items));
+  sizeless : names_kept l.sizeless.items ≡ sizeless_in (roles_at l.fn.roles) [] (map tree_at (take l.item-index l.items));
   passed : IsPassed (roles_at l.fn.roles) l.fn.others (map tree_at (take l.item-index l.items)) l.passed;
 }
