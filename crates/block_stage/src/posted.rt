@@ -122,6 +122,17 @@ impl<'a> Posted<'a> {
         turns_of(&self.places)
     }
 
+    /// How many turns the first block used, and what its view weighs beside them: one for each cell that it exposed, two for each
+    /// that it wrote, and sixteen for each page of cells that was copied for that. None of either where it has no run. It is for
+    /// whoever asks whether such stages are worth their time, and no contract speaks of time.
+    pub fn first_weight(&self) -> (u64, u64) {
+        match self.places.first() {
+            Some(Some(trace)) => (trace.used(), trace.weight()),
+            Some(None) => (0, 0),
+            None => (0, 0),
+        }
+    }
+
     /// What the blocks before the cut wrote, in their order, how the last of them ended, and their turns. It lets the base go, and
     /// takes no memory.
     pub fn taken(self, cut: usize) -> Taken

@@ -91,6 +91,12 @@ impl<'a> Trace<'a> {
         shared_cell(self.view.exposed(), other.view.written())
     }
 
+    // What its view weighs: one for each cell that it exposed, two for each that it wrote, sixteen for each page that was copied.
+    pub(crate) fn weight(&self) -> u64 {
+        let written = weight_of(self.view.written().words(), 2, 16);
+        weight_of(self.view.exposed().words(), 1, 0).saturating_add(written)
+    }
+
     // What it saw and wrote.
     pub(crate) fn view(&self) -> &View<'a>
         ensures { result.now ≡ self.now.seen }
@@ -110,6 +116,18 @@ impl<'a> Trace<'a> {
         } = self;
         view.into_changes()
     }
+}
+
+// What mask words weigh, where a bit weighs so much, and a word that has one so much more.
+fn weight_of(words: &[u64], bit: u64, word: u64) -> u64 {
+    let mut weight: u64 = 0;
+    for mask in words {
+        if *mask != 0 {
+            let bits = u64::from(mask.count_ones()).saturating_mul(bit);
+            weight = weight.saturating_add(word).saturating_add(bits);
+        }
+    }
+    weight
 }
 
 // The least cell that is in both sets, if there is one.
