@@ -1,6 +1,8 @@
-//! Tests of running that can't be asked of the program as it is built, by `tests/run` and `run_programs`: where records go; plans; the codes
-//! that are kept of statements; what a fault in a list leaves; consecutive members of a list; loops by stages, step by step; which plan and
-//! file a command line names; and the program over readers and writers that fail.
+//! Tests of running that can't be asked of the program as it is built, by `tests/run` and
+//! `run_programs`: where records go; plans; the codes that are kept of statements; what a fault in
+//! a list leaves; consecutive members of a list; whole runs in order, and by plans; loops by
+//! stages, step by step, and what is told of them; which plan and file a command line names; and
+//! the program over readers and writers that fail.
 #![tactic(auto)]
 
 #[cfg(test)]
@@ -14,6 +16,8 @@ mod outcomes;
 #[cfg(test)]
 mod plans;
 #[cfg(test)]
+mod runs;
+#[cfg(test)]
 mod sinks;
 #[cfg(test)]
 mod slices;
@@ -21,3 +25,5 @@ mod slices;
 mod staged;
 #[cfg(test)]
 mod stages;
+#[cfg(test)]
+mod told;

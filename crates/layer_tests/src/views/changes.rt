@@ -157,6 +157,58 @@ fn view_used_again(rt: HostRuntime) -> Result<(), Fail> {
     Ok(())
 }
 
+/// The second page of the numbered cells, with 1 written to the first cell of it.
+const SECOND_PAGE: &[i32] = &[
+    1, 65, 66, 67, 68, 69, 70, 71, 72, 73, 74, 75, 76, 77, 78, 79, 80, 81, 82, 83, 84, 85, 86, 87,
+    88, 89, 90, 91, 92, 93, 94, 95, 96, 97, 98, 99, 100, 101, 102, 103, 104, 105, 106, 107, 108,
+    109, 110, 111, 112, 113, 114, 115, 116, 117, 118, 119, 120, 121, 122, 123, 124, 125, 126, 127,
+];
+
+/// That words are these.
+fn check_words(rt: &impl Abort, words: &[u64], wanted: &[u64]) {
+    assert!(rt; words == wanted, "{wanted:?}");
+}
+
+/// Writes cell 64, reads cell 65, which stands in the page that is copied, and looks at what is
+/// exposed, written and shown. Puts what was written into a store.
+fn write_beside_read(
+    rt: &impl Abort,
+    alloc: Global,
+    base: &Whole,
+    target: &mut Whole,
+) -> Result<(), AllocError>
+    requires base { length base.now ≡ 130 }
+    requires target { length target.old ≡ 130 }
+{
+    let mut view = View::new(alloc, base);
+    view.write(Cell(64), 1)?;
+    reads(rt, &mut view, 65, 65);
+    check_words(rt, view.exposed().words(), &[0, 2]);
+    check_words(rt, view.written().words(), &[0, 1]);
+    assert!(rt; view.page(0).is_none());
+    let page = view.page(1).expect(rt, "a page");
+    assert!(rt; page == SECOND_PAGE);
+    assert!(rt; !view.is_lost());
+    view.apply(target);
+    Ok(())
+}
+
+// A cell that stands in a copied page and wasn't written is exposed by a read, isn't told as
+// written, and isn't applied.
+#[test]
+fn cell_beside_a_written_one(rt: HostRuntime) -> Result<(), Fail> {
+    let base = numbered(rt.alloc(), CELLS)?;
+    let mut target = sevens(rt.alloc(), CELLS)?;
+    assert!(rt; base.cells().len() == CELLS);
+    assert!(rt; target.cells().len() == CELLS);
+    write_beside_read(&rt, rt.alloc(), &base, &mut target)?;
+    for (number, &value) in target.cells().iter().enumerate() {
+        let want = if number == 64 { 1 } else { 7 };
+        assert!(rt; value == want, "{number}");
+    }
+    Ok(())
+}
+
 /// How many cells stores have: less than a page, a page, and pages with more behind them.
 const COUNTS: &[usize] = &[1, 63, 64, 65, 130];
 

@@ -3,12 +3,13 @@
 ghost use Rattle.std.specs.Prelude.{◌≡◌, ◌<◌};
 ghost use Rattle.block_stage.specs.Jobs.{data_of};
 
-use crate::staged::states::{State, commit_checked};
+use crate::staged::meeting::{STATES, see_only_stage};
+use crate::staged::states::commit_checked;
 use crate::staged::watch::Watch;
-use crate::staged::watching::run_watched;
 use array_store::Whole;
-use block_stage::{Board, Event, Job, JobKey, Open, Posted, Ticket, run_block};
-use meaning::ending::Ending;
+use block_stage::{
+    Board, Cause, Event, Job, JobKey, Open, Posted, StageTold, Ticket, cut, run_block, told_of,
+};
 use std::alloc::Global;
 use std::marker::Brand;
 use std::process::Abort;
@@ -115,12 +116,27 @@ pub fn posted_by<'a, R: Abort>(
     posted_in::<Brand, R>(rt, alloc, job, blocks, steps)
 }
 
-/// The steps of a stage, what the board tells of them, and where it is cut.
+/// The steps of a stage, what the board tells of them, where it is cut, and the turns of the blocks
+/// before that.
 #[derive(Clone, Copy)]
 pub struct ByHand {
     steps: &'static [Step],
     events: &'static [Event],
     cut: usize,
+    turns: u64,
+}
+
+/// What is told of a stage of four blocks of two trips, one of which was lost.
+fn told_with_a_loss(by_hand: &ByHand) -> StageTold {
+    StageTold {
+        trips: 8,
+        size: 2,
+        blocks: 4,
+        run: 3,
+        cut: by_hand.cut,
+        turns: by_hand.turns,
+        cause: Cause::Loss,
+    }
 }
 
 /// Takes the steps of a stage, and commits it.
@@ -138,26 +154,14 @@ pub fn see_by_hand<R: Abort + Threads + Wait + Sync>(
     let mut target = Whole::new(alloc, base.cells()).expect(rt, "memory");
     let posted = posted_by(rt, alloc, job, blocks, by_hand.steps);
     assert!(rt; posted.events() == by_hand.events);
+    let told = told_of(&posted, cut(&posted));
+    assert!(rt; told == told_with_a_loss(by_hand), "{told:?}");
     let place = commit_checked(rt, posted, &mut target, STATES);
     assert!(rt; place == by_hand.cut, "{place}");
 }
 
-/// Four blocks of two trips: I has cell 0, A 1 to 8, and each trip uses a turn.
-const SOURCE: &str = "      INTEGER A(8)\n      DO 10 I=1,8\n   10 A(I)=I\n      END\n";
-
-/// The cells at the beginning and behind the first block. Nothing further may be committed.
-const STATES: &[State] = &[
-    State {
-        cells: &[0, 0, 0, 0, 0, 0, 0, 0, 0],
-        turns: 0,
-    },
-    State {
-        cells: &[3, 1, 2, 0, 0, 0, 0, 0, 0],
-        turns: 2,
-    },
-];
-
-/// Worker 1 loses block 1, and comes back with it too late.
+/// Of the copy through an array of subscripts, in four blocks of two trips, worker 1 loses block 1,
+/// and comes back with it too late.
 const SECOND_LOST: ByHand = ByHand {
     steps: &[
         Claims(0, Some(0)),
@@ -168,6 +172,7 @@ const SECOND_LOST: ByHand = ByHand {
         Posts(0, 0, true),
         Claims(0, Some(3)),
         Posts(0, 3, true),
+        Claims(0, None),
         Posts(1, 1, false),
         Claims(1, None),
     ],
@@ -206,6 +211,7 @@ const SECOND_LOST: ByHand = ByHand {
         }),
     ],
     cut: 1,
+    turns: 2,
 };
 
 /// Worker 0 loses block 0.
@@ -256,21 +262,12 @@ const FIRST_LOST: ByHand = ByHand {
         }),
     ],
     cut: 0,
+    turns: 0,
 };
 
 // Takes the steps for the only stage of the program.
 fn play<R: Abort + Threads + Wait + Sync>(rt: &R, alloc: Global, by_hand: &ByHand) {
-    let watched = run_watched(
-        rt,
-        alloc,
-        &Watch::ByHand(by_hand),
-        2,
-        8,
-        SOURCE.as_bytes(),
-        1000,
-    );
-    assert!(rt; watched.ending == Ending::Ended);
-    assert!(rt; watched.looked == 1);
+    see_only_stage(rt, alloc, &Watch::ByHand(by_hand));
 }
 
 #[test]

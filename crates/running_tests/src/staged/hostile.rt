@@ -11,7 +11,7 @@ use meaning::ending::{Ending, Fault, FaultKind, Outcome};
 use meaning::plan::Plan;
 use meaning::syntax::Loop;
 use programs::Program;
-use stage_loop::run_loop;
+use stage_loop::{Kept, StageTold, Watcher, run_loop, run_loop_watched};
 use std::alloc::Global;
 use std::cell::Cell;
 use std::process::Abort;
@@ -79,14 +79,14 @@ fn run<R: Abort + Threads + Wait + Sync>(rt: &R, alloc: Global, source: &[u8], p
     }
 }
 
-// Runs a program with four workers, and compares what comes of it. It answers how many blocks entered the gate.
-fn check<R: Abort + Threads + Wait + Sync>(rt: &R, alloc: Global, worked: &Worked) -> u64 {
+// Runs a program with four workers, and compares what comes of it.
+fn check<R: Abort + Threads + Wait + Sync>(rt: &R, alloc: Global, worked: &Worked) {
     let plan = Plan::new(4, worked.block, worked.window, worked.turns).expect(rt, "a plan");
     let Ran {
         ending,
         written,
         loops,
-        blocks,
+        blocks: _,
     } = run(rt, alloc, worked.source.as_bytes(), &plan);
     assert!(rt; loops == 1, "{loops}");
     assert!(rt;
@@ -98,7 +98,6 @@ fn check<R: Abort + Threads + Wait + Sync>(rt: &R, alloc: Global, worked: &Worke
         (Ending::Fault(fault), Some(wanted)) => assert!(rt; *fault == wanted, "{fault:?}"),
         _ => assert!(rt; false, "{ending:?}"),
     }
-    blocks
 }
 
 /// A copy through an array of subscripts: no block needs what another one did.
@@ -132,11 +131,92 @@ const PERMUTED_TWICE: Worked = Worked {
     fault: None,
 };
 
-// Where one request is refused, one trip at most is executed in order, and all that stand behind it enter the gate by further stages.
+// What is told of the stages of a loop, counted.
+#[derive(Drop)]
+struct Tally {
+    reached: Cell<u64>,
+    trips: Cell<u64>,
+    run: Cell<u64>,
+    lost: Cell<u64>,
+}
+
+impl Tally {
+    fn new() -> Tally {
+        Tally {
+            reached: Cell::new(0),
+            trips: Cell::new(0),
+            run: Cell::new(0),
+            lost: Cell::new(0),
+        }
+    }
+}
+
+impl Watcher for Tally {
+    fn reached(&self, _line: u32, trips: u64) {
+        self.reached.set(self.reached.get().saturating_add(1));
+        self.trips.set(self.trips.get().saturating_add(trips));
+    }
+
+    fn staged(&self, _line: u32, _done: u64, told: &StageTold) {
+        let lost = told.blocks.saturating_sub(told.run);
+        self.run.set(self.run.get().saturating_add(told.run as u64));
+        self.lost.set(self.lost.get().saturating_add(lost as u64));
+    }
+}
+
+// The same as `run`, with somebody who is told of the stages.
+fn run_told<R: Abort + Threads + Wait + Sync>(
+    rt: &R,
+    alloc: Global,
+    source: &[u8],
+    plan: &Plan,
+    tally: &Tally,
+) -> Ran {
+    let gate = Counting::new();
+    let asked = Cell::new(Vec::new(alloc));
+    let loops = Cell::new(0_u64);
+    let staged = Staged {
+        call: |program: &Program, repeated: &Loop, cells: &mut Whole, turns: &mut u64| -> Outcome
+            requires { IsAsked program.now repeated.now cells.now }
+            ensures { IsGiven program.now repeated.now cells.old cells.new turns.old turns.new result }
+        {
+            loops.set(loops.get().saturating_add(1));
+            let mut kept = Kept::new(alloc);
+            ask(alloc, BEFORE, &asked);
+            let run = run_loop_watched(
+                rt, alloc, program, repeated, cells, *turns, plan, &mut kept, &gate, tally,
+            );
+            ask(alloc, BEHIND, &asked);
+            *turns -= run.turns_used;
+            run.outcome
+        },
+        watcher: &Unwatched,
+    };
+    let mut sink = Out::new(Vec::new(alloc));
+    let report = run_by(alloc, &staged, source, plan.turns(), &mut sink);
+    Ran {
+        ending: report.ending,
+        written: sink.into_inner(),
+        loops: loops.get(),
+        blocks: gate.entered(),
+    }
+}
+
+// Where one request is refused, one trip at most is executed in order, and all that stand behind it
+// enter the gate by further stages. Each stage is told, also one whose first block was lost: so no
+// more blocks enter than are told as run or lost, and no fewer than as run.
 #[test]
 fn enters_again(rt: HostRuntime) {
-    let blocks = check(&rt, rt.alloc(), &PERMUTED_TWICE);
+    let worked = &PERMUTED_TWICE;
+    let plan = Plan::new(4, worked.block, worked.window, worked.turns).expect(&rt, "a plan");
+    let tally = Tally::new();
+    let ran = run_told(&rt, rt.alloc(), worked.source.as_bytes(), &plan, &tally);
+    assert!(rt; ran.ending == Ending::Ended && ran.loops == 1);
+    assert!(rt; ran.written.as_slice() == worked.records.as_bytes());
+    let (blocks, run, lost) = (ran.blocks, tally.run.get(), tally.lost.get());
+    assert!(rt; tally.reached.get() == 1 && tally.trips.get() == 8);
     assert!(rt; blocks >= 7, "{blocks}");
+    assert!(rt; run <= blocks && blocks <= run.saturating_add(lost));
 }
 
 /// Each element from the one before: each stage commits one trip.

@@ -44,7 +44,15 @@ fn run_checked<R: Abort + Threads + Wait + Sync>(
     take_checked(rt, posted, &mut target)
 }
 
-/// Runs a stage twice, the second time in what the views of the first time were kept in, and lets the third go unused.
+// Puts spares behind others.
+fn put_all<R: Abort>(rt: &R, all: &mut Vec<Changes>, spares: Vec<Changes>) {
+    for spare in spares {
+        assert!(rt; all.push(spare).is_ok());
+    }
+}
+
+/// Runs a stage of four blocks with none, with four and with eight spares, the four that no block
+/// was handed coming back with the others; and lets one go unused, from which they all come back.
 pub fn see_spares<R: Abort + Threads + Wait + Sync>(
     rt: &R,
     alloc: Global,
@@ -55,10 +63,17 @@ pub fn see_spares<R: Abort + Threads + Wait + Sync>(
 {
     let first = run_checked(rt, alloc, job, base, Vec::new(alloc));
     assert!(rt; first.len() == 4);
-    let second = run_checked(rt, alloc, job, base, first);
-    assert!(rt; second.len() == 4);
-    let posted = run_stage_in(rt, alloc, job, 2, &Open, second).expect(rt, "memory");
-    assert!(rt; posted.into_spares().len() == 4);
+    let mut all = run_checked(rt, alloc, job, base, first);
+    assert!(rt; all.len() == 4);
+    put_all(
+        rt,
+        &mut all,
+        run_checked(rt, alloc, job, base, Vec::new(alloc)),
+    );
+    let left = run_checked(rt, alloc, job, base, all);
+    assert!(rt; left.len() == 8);
+    let posted = run_stage_in(rt, alloc, job, 2, &Open, left).expect(rt, "memory");
+    assert!(rt; posted.into_spares().len() == 8);
 }
 
 #[test]

@@ -1,0 +1,107 @@
+//! What is told of loops by stages. The figures are worked by hand.
+
+use crate::outcomes::MANY;
+use crate::stages::Counting;
+use block_stage::{Cause, StageTold};
+use executor::Out;
+use executor::run::run_watched;
+use loop_reports::{Loops, note_reached, note_staged, told_loops};
+use meaning::ending::Ending;
+use meaning::plan::Plan;
+use std::alloc::Global;
+use std::collections::BTreeMap;
+use std::process::Abort;
+use std::sync::Wait;
+use std::test::*;
+use std::thread::Threads;
+
+/// A program, how many trips a block has, how many blocks enter the gate, and what is told.
+struct Row {
+    source: &'static str,
+    block: u64,
+    entered: u64,
+    told: &'static str,
+}
+
+const ROWS: &[Row] = &[
+    // No trip.
+    Row {
+        source: "      DO 10 I=5,1\n   10 J=1\n      END\n",
+        block: 2,
+        entered: 0,
+        told: "  LOOP LINE 1 REACHED 1 TRIPS 0 STAGES 0 RUN 0 COMMITTED 0 DROPPED 0 LOST 0 CUT DEPENDENCE 0 EXIT 0 TURNS 0 LOSS 0\n  TURNS IN COMMITTED BLOCKS 0 OF 1\n",
+    },
+    // Two blocks of 120,000 turns.
+    Row {
+        source: "      DO 10 I=1,120000\n      J=I\n   10 CONTINUE\n      END\n",
+        block: 60_000,
+        entered: 2,
+        told: "  LOOP LINE 1 REACHED 1 TRIPS 120000 STAGES 1 RUN 2 COMMITTED 2 DROPPED 0 LOST 0 CUT DEPENDENCE 0 EXIT 0 TURNS 0 LOSS 0\n  TURNS IN COMMITTED BLOCKS 240000 OF 240001\n",
+    },
+    // Two blocks, each of which writes 70,000 cells.
+    Row {
+        source: "      INTEGER A(140000)\n      DO 10 I=1,140000\n   10 A(I)=I\n      END\n",
+        block: 70_000,
+        entered: 2,
+        told: "  LOOP LINE 2 REACHED 1 TRIPS 140000 STAGES 1 RUN 2 COMMITTED 2 DROPPED 0 LOST 0 CUT DEPENDENCE 0 EXIT 0 TURNS 0 LOSS 0\n  TURNS IN COMMITTED BLOCKS 140000 OF 140001\n",
+    },
+];
+
+/// Runs a program, and compares what is told of its loop.
+fn check_row<R: Abort + Threads + Wait + Sync>(rt: &R, alloc: Global, row: &Row) {
+    let plan = Plan::new(4, row.block, 8, MANY).expect(rt, "a plan");
+    let gate = Counting::new();
+    let loops = Loops::new(alloc, true);
+    let mut sink = Out::new(Vec::new(alloc));
+    let source = row.source.as_bytes();
+    let report = run_watched(rt, alloc, source, &plan, &mut sink, &gate, &loops);
+    let written = sink.into_inner();
+    assert!(rt; report.ending == Ending::Ended && written.is_empty());
+    assert!(rt; gate.entered() == row.entered, "{}", row.source);
+    let rows = loops.into_rows().expect(rt, "memory");
+    let told = told_loops(alloc, &[], &rows, report.turns).expect(rt, "memory");
+    assert!(rt; told.as_slice() == row.told.as_bytes(), "{}", row.source);
+}
+
+#[test]
+fn loops_told(rt: HostRuntime) {
+    for row in ROWS {
+        check_row(&rt, rt.alloc(), row);
+    }
+}
+
+/// A stage of four blocks of two trips whose first block was lost.
+const FIRST_LOST: StageTold = StageTold {
+    trips: 8,
+    size: 2,
+    blocks: 4,
+    run: 3,
+    cut: 0,
+    turns: 0,
+    cause: Cause::Loss,
+};
+
+/// One of the three other blocks, behind the first one, which was run in order.
+const OTHERS: StageTold = StageTold {
+    trips: 6,
+    size: 2,
+    blocks: 3,
+    run: 3,
+    cut: 3,
+    turns: 6,
+    cause: Cause::Whole,
+};
+
+const LOST: &str =
+    "  LOOP LINE 2 REACHED 1 TRIPS 8 STAGES 2 RUN 6 COMMITTED 3 DROPPED 3 LOST 1 CUT DEPENDENCE 0 EXIT 0 TURNS 0 LOSS 1\n  TURNS IN COMMITTED BLOCKS 6 OF 9\n";
+
+#[test]
+fn lost_block_told(rt: HostRuntime) -> Result<(), Fail> {
+    let mut rows = BTreeMap::new(rt.alloc());
+    note_reached(&mut rows, rt.alloc(), 2, 8)?;
+    note_staged(&mut rows, rt.alloc(), 2, 0, &FIRST_LOST)?;
+    note_staged(&mut rows, rt.alloc(), 2, 2, &OTHERS)?;
+    let told = told_loops(rt.alloc(), &[], &rows, Some(9))?;
+    assert!(rt; told.as_slice() == LOST.as_bytes());
+    Ok(())
+}
