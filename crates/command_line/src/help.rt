@@ -56,7 +56,8 @@ Rules, which a source is refused for breaking:
        and output is not list-directed: records are written under a format.
   G3   At most 64 parentheses are open at once in a statement, outside character constants.
   N1   PROGRAM, where it stands, is the first statement; IMPLICIT comes before each type and
-       DIMENSION statement, and these and PARAMETER before each DATA and executable statement.
+       DIMENSION statement, and these and PARAMETER before each statement function, DATA and
+       executable statement.
   N2   END is the last statement of the program unit, and stands in it once.
   N3   ELSE IF, ELSE and END IF stand where a block IF is the innermost thing that is open, only END
        IF does behind its ELSE, and END IF closes it before END.

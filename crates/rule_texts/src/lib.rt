@@ -150,7 +150,7 @@ const G3: RuleText = RuleText {
 
 const N1: RuleText = RuleText {
     rule: Rule::N1,
-    sentence: "PROGRAM, where it stands, is the first statement; IMPLICIT comes before each type and DIMENSION statement, and these and PARAMETER before each DATA and executable statement.",
+    sentence: "PROGRAM, where it stands, is the first statement; IMPLICIT comes before each type and DIMENSION statement, and these and PARAMETER before each statement function, DATA and executable statement.",
     breaks: Some("      I=1\n      INTEGER A(2)\n      END\n"),
     keeps: "      INTEGER A(2)\n      I=1\n      END\n",
 };
