@@ -29,8 +29,8 @@ use Rattle.clap.specs.declared.parser.matches.ValueSource.{ValueSource}
 use Rattle.clap.specs.declared.parser.matches.ValueSource.TheVariants.{CommandLine, DefaultValue}
 use Rattle.clap.specs.declared.builder.value_parser.Reading.{Reading}
 use Rattle.clap.specs.declared.builder.value_parser.Reading.TheVariants.{AsWritten}
-use Rattle.command_line.specs.Command.{f77run, fault_for, file_rule, flag_rule, name_rule, number_rule}
-use Rattle.command_line.specs.CommandLine.{Flag, Given, Line, Name, Part, Text, Word, alone, asked_by, asked_for, asks, behind, block, checks, closed, counts, default_of, ends, errs, explains, file, first, fits_under, flag, give, gives, greatest, holding, is_in, is_number, is_on, letter_word, long_or_short, long_word, meet, moved, name_of, nothing_read, number_in, number_of, part, put, put_flag, put_if, read, rule, sets, short_word, stages, take, turns, values, window, with_text, word_of, workers}
+use Rattle.command_line.specs.Command.{f77run, fault_for, file_rule, flag_rule, number_rule, word_rule}
+use Rattle.command_line.specs.CommandLine.{Flag, Given, Line, Name, Part, Text, Word, alone, asked_by, asked_for, asks, behind, block, checks, closed, counts, default_of, ends, errs, explains, file, first, fits_under, flag, give, gives, greatest, holding, is_in, is_number, is_on, letter_word, long_or_short, long_word, meet, moved, name_of, nothing_read, number_in, number_of, part, put, put_flag, put_if, read, rule, sets, short_word, speculating, stages, take, turns, values, window, with_text, word_of, workers}
 use Rattle.command_line.specs.Matches.{AreGiven, HoldTexts, IsGiven, IsNumber, as_found, as_seen, fits, seen}
 use Rattle.command_line.specs.declared.asked.OptionsFault.{OptionsFault}
 use Rattle.command_line.specs.declared.asked.OptionsFault.TheVariants as fault
@@ -232,8 +232,8 @@ once_put name v given rows faults after h all fit known left = go (is_some (firs
       all_put fits given (name, v) all fit,
     )
 
-abbrev name_at : Rule
-name_at = with_index 1 (filled name_rule)
+abbrev name_at : Text → Rule
+name_at id = with_index 1 (filled (word_rule id))
 
 abbrev flag_at : Flag → Rule
 flag_at f = with_index 1 (filled (flag_rule (name_of (flag f))))
@@ -243,7 +243,8 @@ rule_at workers = number_at (codes "workers") 64
 rule_at block = number_at (codes "block") 1000000
 rule_at window = number_at (codes "window") 256
 rule_at turns = number_at (codes "turns") 1000000000000
-rule_at rule = name_at
+rule_at rule = name_at (codes "rule")
+rule_at speculating = name_at (codes "speculate")
 rule_at file = file_at
 
 put_told : (p : Part) (v : Text) (given : Given) (rows : List Row) → Rows given rows → Fits_all given
@@ -253,6 +254,7 @@ put_told block v given rows h all = numbered_put block 1000000 v given rows refl
 put_told window v given rows h all = numbered_put window 256 v given rows refl (omega arith) h all
 put_told turns v given rows h all = numbered_put turns 1000000000000 v given rows refl (omega arith) h all
 put_told rule v given rows h all = once_put (part rule) v given rows _ _ h all refl refl refl
+put_told speculating v given rows h all = once_put (part speculating) v given rows _ _ h all refl refl refl
 put_told file v given rows h all = (refl, rows_put (part file) v given rows h, all_put fits given (part file, v) all refl)
 
 flag_put : (f : Flag) (given : Given) (rows : List Row) → Rows given rows → Fits_all given
@@ -276,12 +278,14 @@ closed_told given (Some (block, None)) rows h all = (kind.InvalidValue, refl, re
 closed_told given (Some (window, None)) rows h all = (kind.InvalidValue, refl, refl)
 closed_told given (Some (turns, None)) rows h all = (kind.InvalidValue, refl, refl)
 closed_told given (Some (rule, None)) rows h all = (kind.InvalidValue, refl, refl)
+closed_told given (Some (speculating, None)) rows h all = (kind.InvalidValue, refl, refl)
 closed_told given (Some (file, None)) rows h all = (kind.InvalidValue, refl, refl)
 closed_told given (Some (workers, Some v)) rows h all = put_told workers v given rows h all
 closed_told given (Some (block, Some v)) rows h all = put_told block v given rows h all
 closed_told given (Some (window, Some v)) rows h all = put_told window v given rows h all
 closed_told given (Some (turns, Some v)) rows h all = put_told turns v given rows h all
 closed_told given (Some (rule, Some v)) rows h all = put_told rule v given rows h all
+closed_told given (Some (speculating, Some v)) rows h all = put_told speculating v given rows h all
 closed_told given (Some (file, Some v)) rows h all = put_told file v given rows h all
 
 -- ---- a word
@@ -385,12 +389,14 @@ part_told block None word given held rows waiting h all = started_told block giv
 part_told window None word given held rows waiting h all = started_told window given held rows h all
 part_told turns None word given held rows waiting h all = started_told turns given held rows h all
 part_told rule None word given held rows waiting h all = started_told rule given held rows h all
+part_told speculating None word given held rows waiting h all = started_told speculating given held rows h all
 part_told file None word given held rows waiting h all = started_told file given held rows h all
 part_told workers (Some v) word given held rows waiting h all = valued_told workers v given held rows h all
 part_told block (Some v) word given held rows waiting h all = valued_told block v given held rows h all
 part_told window (Some v) word given held rows waiting h all = valued_told window v given held rows h all
 part_told turns (Some v) word given held rows waiting h all = valued_told turns v given held rows h all
 part_told rule (Some v) word given held rows waiting h all = valued_told rule v given held rows h all
+part_told speculating (Some v) word given held rows waiting h all = valued_told speculating v given held rows h all
 part_told file (Some v) word given held rows waiting h all = valued_told file v given held rows h all
 
 flag_told : (f : Flag) (value : Option Text) (word : Text) (given : Given) (held : Held_part) (rows : List Row) (waiting : Waiting)
@@ -425,29 +431,30 @@ named_told : (name : Text) (value : Option Text) (word : Text) (given : Given) (
     → Rows given rows → Fits_all given → Named (long_word name value) (arg_by_long rules name) value word given held rows waiting
 named_told name value word given held rows waiting h all =
     pick (bytes_eq (codes "workers") name) (bytes_eq (codes "block") name) (bytes_eq (codes "window") name) (bytes_eq (codes "turns") name)
-    (bytes_eq (codes "rule") name) (bytes_eq (codes "check") name) (bytes_eq (codes "count") name) (bytes_eq (codes "explain") name)
+    (bytes_eq (codes "rule") name) (bytes_eq (codes "speculate") name) (bytes_eq (codes "check") name) (bytes_eq (codes "count") name) (bytes_eq (codes "explain") name)
     (bytes_eq (codes "stages") name) (bytes_eq (codes "help") name) (bytes_eq (codes "version") name)
   where
-    pick : (a b c d r i j k l f g : Bool) → Named
-        (cond a (gives workers value) (cond b (gives block value) (cond c (gives window value) (cond d (gives turns value) (cond r (gives rule value)
+    pick : (a b c d r q i j k l f g : Bool) → Named
+        (cond a (gives workers value) (cond b (gives block value) (cond c (gives window value) (cond d (gives turns value) (cond r (gives rule value) (cond q (gives speculating value)
         (cond i (alone (sets checks) value) (cond j (alone (sets counts) value) (cond k (alone (sets explains) value) (cond l (alone (sets stages) value)
-        (cond f (alone (asks fault.Help) value) (cond g (alone (asks fault.Version) value) (errs fault.NoSuchOption))))))))))))
+        (cond f (alone (asks fault.Help) value) (cond g (alone (asks fault.Version) value) (errs fault.NoSuchOption)))))))))))))
         (cond (a || false) (Some (rule_at workers)) (cond (b || false) (Some (rule_at block)) (cond (c || false) (Some (rule_at window)) (cond (d || false) (Some (rule_at turns))
-        (cond (r || false) (Some (rule_at rule)) (cond (i || false) (Some (flag_at checks)) (cond (j || false) (Some (flag_at counts)) (cond (k || false) (Some (flag_at explains)) (cond (l || false) (Some (flag_at stages))
-        (cond (f || false) (Some help_at) (cond (g || false) (Some version_at) None)))))))))))
+        (cond (r || false) (Some (rule_at rule)) (cond (q || false) (Some (rule_at speculating)) (cond (i || false) (Some (flag_at checks)) (cond (j || false) (Some (flag_at counts)) (cond (k || false) (Some (flag_at explains)) (cond (l || false) (Some (flag_at stages))
+        (cond (f || false) (Some help_at) (cond (g || false) (Some version_at) None))))))))))))
         value word given held rows waiting
-    pick true b c d r i j k l f g = part_told workers value word given held rows waiting h all
-    pick false true c d r i j k l f g = part_told block value word given held rows waiting h all
-    pick false false true d r i j k l f g = part_told window value word given held rows waiting h all
-    pick false false false true r i j k l f g = part_told turns value word given held rows waiting h all
-    pick false false false false true i j k l f g = part_told rule value word given held rows waiting h all
-    pick false false false false false true j k l f g = flag_told checks value word given held rows waiting h all
-    pick false false false false false false true k l f g = flag_told counts value word given held rows waiting h all
-    pick false false false false false false false true l f g = flag_told explains value word given held rows waiting h all
-    pick false false false false false false false false true f g = flag_told stages value word given held rows waiting h all
-    pick false false false false false false false false false true g = help_told value word given held rows waiting h all
-    pick false false false false false false false false false false true = version_told value word given held rows waiting h all
-    pick false false false false false false false false false false false = (kind.UnknownArgument, refl, refl)
+    pick true b c d r q i j k l f g = part_told workers value word given held rows waiting h all
+    pick false true c d r q i j k l f g = part_told block value word given held rows waiting h all
+    pick false false true d r q i j k l f g = part_told window value word given held rows waiting h all
+    pick false false false true r q i j k l f g = part_told turns value word given held rows waiting h all
+    pick false false false false true q i j k l f g = part_told rule value word given held rows waiting h all
+    pick false false false false false true i j k l f g = part_told speculating value word given held rows waiting h all
+    pick false false false false false false true j k l f g = flag_told checks value word given held rows waiting h all
+    pick false false false false false false false true k l f g = flag_told counts value word given held rows waiting h all
+    pick false false false false false false false false true l f g = flag_told explains value word given held rows waiting h all
+    pick false false false false false false false false false true f g = flag_told stages value word given held rows waiting h all
+    pick false false false false false false false false false false true g = help_told value word given held rows waiting h all
+    pick false false false false false false false false false false false true = version_told value word given held rows waiting h all
+    pick false false false false false false false false false false false false = (kind.UnknownArgument, refl, refl)
 
 -- ---- a file, or a value
 
@@ -481,6 +488,7 @@ value_told block word given rows h all = (refl, (rows, idle, refl, h, all, inl r
 value_told window word given rows h all = (refl, (rows, idle, refl, h, all, inl refl))
 value_told turns word given rows h all = (refl, (rows, idle, refl, h, all, inl refl))
 value_told rule word given rows h all = (refl, (rows, idle, refl, h, all, inl refl))
+value_told speculating word given rows h all = (refl, (rows, idle, refl, h, all, inl refl))
 value_told file word given rows h all = (refl, (rows, idle, refl, h, all, inl refl))
 
 loose_told : (held : Held_part) (waiting : Waiting) (word : Text) (given : Given) (rows : List Row) → Waits held waiting → Rows given rows → Fits_all given
@@ -763,6 +771,7 @@ no_flag block = refl
 no_flag window = refl
 no_flag turns = refl
 no_flag rule = refl
+no_flag speculating = refl
 no_flag file = refl
 
 some_flag : (f : Flag) → is_among (name_of (flag f)) all_flags ≡ true
@@ -853,6 +862,7 @@ same_part block block e = refl
 same_part window window e = refl
 same_part turns turns e = refl
 same_part rule rule e = refl
+same_part speculating speculating e = refl
 same_part file file e = refl
 same_part a b e = absurd (true≢false (sym e))
 
@@ -967,6 +977,7 @@ small_enough block most e = rw (← ap (λ o. unwrap_or o 0) e) (omega arith)
 small_enough window most e = rw (← ap (λ o. unwrap_or o 0) e) (omega arith)
 small_enough turns most e = rw (← ap (λ o. unwrap_or o 0) e) (omega arith)
 small_enough rule most e = absurd (true≢false (sym (ap is_some e)))
+small_enough speculating most e = absurd (true≢false (sym (ap is_some e)))
 small_enough file most e = absurd (true≢false (sym (ap is_some e)))
 
 -- the number that is read of an option, or its default

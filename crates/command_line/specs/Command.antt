@@ -24,10 +24,10 @@ flag_rule name = record (new_rule name) {
   action = Some SetTrue;
 }
 
--- the option that takes a name
-abbrev pub name_rule : Rule
-name_rule = record (new_rule (codes "rule")) {
-  long = Some (codes "rule");
+-- an option that takes a word
+abbrev pub word_rule : Text → Rule
+word_rule name = record (new_rule name) {
+  long = Some name;
   action = Some Set;
 }
 
@@ -42,7 +42,7 @@ versioned = record bare_app { top = record bare_app.top { has_version = true } }
 
 abbrev pub with_options : App → App
 with_options app =
-    with_rule (with_rule (with_rule (with_rule (with_rule app (number_rule (codes "workers") 64)) (number_rule (codes "block") 1000000)) (number_rule (codes "window") 256)) (number_rule (codes "turns") 1000000000000)) name_rule
+    with_rule (with_rule (with_rule (with_rule (with_rule (with_rule app (number_rule (codes "workers") 64)) (number_rule (codes "block") 1000000)) (number_rule (codes "window") 256)) (number_rule (codes "turns") 1000000000000)) (word_rule (codes "rule"))) (word_rule (codes "speculate"))
 
 abbrev pub f77run : App
 f77run =

@@ -9,6 +9,8 @@ use Rattle.std.specs.Str.{bytes_eq, chars}
 use Rattle.std.specs.Str.Parse.{digits_value, without_leading_plus}
 use Rattle.clap.specs.Lexer.{long_of, short_of}
 use Rattle.meaning.specs.Plans.{PlanNumbers, most_workers, most_trips, most_blocks, most_turns, plan_of}
+use Rattle.command_line.specs.declared.asked.Speculation.{Speculation}
+use Rattle.command_line.specs.declared.asked.Speculation.TheVariants as speculation
 use Rattle.command_line.specs.declared.asked.OptionsFault.{OptionsFault}
 use Rattle.command_line.specs.declared.asked.OptionsFault.TheVariants as fault
 
@@ -17,13 +19,14 @@ Text = List ℕ
 
 -- ---- what a word can give
 
--- one of the four options that take a number, the one that takes the name of a rule or a fault, or a file
+-- one of the four options that take a number, the two that take a word, or a file
 pub data Part : Type 0 where
   workers : Part
   block : Part
   window : Part
   turns : Part
   rule : Part
+  speculating : Part
   file : Part
 
 -- an option that takes nothing
@@ -43,6 +46,7 @@ name_of (part block) = codes "block"
 name_of (part window) = codes "window"
 name_of (part turns) = codes "turns"
 name_of (part rule) = codes "rule"
+name_of (part speculating) = codes "speculate"
 name_of (part file) = codes "FILE"
 name_of (flag checks) = codes "check"
 name_of (flag counts) = codes "count"
@@ -56,6 +60,7 @@ greatest block = Some most_trips
 greatest window = Some most_blocks
 greatest turns = Some most_turns
 greatest rule = None
+greatest speculating = None
 greatest file = None
 
 -- files alone may be more than one, which is told behind all words
@@ -70,6 +75,7 @@ default_of block = 64
 default_of window = 8
 default_of turns = 1000000000
 default_of rule = 0
+default_of speculating = 0
 default_of file = 0
 
 -- ---- a word by itself
@@ -100,13 +106,14 @@ long_word name value =
     else (if bytes_eq (codes "window") name then gives window value
     else (if bytes_eq (codes "turns") name then gives turns value
     else (if bytes_eq (codes "rule") name then gives rule value
+    else (if bytes_eq (codes "speculate") name then gives speculating value
     else (if bytes_eq (codes "check") name then alone (sets checks) value
     else (if bytes_eq (codes "count") name then alone (sets counts) value
     else (if bytes_eq (codes "explain") name then alone (sets explains) value
     else (if bytes_eq (codes "stages") name then alone (sets stages) value
     else (if bytes_eq (codes "help") name then alone (asks fault.Help) value
     else (if bytes_eq (codes "version") name then alone (asks fault.Version) value
-    else errs fault.NoSuchOption))))))))))
+    else errs fault.NoSuchOption)))))))))))
 
 -- by the character behind the minus sign: h (104) or V (86)
 abbrev pub letter_word : Option ℕ → Word
@@ -232,9 +239,18 @@ read (word ∷ words) line = behind (moved word line) (read words)
 abbrev pub number_in : Part → Given → ℕ
 number_in p given = option_map_or number_of (first (part p) given) (default_of p)
 
--- the plan, the file, the name of a rule or a fault, and which flags are given
+-- which of its words is given for `--speculate`, or none is
+abbrev pub speculation_of : Option Text → Option Speculation
+speculation_of None = Some speculation.Adaptive
+speculation_of (Some word) =
+    if bytes_eq word (codes "adaptive") then Some speculation.Adaptive
+    else (if bytes_eq word (codes "always") then Some speculation.Always
+    else (if bytes_eq word (codes "never") then Some speculation.Never else None))
+
+-- the plan, what is tried in parallel, the file, the name of a rule or a fault, and which flags are given
 pub record Asked : Type 0 where
   pub plan : PlanNumbers
+  pub speculate : Speculation
   pub file : Option Text
   pub rule : Option Text
   pub check : Bool
@@ -242,9 +258,11 @@ pub record Asked : Type 0 where
   pub explain : Bool
   pub stages : Bool
 
-abbrev pub with_plan : Given → Option PlanNumbers → Result Asked OptionsFault
-with_plan given (Some plan) = Ok (record {
+abbrev pub with_speculation : Given → PlanNumbers → Option Speculation → Result Asked OptionsFault
+with_speculation given plan None = Err fault.NoSuchSpeculation
+with_speculation given plan (Some chosen) = Ok (record {
   plan = plan;
+  speculate = chosen;
   file = first (part file) given;
   rule = first (part rule) given;
   check = is_on checks given;
@@ -252,6 +270,9 @@ with_plan given (Some plan) = Ok (record {
   explain = is_on explains given;
   stages = is_on stages given;
 })
+
+abbrev pub with_plan : Given → Option PlanNumbers → Result Asked OptionsFault
+with_plan given (Some plan) = with_speculation given plan (speculation_of (first (part speculating) given))
 with_plan given None = Err fault.BadNumber
 
 abbrev pub asked_by : Given → Result Asked OptionsFault

@@ -56,10 +56,11 @@ AreTooMany given e = (nat_lt 1 (length (values (part file) given)) ≡ true) × 
 abbrev pub texts_in : List (Bor Text) → List Text
 texts_in = map (λ word. word.now)
 
--- the numbers of the plan, the file, the name and the flags
+-- the numbers of the plan, what is tried in parallel, the file, the name and the flags
 abbrev pub shown : Options → Asked
 shown o = record {
   plan = o.plan;
+  speculate = o.speculate;
   file = option_map (λ name. name.now) o.file;
   rule = option_map (λ name. name.now) o.rule;
   check = o.check;

@@ -21,7 +21,7 @@ edits from to = levenshtein_row nat_eq (chars from) (chars to) (length (chars to
 -- the options as they are written in words, in the order of the help
 abbrev pub option_names : List Text
 option_names =
-    codes "--workers" ∷ codes "--block" ∷ codes "--window" ∷ codes "--turns" ∷ codes "--check" ∷ codes "--count" ∷ codes "--explain" ∷ codes "--stages" ∷ codes "--rule" ∷ codes "--help" ∷ codes "-h"
+    codes "--workers" ∷ codes "--block" ∷ codes "--window" ∷ codes "--turns" ∷ codes "--speculate" ∷ codes "--check" ∷ codes "--count" ∷ codes "--explain" ∷ codes "--stages" ∷ codes "--rule" ∷ codes "--help" ∷ codes "-h"
     ∷ codes "--version" ∷ codes "-V" ∷ []
 
 abbrev pub name_at : ℕ → Text

@@ -27,6 +27,9 @@ pub enum OptionsFault {
     /// What is given for a number isn't one, or lies outside the option's range.
     #[error("a number is wanted, from 1 to 64 for --workers, 1000000 for --block, 256 for --window, 1000000000000 for --turns")]
     BadNumber,
+    /// What is given for `--speculate` is none of its words.
+    #[error("--speculate takes adaptive, always or never")]
+    NoSuchSpeculation,
     /// There is more than one file.
     #[error("more than one file is named")]
     TooManyFiles,
@@ -38,11 +41,24 @@ pub enum OptionsFault {
     Memory,
 }
 
+/// Which DO statements without output are tried in parallel. The answer is the same whatever is chosen.
+#[derive(Clone, Copy, Debug, PartialEq, Eq)]
+pub enum Speculation {
+    /// Those that are worth it, by what their trips cost and what came of earlier stages.
+    Adaptive,
+    /// Each, by the plan's blocks.
+    Always,
+    /// None.
+    Never,
+}
+
 /// What a command line asks for.
 #[derive(Clone, Copy, Debug, PartialEq, Eq)]
 pub struct Options<'a> {
     /// How the program is run.
     pub plan: Plan,
+    /// Which DO statements are tried in parallel.
+    pub speculate: Speculation,
     /// The file with the source; standard input where none is named.
     pub file: Option<&'a str>,
     /// The name of the rule or the fault that is asked for; none where the source is to be run.

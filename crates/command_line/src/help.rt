@@ -15,9 +15,11 @@ standard output. Behind -- every word is a FILE.
 
 Options:
   --workers N    the workers that run a loop side by side, 1 to 64 [default: 4]
-  --block N      the trips of a loop in a worker's block, 1 to 1000000 [default: 64]
+  --block N      the trips of a loop in a worker's block under --speculate always, 1 to 1000000 [default: 64]
   --window N     the blocks that are tried at a time, 1 to 256 [default: 8]
   --turns N      the turns that the program has, 1 to 1000000000000 [default: 1000000000]
+  --speculate W  which loops are tried in parallel: adaptive (those that are worth it, by what their trips cost and what
+                 came of earlier ones), always (each, by --block) or never [default: adaptive]
   --check        checks the source against the rules, and runs nothing
   --count        tells behind the ending how many turns the program used
   --explain      shows the statement that is refused or at fault, and says what the rule or the fault is
@@ -26,8 +28,8 @@ Options:
                  that doesn't, and runs nothing
   -h, --help     shows this text
   -V, --version  shows the version
-With two workers or more, DO loops without output are tried in parallel, DO WHILE apart;
-the answer is that of one worker.
+With two workers or more, DO loops without output can be tried in parallel, DO WHILE apart;
+the answer is that of one worker, whatever is tried.
 
 Exit statuses, with the line on standard error:
   0  END was reached, or a text was asked for: none; a STOP statement was executed: STOP, STOP 7 or STOP TEXT

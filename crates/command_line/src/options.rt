@@ -3,12 +3,12 @@
 ghost use Rattle.std.specs.Prelude.{◌≡◌, ◌⊎◌, IfErr, IfOk, MatchResult, Ok, Err, option_map, false};
 ghost use Rattle.clap.specs.Words.{app_of, rule_of};
 ghost use Rattle.command_line.specs.declared.asked.OptionsFault.TheVariants.{Memory};
-ghost use Rattle.command_line.specs.Command.{f77run, fault_for, file_rule, flag_rule, name_rule, number_rule};
-ghost use Rattle.command_line.specs.CommandLine.{Flag, Given, Part, asked_by, asked_for, first, flag, is_on, name_of, number_in, part, rule};
+ghost use Rattle.command_line.specs.Command.{f77run, fault_for, file_rule, flag_rule, number_rule, word_rule};
+ghost use Rattle.command_line.specs.CommandLine.{Flag, Given, Part, asked_by, asked_for, first, flag, is_on, name_of, number_in, part, speculation_of};
 ghost use Rattle.command_line.specs.Matches.{AreTooMany, AsksFor, IsGiven, IsNumber, IsOneFile};
 ghost use Rattle.command_line.specs.Matches.{shown, texts_in};
 
-use crate::asked::{Options, OptionsFault};
+use crate::asked::{Options, OptionsFault, Speculation};
 use clap::builder::ValueParser;
 use clap::error::ErrorKind;
 use clap::{Arg, ArgAction, ArgMatches, Command};
@@ -18,13 +18,13 @@ use std::alloc::{AllocError, Global};
 /// Reads a command line, the first word of which is the program's name: options and a file in any order, each option once at
 /// most. `--workers` (1 to 64; 4 where it isn't given), `--block` (1 to 1,000,000; 64), `--window` (1 to 256; 8) and
 /// `--turns` (1 to 1,000,000,000,000; 1,000,000,000) take a number as `--turns 5` or `--turns=5`, in digits with a plus
-/// sign in front or not. `--rule` takes any text. `--check`, `--count`, `--explain` and `--stages` take none, and are false where
+/// sign in front or not. `--speculate` takes `adaptive`, which it is where it isn't given, `always` or `never`. `--rule` takes any text. `--check`, `--count`, `--explain` and `--stages` take none, and are false where
 /// they aren't given. Behind `--` each word is a file, and a minus sign alone is one too.
 ///
 /// # Errors
 ///
 /// The first thing, from the left, for which the words name no run; what stands for an option or a file is looked at
-/// when the word behind it is known, and the number of files behind all words. `Memory` where memory was refused.
+/// when the word behind it is known, and the number of files, and then the word of `--speculate`, behind all words. `Memory` where memory was refused.
 pub fn options<'a>(alloc: Global, words: &'a [&'a str]) -> Result<Options<'a>, OptionsFault>
     ensures ok { IfOk result (λ o. asked_for (texts_in words.entry.now) ≡ Ok (shown o)) }
     ensures err { IfErr result (λ e. (e ≡ OptionsFault.Memory)
@@ -46,7 +46,8 @@ fn command<'a>(alloc: Global) -> Result<Command<'a>, AllocError>
         .arg(number(alloc, "block", 1_000_000))?
         .arg(number(alloc, "window", 256))?
         .arg(number(alloc, "turns", 1_000_000_000_000))?
-        .arg(rule(alloc))?
+        .arg(word(alloc, "rule"))?
+        .arg(word(alloc, "speculate"))?
         .arg(flag(alloc, "check"))?
         .arg(flag(alloc, "count"))?
         .arg(flag(alloc, "explain"))?
@@ -65,12 +66,12 @@ fn number<'a>(alloc: Global, name: &'a str, most: u64) -> Arg<'a>
         .value_parser(ValueParser::unsigned(1, most))
 }
 
-// The option that takes the name of a rule or a fault. Any text is read, so that an unknown one is told by whoever knows the names.
-fn rule<'a>(alloc: Global) -> Arg<'a>
-    ensures rule { rule_of result ≡ name_rule }
+// An option that takes a word. Any text is read, so that an unknown one is told by whoever knows the words.
+fn word<'a>(alloc: Global, name: &'a str) -> Arg<'a>
+    ensures rule { rule_of result ≡ word_rule name.now }
     ensures local { result.global ≡ false }
 {
-    Arg::new(alloc, "rule").long("rule").action(ArgAction::Set)
+    Arg::new(alloc, name).long(name).action(ArgAction::Set)
 }
 
 // An option that takes nothing.
@@ -110,7 +111,8 @@ fn asked<'a>(matches: &ArgMatches<'a>) -> Result<Options<'a>, OptionsFault>
     ensures { (given : Given) → IsGiven given matches.now → AsksFor (asked_by given) result }
 {
     let file = file_given(matches)?;
-    let rule = rule_given(matches);
+    let rule = word_given(matches, "rule");
+    let chosen = speculation_by(word_given(matches, "speculate"));
     let plan = Plan::new(
         number_given(matches, "workers", 4),
         number_given(matches, "block", 64),
@@ -118,16 +120,40 @@ fn asked<'a>(matches: &ArgMatches<'a>) -> Result<Options<'a>, OptionsFault>
         number_given(matches, "turns", 1_000_000_000),
     );
     match plan {
-        Some(plan) => Ok(Options {
-            plan,
-            file,
-            rule,
-            check: flag_given(matches, "check"),
-            count: flag_given(matches, "count"),
-            explain: flag_given(matches, "explain"),
-            stages: flag_given(matches, "stages"),
-        }),
+        Some(plan) => match chosen {
+            Some(speculate) => Ok(Options {
+                plan,
+                speculate,
+                file,
+                rule,
+                check: flag_given(matches, "check"),
+                count: flag_given(matches, "count"),
+                explain: flag_given(matches, "explain"),
+                stages: flag_given(matches, "stages"),
+            }),
+            None => Err(OptionsFault::NoSuchSpeculation),
+        },
         None => Err(OptionsFault::BadNumber),
+    }
+}
+
+// What is tried in parallel, by the word that is given, if it is one.
+fn speculation_by(word: Option<&str>) -> Option<Speculation>
+    ensures { result ≡ speculation_of (option_map (λ s. s.now) word.entry) }
+{
+    match word {
+        None => Some(Speculation::Adaptive),
+        Some(word) => {
+            if word == "adaptive" {
+                Some(Speculation::Adaptive)
+            } else if word == "always" {
+                Some(Speculation::Always)
+            } else if word == "never" {
+                Some(Speculation::Never)
+            } else {
+                None
+            }
+        }
     }
 }
 
@@ -147,14 +173,14 @@ fn flag_given(matches: &ArgMatches<'_>, name: &str) -> bool
     matches.get_flag(name)
 }
 
-// The name of a rule or a fault, where one is asked for.
-fn rule_given<'a>(matches: &ArgMatches<'a>) -> Option<&'a str>
-    ensures { (given : Given) → IsGiven given matches.now
-        → option_map (λ s. s.now) result ≡ first (part rule) given }
+// The word of an option that takes one, where it is given.
+fn word_given<'a>(matches: &ArgMatches<'a>, name: &str) -> Option<&'a str>
+    ensures { (given : Given) (p : Part) → IsGiven given matches.now
+        → name.now ≡ name_of (part p) → option_map (λ s. s.now) result ≡ first (part p) given }
 {
-    match matches.get_strs("rule") {
+    match matches.get_strs(name) {
         None => None,
-        Some(names) => names.first().copied(),
+        Some(words) => words.first().copied(),
     }
 }
 

@@ -10,7 +10,7 @@ use std::alloc::{AllocError, Global};
 use strsim::levenshtein;
 
 // So many options there are.
-const OPTIONS: usize = 13;
+const OPTIONS: usize = 14;
 
 /// Where the word stands for which `options` answers `NoSuchOption`, if it does: it has another answer for the words before
 /// that one, and this one for them and it. The words are halved, so that many of them are read a few times.
@@ -71,7 +71,7 @@ pub fn nearest_option(alloc: Global, text: &str) -> Result<&'static str, AllocEr
 
 // The option at a place of their list, as it is written in words.
 fn option_at(place: usize) -> &'static str
-    requires { place < 13 }
+    requires { place < 14 }
     ensures { result.now ≡ name_at place }
 {
     match place {
@@ -79,14 +79,15 @@ fn option_at(place: usize) -> &'static str
         1 => "--block",
         2 => "--window",
         3 => "--turns",
-        4 => "--check",
-        5 => "--count",
-        6 => "--explain",
-        7 => "--stages",
-        8 => "--rule",
-        9 => "--help",
-        10 => "-h",
-        11 => "--version",
+        4 => "--speculate",
+        5 => "--check",
+        6 => "--count",
+        7 => "--explain",
+        8 => "--stages",
+        9 => "--rule",
+        10 => "--help",
+        11 => "-h",
+        12 => "--version",
         _ => "-V",
     }
 }

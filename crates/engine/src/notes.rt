@@ -63,6 +63,10 @@ impl Watcher for Notes {
         self.loops.reached(line, trips);
     }
 
+    fn passed(&self, line: u32, trips: u64) {
+        self.loops.passed(line, trips);
+    }
+
     fn staged(&self, line: u32, done: u64, told: &StageTold) {
         self.loops.staged(line, done, told);
     }

@@ -12,15 +12,14 @@ use crate::explaining::{matter_of, put_shown};
 use crate::lines::{Texts, put, tell_ending, tell_turns};
 use crate::notes::{Noted, Notes};
 use crate::telling::{is_further, is_staged, tell_further, tell_matter, tell_stages};
-use command_line::asked::{Options, OptionsFault};
+use command_line::asked::{Options, OptionsFault, Speculation};
 use command_line::help::{HELP, VERSION};
 use command_line::options::options;
 use command_line::unknown::{nearest_option, unknown_place};
-use executor::run::run_watched;
-use executor::{Open, Out, Sink};
+use executor::run::{run_adaptive, run_by, run_watched};
+use executor::{Open, Out, Sink, Watched};
 use in_order::program_in;
 use meaning::ending::{Ending, Report};
-use meaning::plan::Plan;
 use meaning::refusal::Refusal;
 use rule_texts::{FAULTS, FaultText, RULES, RuleText, fault_named, rule_named};
 use std::alloc::{AllocError, AllocFailed, Global};
@@ -187,7 +186,7 @@ fn report_of<R: AllocGlobal + Threads + Wait + Sync, O: Write + Drop>(
             turns: None,
         }
     } else {
-        run_whole(rt, &asked.plan, source, notes, out)
+        run_whole(rt, asked, source, notes, out)
     }
 }
 
@@ -274,13 +273,22 @@ fn front_of<I: Read + Drop>(alloc: Global, reader: I) -> io::Result<Vec<u8>>
 // Runs a source over a writer and flushes it; a flush that fails takes the place of the ending.
 fn run_whole<R: AllocGlobal + Threads + Wait + Sync, O: Write + Drop>(
     rt: &R,
-    plan: &Plan,
+    asked: &Options<'_>,
     source: &[u8],
     notes: &Notes,
     out: O,
 ) -> Report {
+    let alloc = rt.alloc();
+    let plan = &asked.plan;
     let mut sink = Out::new(out);
-    let report = run_watched(rt, rt.alloc(), source, plan, &mut sink, &Open, notes);
+    let report = match asked.speculate {
+        Speculation::Adaptive => run_adaptive(rt, alloc, source, plan, &mut sink, &Open, notes),
+        Speculation::Always => run_watched(rt, alloc, source, plan, &mut sink, &Open, notes),
+        Speculation::Never => {
+            let quiet_loops = Watched { watcher: notes };
+            run_by(alloc, &quiet_loops, source, plan.turns(), &mut sink)
+        }
+    };
     match sink.into_inner().flush() {
         Ok(()) => report,
         Err(_) => Report {

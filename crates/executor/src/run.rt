@@ -57,11 +57,68 @@ pub fn run_watched<R: Threads + Wait + Sync, S: Sink, G: Gate + Sync, W: Watcher
         (S.told sink.old) (S.told sink.new) result }
     ensures refused { (result.ending ≡ Ending.WriteRefused) ↔ ((S.told sink.new).refused ≡ true) }
 {
+    run_keeping(
+        rt,
+        alloc,
+        source,
+        plan,
+        sink,
+        gate,
+        watcher,
+        Kept::new(alloc),
+    )
+}
+
+/// The same, where DO statements are tried only as far as that is worth it, by what their trips cost and what came of earlier stages. The
+/// plan's blocks say nothing then; its window is the most blocks of a stage, and its workers are the most workers.
+pub fn run_adaptive<R: Threads + Wait + Sync, S: Sink, G: Gate + Sync, W: Watcher>(
+    rt: &R,
+    alloc: Global,
+    source: &[u8],
+    plan: &Plan,
+    sink: &mut S,
+    gate: &G,
+    watcher: &W,
+) -> Report
+    requires { (S.told sink.old).refused ≡ false }
+    ensures promise { Keeps (answer source.now plan.now.turns)
+        (S.told sink.old) (S.told sink.new) result }
+    ensures refused { (result.ending ≡ Ending.WriteRefused) ↔ ((S.told sink.new).refused ≡ true) }
+{
+    run_keeping(
+        rt,
+        alloc,
+        source,
+        plan,
+        sink,
+        gate,
+        watcher,
+        Kept::adaptive(alloc),
+    )
+}
+
+// Runs a source, where this is what is known of its DO statements at first.
+fn run_keeping<R: Threads + Wait + Sync, S: Sink, G: Gate + Sync, W: Watcher>(
+    rt: &R,
+    alloc: Global,
+    source: &[u8],
+    plan: &Plan,
+    sink: &mut S,
+    gate: &G,
+    watcher: &W,
+    first: Kept,
+) -> Report
+    requires { (S.told sink.old).refused ≡ false }
+    ensures promise { Keeps (answer source.now plan.now.turns)
+        (S.told sink.old) (S.told sink.new) result }
+    ensures refused { (result.ending ≡ Ending.WriteRefused) ↔ ((S.told sink.new).refused ≡ true) }
+{
     if plan.workers() < 2 {
+        drop(first);
         return run_by(alloc, &Watched { watcher }, source, plan.turns(), sink);
     }
     // What one DO statement leaves for those behind it.
-    let kept = Cell::new(Kept::new(alloc));
+    let kept = Cell::new(first);
     let staged = Staged {
         call: |program: &Program, repeated: &Loop, cells: &mut Whole, turns: &mut u64| -> Outcome
             requires { IsAsked program.now repeated.now cells.now }

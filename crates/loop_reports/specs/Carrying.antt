@@ -13,6 +13,7 @@ abbrev pub no_counts : Counts
 no_counts = record {
   reached = 0;
   trips = 0;
+  in_order = 0;
   stages = 0;
   run = 0;
   committed = 0;

@@ -10,6 +10,10 @@ use Rattle.loop_reports.specs.BlockTrips.{capped}
 abbrev pub reached_with : Counts → ℕ → Counts
 reached_with c trips = record c { reached = capped (c.reached + 1); trips = capped (c.trips + trips) }
 
+-- so many more of them were executed in order
+abbrev pub ordered_with : Counts → ℕ → Counts
+ordered_with c trips = record c { in_order = capped (c.in_order + trips) }
+
 -- one more stage is cut; a whole one isn't counted
 abbrev pub cut_with : Counts → Cause → Counts
 cut_with c Whole = c

@@ -40,7 +40,7 @@ cell_text None cell = counted (codes "CELL ") cell
 abbrev pub reached_text : ℕ → Counts → List ℕ
 reached_text line c =
     counted (codes "  LOOP LINE ") line ++ counted (codes " REACHED ") c.reached ++ counted (codes " TRIPS ") c.trips
-    ++ counted (codes " STAGES ") c.stages
+    ++ counted (codes " INORDER ") c.in_order ++ counted (codes " STAGES ") c.stages
 
 abbrev pub blocks_text : Counts → List ℕ
 blocks_text c =

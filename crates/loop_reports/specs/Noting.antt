@@ -7,7 +7,7 @@ use Rattle.loop_reports.specs.declared.row.Carried.{Carried}
 use Rattle.loop_reports.specs.declared.row.Row.{Row}
 use Rattle.block_stage.specs.declared.told.StageTold.{StageTold}
 use Rattle.loop_reports.specs.Carrying.{cells_with, no_counts}
-use Rattle.loop_reports.specs.Counting.{reached_with, staged_with}
+use Rattle.loop_reports.specs.Counting.{ordered_with, reached_with, staged_with}
 
 -- the counts of a statement, and the cells at which its stages were cut
 pub record Noted : Type 0 where
@@ -24,9 +24,12 @@ noted_in (Some r) = record { counts = r.counts; cells = r.cells.entries }
 abbrev pub noted_at : BTreeMap ℕ Row → ℕ → Noted
 noted_at rows line = noted_in (get nat_cmp rows line)
 
--- one more time that it is reached, and one more stage
+-- one more time that it is reached, some trips in order, and one more stage
 abbrev pub reached_once : ℕ → Noted → Noted
 reached_once trips n = record n { counts = reached_with n.counts trips }
+
+abbrev pub ordered_once : ℕ → Noted → Noted
+ordered_once trips n = record n { counts = ordered_with n.counts trips }
 
 abbrev pub staged_once : ℕ → StageTold → Noted → Noted
 staged_once done t n = record { counts = staged_with n.counts t; cells = cells_with n.cells n.counts.reached done t }

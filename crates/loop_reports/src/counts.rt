@@ -1,7 +1,7 @@
 //! What is counted of a DO statement that is run by stages.
 
 ghost use Rattle.std.specs.Prelude.{◌≡◌};
-ghost use Rattle.loop_reports.specs.Counting.{cut_with, reached_with, staged_with};
+ghost use Rattle.loop_reports.specs.Counting.{cut_with, ordered_with, reached_with, staged_with};
 
 use block_stage::{Cause, StageTold};
 
@@ -12,6 +12,8 @@ pub struct Counts {
     pub reached: u64,
     /// The trips of all its executions.
     pub trips: u64,
+    /// Those of them that were executed in order, in no stage.
+    pub in_order: u64,
     /// The stages.
     pub stages: u64,
     /// The blocks that have a run.
@@ -41,6 +43,16 @@ pub fn counts_reached(counts: Counts, trips: u64) -> Counts
     Counts {
         reached: counts.reached.saturating_add(1),
         trips: counts.trips.saturating_add(trips),
+        ..counts
+    }
+}
+
+/// The counts of a statement so many more trips of which were executed in order.
+pub fn counts_ordered(counts: Counts, trips: u64) -> Counts
+    ensures { result ≡ ordered_with counts trips }
+{
+    Counts {
+        in_order: counts.in_order.saturating_add(trips),
         ..counts
     }
 }

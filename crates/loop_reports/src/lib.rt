@@ -9,9 +9,9 @@ mod row;
 mod text;
 mod trips;
 
-pub use counts::{Counts, counts_reached, counts_staged};
+pub use counts::{Counts, counts_ordered, counts_reached, counts_staged};
 pub use lines::told_loops;
 pub use loops::Loops;
-pub use noting::{note_reached, note_staged};
+pub use noting::{note_ordered, note_reached, note_staged};
 pub use row::{Carried, Row, dependence_of};
 pub use trips::{Trips, trips_of_block};

@@ -55,6 +55,7 @@ fn put_reached(text: &mut Vec<u8>, line: u32, counts: &Counts) -> Result<(), All
     put_count(text, "  LOOP LINE ", u64::from(line))?;
     put_count(text, " REACHED ", counts.reached)?;
     put_count(text, " TRIPS ", counts.trips)?;
+    put_count(text, " INORDER ", counts.in_order)?;
     put_count(text, " STAGES ", counts.stages)
 }
 

@@ -1,6 +1,6 @@
 //! What is collected while a program runs.
 
-use crate::noting::{note_reached, note_staged};
+use crate::noting::{note_ordered, note_reached, note_staged};
 use crate::row::Row;
 use block_stage::StageTold;
 use stage_loop::Watcher;
@@ -59,6 +59,13 @@ impl Watcher for Loops {
     fn reached(&self, line: u32, trips: u64) {
         if let Some(mut rows) = self.take_rows() {
             let noted = note_reached(&mut rows, self.alloc, line, trips);
+            self.keep_rows(rows, noted);
+        }
+    }
+
+    fn passed(&self, line: u32, trips: u64) {
+        if let Some(mut rows) = self.take_rows() {
+            let noted = note_ordered(&mut rows, self.alloc, line, trips);
             self.keep_rows(rows, noted);
         }
     }

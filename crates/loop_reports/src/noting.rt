@@ -3,7 +3,7 @@
 ghost use Rattle.std.specs.Prelude.{◌≡◌, ℕ, IsSome, OnOk};
 ghost use Rattle.std.specs.BTreeMap.{get};
 ghost use Rattle.std.specs.Ordering.{nat_cmp};
-ghost use Rattle.loop_reports.specs.Noting.{at_line, noted_at, reached_once, staged_once};
+ghost use Rattle.loop_reports.specs.Noting.{at_line, noted_at, ordered_once, reached_once, staged_once};
 
 use crate::row::Row;
 use block_stage::StageTold;
@@ -23,6 +23,23 @@ pub fn note_reached(
     add_row(rows, alloc, line)?;
     if let Some(row) = rows.get_mut(&line) {
         row.reach(trips);
+    }
+    Ok(())
+}
+
+/// Notes that so many trips of the DO statement at a line were executed in order. The `AllocError` comes where a growth was refused.
+pub fn note_ordered(
+    rows: &mut BTreeMap<u32, Row>,
+    alloc: Global,
+    line: u32,
+    trips: u64,
+) -> Result<(), AllocError>
+    ensures { OnOk result ((q : ℕ) →
+        noted_at rows.new q ≡ at_line line (ordered_once trips) (noted_at rows.old) q) }
+{
+    add_row(rows, alloc, line)?;
+    if let Some(row) = rows.get_mut(&line) {
+        row.pass(trips);
     }
     Ok(())
 }

@@ -2,9 +2,9 @@
 
 ghost use Rattle.std.specs.Prelude.{◌≡◌, [], OnErr, OnOk};
 ghost use Rattle.loop_reports.specs.Carrying.{carried_of, cells_with, most_often, no_counts, oftener_of, with_cell};
-ghost use Rattle.loop_reports.specs.Counting.{reached_with, staged_with};
+ghost use Rattle.loop_reports.specs.Counting.{ordered_with, reached_with, staged_with};
 
-use crate::counts::{Counts, counts_reached, counts_staged};
+use crate::counts::{Counts, counts_ordered, counts_reached, counts_staged};
 use crate::trips::{Trips, trips_of_block};
 use block_stage::{Cause, StageTold};
 use indexmap::IndexMap;
@@ -50,6 +50,14 @@ impl Row {
         ensures cells { self.new.cells ≡ self.old.cells }
     {
         self.counts = counts_reached(self.counts, trips);
+    }
+
+    /// Notes that so many trips were executed in order.
+    pub fn pass(&mut self, trips: u64)
+        ensures counts { self.new.counts ≡ ordered_with self.old.counts trips }
+        ensures cells { self.new.cells ≡ self.old.cells }
+    {
+        self.counts = counts_ordered(self.counts, trips);
     }
 
     /// Notes a stage, before which so many trips of the execution were done. The `AllocError` comes where a growth was refused, and

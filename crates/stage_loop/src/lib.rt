@@ -5,6 +5,7 @@
 mod course;
 mod do_statement;
 mod kept;
+mod pace;
 mod size;
 mod stages;
 mod watcher;

@@ -10,7 +10,8 @@ ghost use Rattle.stage_loop.specs.Fronts.{IsFront};
 ghost use Rattle.stage_loop.specs.Loops.{AreIntegers, IsQuietLoop, LeavesIn};
 
 use crate::course::{Course, behind};
-use crate::kept::Kept;
+use crate::kept::{Kept, Known};
+use crate::pace::{Pace, Size, Step, is_dear};
 use crate::size::{blocks_of, trips_in, workers_of};
 use crate::watcher::{Watch, Watcher};
 use array_store::Whole;
@@ -24,12 +25,14 @@ use std::alloc::Global;
 use std::sync::Wait;
 use std::thread::Threads;
 
-// The first blocks of a stage, up to its cut: how many they are, what is taken of them, and the turns that all its blocks used.
+// The first blocks of a stage, up to its cut: how many they are, what is taken of them, the turns that all its blocks used, and whether
+// the first view was dear.
 #[derive(Drop)]
 struct Front {
     cut: usize,
     taken: Taken,
     turns: u64,
+    is_dear: bool,
 }
 
 // What a stage did: how many trips, how they ended, and the turns that all its blocks used, also those past the cut.
@@ -38,6 +41,7 @@ struct Stage {
     done: u64,
     outcome: Outcome,
     turns: u64,
+    is_dear: bool,
 }
 
 // How far the loop came: how many trips more, how the last one ended, and the turns of all blocks, where it was a stage.
@@ -46,6 +50,7 @@ struct Advance {
     done: u64,
     outcome: Outcome,
     turns: Option<u64>,
+    is_dear: bool,
 }
 
 // Runs the blocks of a job, and takes those before the cut. None where memory was refused or the first block was lost.
@@ -67,6 +72,8 @@ fn take_blocks<'a, R: Threads + Wait + Sync, G: Gate + Sync, W: Watcher>(
         None => return None,
     };
     let turns = posted.turns();
+    let (used, weight) = posted.first_weight();
+    let is_dear = is_dear(used, weight);
     let blocks = cut(&posted);
     watch.tell(&posted, blocks);
     if blocks == 0 {
@@ -77,6 +84,7 @@ fn take_blocks<'a, R: Threads + Wait + Sync, G: Gate + Sync, W: Watcher>(
         cut: blocks,
         taken: posted.taken(blocks),
         turns,
+        is_dear,
     })
 }
 
@@ -90,6 +98,7 @@ fn run_blocks<R: Threads + Wait + Sync, G: Gate + Sync, W: Watcher>(
     repeat: &Repeat,
     course: Course,
     plan: &Plan,
+    size: Size,
     last: Option<u64>,
     kept: &mut Kept,
     cells: &mut Whole,
@@ -111,8 +120,9 @@ fn run_blocks<R: Threads + Wait + Sync, G: Gate + Sync, W: Watcher>(
     ensures nothing { IfNone result ((cells.new ≡ cells.old) × (turns.new ≡ turns.old)) }
     ensures len { length cells.new ≡ length cells.old }
 {
-    let size = plan.block();
-    let blocks = blocks_of(course.trips, size, plan.window() as u32);
+    let Size { trips, blocks } = size;
+    let size = trips;
+    let blocks = blocks_of(course.trips, size, blocks);
     let workers = workers_of(plan.workers() as u32, blocks, last);
     let job = Job::over(
         program,
@@ -135,6 +145,7 @@ fn run_blocks<R: Threads + Wait + Sync, G: Gate + Sync, W: Watcher>(
         cut,
         taken,
         turns: all,
+        is_dear,
     } = front;
     let run = taken.apply(cells);
     kept.keep_spares(taken.into_spares());
@@ -143,20 +154,22 @@ fn run_blocks<R: Threads + Wait + Sync, G: Gate + Sync, W: Watcher>(
         done: trips_in(cut as u64, size, course.trips),
         outcome: run.outcome,
         turns: all,
+        is_dear,
     })
 }
 
-// Runs the trips of the next block in order.
+// Runs some first trips in order.
 fn run_in_order(
     program: &Program,
     repeated: &Loop,
     course: Course,
-    plan: &Plan,
+    trips: u64,
     cells: &mut Whole,
     turns: &mut u64,
 ) -> Advance
     requires quiet { IsQuietLoop program.now repeated.now }
     requires some { 0 < course.trips }
+    requires trips { 0 < trips }
     requires sized { length cells.old ≡ count_in program.now }
     ensures some { 0 < result.done }
     ensures done { result.done ≤ course.trips }
@@ -165,7 +178,7 @@ fn run_in_order(
         turns.old turns.new result.outcome }
     ensures len { length cells.new ≡ length cells.old }
 {
-    let done = plan.block().min(course.trips);
+    let done = trips.min(course.trips);
     match run_trips(
         program,
         repeated,
@@ -181,6 +194,7 @@ fn run_in_order(
                 done,
                 outcome: run.outcome,
                 turns: None,
+                is_dear: false,
             }
         }
         // A whole store refuses no write.
@@ -188,11 +202,33 @@ fn run_in_order(
             done,
             outcome: Outcome::Normal,
             turns: None,
+            is_dear: false,
         },
     }
 }
 
-// Runs some first trips as a stage, or those of the next block in order.
+// The size of the next stage: the plan's, or what the trips are worth.
+fn size_of(kept: &Kept, pace: Pace, plan: &Plan, left: u64) -> Size {
+    if kept.is_adaptive() {
+        return pace.size(plan, left);
+    }
+    Size {
+        trips: plan.block(),
+        blocks: plan.window() as u32,
+    }
+}
+
+// The turns that say how many workers the next stage has: those of the stage before, or what its blocks are likely to use.
+fn turns_ahead(kept: &Kept, pace: Pace, size: Size, last: Option<u64>) -> Option<u64> {
+    if !kept.is_adaptive() {
+        return last;
+    }
+    let trips = size.trips.saturating_mul(u64::from(size.blocks));
+    // A thread is started for eight times what its start costs.
+    Some(pace.turns_of(trips) / 8)
+}
+
+// Runs some first trips as a stage, or in order where they aren't worth one, or none could be made.
 fn run_next<R: Threads + Wait + Sync, G: Gate + Sync, W: Watcher>(
     rt: &R,
     alloc: Global,
@@ -201,6 +237,7 @@ fn run_next<R: Threads + Wait + Sync, G: Gate + Sync, W: Watcher>(
     repeat: &Repeat,
     course: Course,
     plan: &Plan,
+    pace: Pace,
     last: Option<u64>,
     kept: &mut Kept,
     cells: &mut Whole,
@@ -221,25 +258,48 @@ fn run_next<R: Threads + Wait + Sync, G: Gate + Sync, W: Watcher>(
         turns.old turns.new result.outcome }
     ensures len { length cells.new ≡ length cells.old }
 {
+    if kept.is_adaptive() && !pace.is_worth(plan, course.trips) {
+        return run_in_order(program, repeated, course, pace.chunk(), cells, turns);
+    }
+    let size = size_of(kept, pace, plan, course.trips);
+    let ahead = turns_ahead(kept, pace, size, last);
     match run_blocks(
-        rt, alloc, program, repeated, repeat, course, plan, last, kept, cells, turns, gate, watch,
+        rt, alloc, program, repeated, repeat, course, plan, size, ahead, kept, cells, turns, gate,
+        watch,
     ) {
         Some(stage) => Advance {
             done: stage.done,
             outcome: stage.outcome,
             turns: Some(stage.turns),
+            is_dear: stage.is_dear,
         },
-        None => run_in_order(program, repeated, course, plan, cells, turns),
+        None => run_in_order(program, repeated, course, size.trips, cells, turns),
     }
 }
 
-// Keeps what the first stage of a DO statement used, where there was one.
-fn keep_first(kept: &mut Kept, line: u32, is_first: bool, turns: Option<u64>) {
-    if is_first {
-        if let Some(turns) = turns {
-            kept.keep_turns(line, turns);
-        }
+// What is known behind some trips more; of the first stage what its blocks used.
+fn known_behind(known: Known, step: Step, is_first: bool) -> Known {
+    let first = if is_first && step.all.is_some() {
+        step.all
+    } else {
+        known.first
+    };
+    Known {
+        pace: known.pace.behind(step),
+        first,
     }
+}
+
+// Keeps what is known of the DO statement at a line for its next execution, behind so many trips of this one, which used so many turns.
+fn keep(kept: &mut Kept, line: u32, known: Known, done: u64, used: u64) {
+    let pace = known.pace.on_the_whole(done, used);
+    kept.keep(
+        line,
+        Known {
+            pace,
+            first: known.first,
+        },
+    );
 }
 
 /// Executes the range once for each trip, by stages; the variable has its value in the first of them.
@@ -270,7 +330,9 @@ pub(crate) fn run_stages<R: Threads + Wait + Sync, G: Gate + Sync, W: Watcher>(
     ensures len { length cells.new ≡ length cells.old }
 {
     let line = repeated.head.line;
-    let mut last = kept.turns_at(line);
+    let given = *turns;
+    let mut known = kept.known_at(line);
+    let mut last = known.first;
     let mut rest = course;
     watcher.reached(line, course.trips);
     while rest.trips > 0 {
@@ -279,15 +341,28 @@ pub(crate) fn run_stages<R: Threads + Wait + Sync, G: Gate + Sync, W: Watcher>(
             line,
             done: course.trips - rest.trips,
         };
+        let before = *turns;
         let Advance {
             done,
             outcome,
             turns: all,
+            is_dear,
         } = run_next(
-            rt, alloc, program, repeated, repeat, rest, plan, last, kept, cells, turns, gate,
-            &watch,
+            rt, alloc, program, repeated, repeat, rest, plan, known.pace, last, kept, cells, turns,
+            gate, &watch,
         );
-        keep_first(kept, line, rest.trips == course.trips, all);
+        if all.is_none() {
+            watcher.passed(line, done);
+        }
+        let step = Step {
+            done,
+            used: before.saturating_sub(*turns),
+            all,
+            is_dear,
+        };
+        known = known_behind(known, step, rest.trips == course.trips);
+        let so_far = (course.trips - rest.trips).saturating_add(done);
+        keep(kept, line, known, so_far, given.saturating_sub(*turns));
         match outcome {
             Outcome::Normal => {}
             Outcome::Left(label) => return Outcome::Left(label),

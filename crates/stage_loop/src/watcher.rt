@@ -14,6 +14,9 @@ pub trait Watcher {
     /// A DO statement whose trips are run by stages was reached: the line at which it begins, and how many trips it has.
     fn reached(&self, line: u32, trips: u64);
 
+    /// So many trips of it were executed in order, in no stage: since they weren't worth one, or none could be made.
+    fn passed(&self, _line: u32, _trips: u64) {}
+
     /// One of its stages is done: how many of its trips were done before it, and what is told of it.
     fn staged(&self, line: u32, done: u64, told: &StageTold);
 

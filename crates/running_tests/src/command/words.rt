@@ -1,7 +1,7 @@
 //! What the words of command lines ask for. The expected values are worked from what `f77run --help` says; what is wrong with other words is
 //! asked of the program as it is built, by `tests/run`.
 
-use command_line::asked::Options;
+use command_line::asked::{Options, OptionsFault, Speculation};
 use command_line::options::options;
 use meaning::plan::Plan;
 use std::test::*;
@@ -341,6 +341,7 @@ fn words_ask_for(rt: HostRuntime) {
         let (check, count, explain, stages) = flags;
         let wanted = Options {
             plan,
+            speculate: Speculation::Adaptive,
             file,
             rule,
             check,
@@ -349,5 +350,57 @@ fn words_ask_for(rt: HostRuntime) {
             stages,
         };
         assert!(rt; options(rt.alloc(), words) == Ok(wanted), "{words:?}");
+    }
+}
+
+// Words, and what is tried in parallel by them, or what is wrong.
+const TRIED: &[(&[&str], Result<Speculation, OptionsFault>)] = &[
+    (&["f77run", "a.f"], Ok(Speculation::Adaptive)),
+    (
+        &["f77run", "--speculate", "adaptive"],
+        Ok(Speculation::Adaptive),
+    ),
+    (&["f77run", "--speculate=always"], Ok(Speculation::Always)),
+    (
+        &["f77run", "--speculate", "never", "a.f"],
+        Ok(Speculation::Never),
+    ),
+    (
+        &["f77run", "--speculate", "Never"],
+        Err(OptionsFault::NoSuchSpeculation),
+    ),
+    (
+        &["f77run", "--speculate="],
+        Err(OptionsFault::NoSuchSpeculation),
+    ),
+    (
+        &["f77run", "--speculate", "a.f", "--workers", "2"],
+        Err(OptionsFault::NoSuchSpeculation),
+    ),
+    // what is told behind all words comes last, and more than one file before it
+    (
+        &["f77run", "--speculate", "on", "a.f", "b.f"],
+        Err(OptionsFault::TooManyFiles),
+    ),
+    (
+        &["f77run", "--speculate=on", "--turns=0"],
+        Err(OptionsFault::BadNumber),
+    ),
+    (&["f77run", "--speculate"], Err(OptionsFault::NoValue)),
+    (
+        &["f77run", "--speculate=always", "--speculate=always"],
+        Err(OptionsFault::GivenTwice),
+    ),
+];
+
+#[test]
+fn words_for_what_is_tried(rt: HostRuntime) {
+    for &(words, wanted) in TRIED {
+        let asked = options(rt.alloc(), words);
+        let tried = match asked {
+            Ok(asked) => Ok(asked.speculate),
+            Err(fault) => Err(fault),
+        };
+        assert!(rt; tried == wanted, "{words:?}");
     }
 }

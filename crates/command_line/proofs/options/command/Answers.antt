@@ -13,9 +13,10 @@ returns c =
     let with_second = c.in_ok-arg-2.ensures.shape (search rules) ∙ ap₂ with_rule with_first c.number-2.ensures.rule in
     let with_third = c.in_ok-arg-3.ensures.shape (search rules) ∙ ap₂ with_rule with_second c.number-3.ensures.rule in
     let with_fourth = c.in_ok-arg-4.ensures.shape (search rules) ∙ ap₂ with_rule with_third c.number-4.ensures.rule in
-    let with_fifth = c.in_ok-arg-5.ensures.shape (search rules) ∙ ap₂ with_rule with_fourth c.rule.ensures.rule in
-    let with_sixth = c.in_ok-arg-6.ensures.shape (search rules) ∙ ap₂ with_rule with_fifth c.flag.ensures.rule in
-    let with_seventh = c.in_ok-arg-7.ensures.shape (search rules) ∙ ap₂ with_rule with_sixth c.flag-2.ensures.rule in
-    let with_eighth = c.in_ok-arg-8.ensures.shape (search rules) ∙ ap₂ with_rule with_seventh c.flag-3.ensures.rule in
-    let with_ninth = c.in_ok-arg-9.ensures.shape (search rules) ∙ ap₂ with_rule with_eighth c.flag-4.ensures.rule in
-    IfOk-weaker c.arg-10.result _ _ (λ r h. h.shape (search rules) ∙ ap₂ with_rule with_ninth c.files.ensures.rule) c.arg-10.ensures
+    let with_fifth = c.in_ok-arg-5.ensures.shape (search rules) ∙ ap₂ with_rule with_fourth c.word.ensures.rule in
+    let with_sixth = c.in_ok-arg-6.ensures.shape (search rules) ∙ ap₂ with_rule with_fifth c.word-2.ensures.rule in
+    let with_seventh = c.in_ok-arg-7.ensures.shape (search rules) ∙ ap₂ with_rule with_sixth c.flag.ensures.rule in
+    let with_eighth = c.in_ok-arg-8.ensures.shape (search rules) ∙ ap₂ with_rule with_seventh c.flag-2.ensures.rule in
+    let with_ninth = c.in_ok-arg-9.ensures.shape (search rules) ∙ ap₂ with_rule with_eighth c.flag-3.ensures.rule in
+    let with_tenth = c.in_ok-arg-10.ensures.shape (search rules) ∙ ap₂ with_rule with_ninth c.flag-4.ensures.rule in
+    IfOk-weaker c.arg-11.result _ _ (λ r h. h.shape (search rules) ∙ ap₂ with_rule with_tenth c.files.ensures.rule) c.arg-11.ensures

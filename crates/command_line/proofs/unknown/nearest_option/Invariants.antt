@@ -4,7 +4,7 @@ use Rattle.command_line.proofs.unknown.nearest_option.Given as goal
 
 abbrev pub invariant-loop-at : goal.invariant-loop-at
 invariant-loop-at l = record {
-  there : l.nearest < 13;
+  there : l.nearest < 14;
   known : l.least ≡ edits l.text (name_at l.nearest);
   no_nearer : (k : ℕ) → k < l.at → l.least ≤ edits l.text (name_at k);
 }

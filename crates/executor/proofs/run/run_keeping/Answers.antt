@@ -1,4 +1,4 @@
-use Rattle.executor.proofs.run.run_watched.Goals as goal
+use Rattle.executor.proofs.run.run_keeping.Goals as goal
 
 pub returns-then-workers-lt2-clause-promise : goal.returns-then-workers-lt2-clause-promise
 returns-then-workers-lt2-clause-promise g c = rw c.turns.ensures.is at c.run_by.ensures.promise

@@ -1,0 +1,17 @@
+C     BUBBLE SORT OF 1200 NUMBERS FROM A GENERATOR.
+      INTEGER A(1200)
+      IX=12345
+      DO 10 I=1,1200
+      IX=MOD(IX*421+1663,7875)
+   10 A(I)=IX
+      DO 30 I=1,1199
+      DO 20 J=1,1200-I
+      IF (A(J).LE.A(J+1)) GO TO 20
+      IT=A(J)
+      A(J)=A(J+1)
+      A(J+1)=IT
+   20 CONTINUE
+   30 CONTINUE
+      WRITE (6,40) (A(I),I=1,1200,100),A(1200)
+   40 FORMAT (13I6)
+      END

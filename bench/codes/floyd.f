@@ -1,0 +1,24 @@
+C     SHORTEST WAYS BETWEEN 200 TOWNS, BY FLOYD'S METHOD.
+      INTEGER D(200,200)
+      IX=99
+      DO 10 J=1,200
+      DO 10 I=1,200
+      IX=MOD(IX*421+1663,7875)
+      D(I,J)=IX+1
+      IF (I.EQ.J) D(I,J)=0
+   10 CONTINUE
+      DO 40 K=1,200
+      DO 30 J=1,200
+      IKJ=D(K,J)
+      DO 20 I=1,200
+      IF (D(I,K)+IKJ.LT.D(I,J)) D(I,J)=D(I,K)+IKJ
+   20 CONTINUE
+   30 CONTINUE
+   40 CONTINUE
+      N=0
+      DO 50 J=1,200
+      DO 50 I=1,200
+   50 N=N+D(I,J)
+      WRITE (6,60) N,D(1,200),D(200,1)
+   60 FORMAT (3I10)
+      END

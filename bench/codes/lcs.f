@@ -1,0 +1,20 @@
+C     THE LONGEST COMMON SUBSEQUENCE OF TWO SEQUENCES OF 1000.
+      INTEGER A(1000),B(1000),L(0:1000,0:1000)
+      IX=4711
+      DO 10 I=1,1000
+      IX=MOD(IX*421+1663,7875)
+      A(I)=MOD(IX,4)
+      IX=MOD(IX*421+1663,7875)
+   10 B(I)=MOD(IX,4)
+      DO 30 J=1,1000
+      DO 20 I=1,1000
+      IF (A(I).EQ.B(J)) THEN
+      L(I,J)=L(I-1,J-1)+1
+      ELSE
+      L(I,J)=MAX(L(I-1,J),L(I,J-1))
+      END IF
+   20 CONTINUE
+   30 CONTINUE
+      WRITE (6,40) L(1000,1000)
+   40 FORMAT (I6)
+      END

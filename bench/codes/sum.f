@@ -1,0 +1,7 @@
+C     A SUM OVER 500000 TRIPS.
+      IS=0
+      DO 10 I=1,500000
+   10 IS=MOD(IS+I*3,10007)
+      WRITE (6,20) IS
+   20 FORMAT (I8)
+      END

@@ -1,0 +1,10 @@
+C     A TRIANGULAR LOOP: SUMS OF ROWS BELOW THE DIAGONAL.
+      INTEGER R(1500)
+      DO 20 I=1,1500
+      N=0
+      DO 10 J=1,I
+   10 N=N+MOD(I*J,11)
+   20 R(I)=N
+      WRITE (6,30) R(1),R(750),R(1500)
+   30 FORMAT (3I8)
+      END
