@@ -1,5 +1,5 @@
 -- Arrays without a size, one declarator or one statement more, and the names in an implied DO.
-use Rattle.std.proofs.Common.{◌≡◌, ℕ, ◌+◌, ◌<◌, Bool, true, false, ◌||◌, List, [], ◌∷◌, ◌++◌, length, get_or, take, map, filter, append_assoc, refl, sym, ap, ap₂, ◌∙◌}
+use Rattle.std.proofs.Common.{◌≡◌, ℕ, ◌+◌, ◌<◌, Bool, ◌||◌, List, [], ◌∷◌, ◌++◌, length, get_or, take, map, filter, append_assoc, refl, sym, ap, ap₂, ◌∙◌}
 use Rattle.std.specs.List.{list_any}
 use Rattle.std.proofs.lemmas.List.{append-nil, map-append}
 use Rattle.std.proofs.lemmas.List.Elements.{filter-append}
@@ -9,11 +9,9 @@ use Rattle.meaning.specs.declared.syntax.ListItem.TheVariants as list_items
 use Rattle.meaning.specs.declared.syntax.ListItems.{ListItems}
 use Rattle.meaning.specs.declared.syntax.ListItems.TheVariants as lists
 use Rattle.meaning.specs.Initial.{list_uses}
-use Rattle.meaning.specs.NumberRules.{lacks_bound, sizeless_at, sizeless_in}
+use Rattle.meaning.specs.NumberRules.{sizeless_at, sizeless_in}
 use Rattle.meaning.specs.Syntax.{DeclaratorTree, ItemTree, declarator_tree, limits_tree, list_item_tree, list_items_tree, more_items}
-use Rattle.meaning.specs.Types.{Types}
 use Rattle.meaning.specs.Uses.{Roles, Use, limit_uses}
-use Rattle.meaning.specs.Values.{Known}
 use Rattle.roles.proofs.Passes.{map_more}
 use Rattle.rule_passes.proofs.Missing.{any_both}
 
