@@ -1,30 +1,25 @@
--- What a call that executes a DO statement without output asks and gives.
-use Rattle.std.specs.Prelude.{◌≡◌, ℕ, ℤ, List, length}
-use Rattle.meaning.specs.declared.ending.Outcome.{Outcome}
+-- What a call that executes trips of a DO statement without output asks and gives.
+use Rattle.std.specs.Prelude.{◌≡◌, ◌≢◌, ◌≤◌, ℕ, ℤ, List, length, pos}
 use Rattle.meaning.specs.declared.syntax.Loop.{Loop, out-Loop}
 use Rattle.meaning.specs.declared.syntax.Tree.{Tree}
 use Rattle.meaning.specs.Syntax.{shape_tree}
-use Rattle.meaning.specs.Trees.{flat, item_tree, members_tree}
-use Rattle.landmarks.specs.Kept.{IsKept}
-use Rattle.landmarks.specs.Quiet.{WritesNothing}
-use Rattle.numbering.specs.Checked.{count_in, items_in}
-use Rattle.programs.specs.Programs.{IsStatement}
-use Rattle.evaluator.specs.Known.{AreStatements}
-use Rattle.evaluator.specs.Over.{MovesIn, loop_as}
-use Rattle.evaluator.specs.Statements.{Spends}
-use Rattle.evaluator.specs.Unset.{LeavesItsVariable}
+use Rattle.numbering.specs.Checked.{count_in}
+use Rattle.programs.specs.declared.action.Repeat.{Repeat}
+use Rattle.programs.specs.Acts.{Repeats}
+use Rattle.whole_runs.specs.declared.trips.Advance.{Advance}
+use Rattle.whole_runs.specs.declared.trips.Remaining.{Remaining}
+use Rattle.whole_runs.specs.Trips.{IsQuietLoop, LeavesIn, trips_in}
 
--- a DO statement of the program without output, and as many cells as the program has
-pub record IsAsked (t : Tree) (l : Loop) (cells : List ℤ) : Type 0 where
-  pub named : AreStatements t (flat (members_tree (out-Loop l).range.items))
-  pub kept : IsKept t (members_tree (out-Loop l).range.items)
-  pub quiet : WritesNothing (members_tree (out-Loop l).range.items)
-  pub leaves : LeavesItsVariable l
-  pub head : IsStatement t (item_tree (out-Loop l).head)
+-- a DO statement of the program without output, trips that are left of it, and as many cells as the program has
+pub record IsAsked (t : Tree) (l : Loop) (r : Repeat) (remaining : Remaining) (cells : List ℤ) : Type 0 where
+  pub quiet : IsQuietLoop t l
+  pub repeats : Repeats t r (shape_tree (out-Loop l).head.form.shape.value)
+  pub moves : remaining.span.step ≢ pos 0
   pub sized : length cells ≡ count_in t
 
 -- what it does from these cells and turns
-pub record IsGiven (t : Tree) (l : Loop) (old new : List ℤ) (given left : ℕ) (o : Outcome) : Type 0 where
-  pub moves : MovesIn t old new (loop_as (items_in t) (shape_tree (out-Loop l).head.form.shape.value) l) given left o
-  pub spends : Spends o given left
+pub record IsGiven (t : Tree) (l : Loop) (remaining : Remaining) (old new : List ℤ) (given left : ℕ) (a : Advance) : Type 0 where
+  pub done : a.done ≤ remaining.trips
+  pub leaves : (first : ℤ) → LeavesIn t old new (trips_in t l first remaining.span.step a.done) given left a.outcome
+  pub nothing : a.done ≡ 0 → (new ≡ old) × (left ≡ given)
   pub len : length new ≡ length old

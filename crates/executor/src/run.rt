@@ -8,16 +8,17 @@ ghost use Rattle.executor.specs.Calls.{IsAsked, IsGiven};
 use crate::staged::{Staged, Watched};
 use array_store::Whole;
 pub use in_order::{run_by, run_in_order};
-use meaning::ending::{Ending, Outcome, Report};
+use meaning::ending::{Ending, Report};
 use meaning::plan::Plan;
 use meaning::syntax::Loop;
-use programs::Program;
+use programs::{Program, Repeat};
 use record_sinks::Sink;
-use stage_loop::{Gate, Kept, Unwatched, Watcher, run_loop_watched};
+use stage_loop::{Gate, Kept, Unwatched, Watcher, run_some_trips};
 use std::alloc::Global;
 use std::cell::Cell;
 use std::sync::Wait;
 use std::thread::Threads;
+use whole_runs::{Advance, Remaining};
 
 /// Runs a source with the plan: each DO statement without output that stands in no other such one by stages, whose blocks enter the
 /// gate, and all else in order. With one worker it is `run_in_order`. What it promises is the same for each plan and gate. It may
@@ -120,17 +121,18 @@ fn run_keeping<R: Threads + Wait + Sync, S: Sink, G: Gate + Sync, W: Watcher>(
     // What one DO statement leaves for those behind it.
     let kept = Cell::new(first);
     let staged = Staged {
-        call: |program: &Program, repeated: &Loop, cells: &mut Whole, turns: &mut u64| -> Outcome
-            requires { IsAsked program.now repeated.now cells.now }
-            ensures { IsGiven program.now repeated.now cells.old cells.new turns.old turns.new result }
+        call: |program: &Program, repeated: &Loop, repeat: &Repeat, remaining: Remaining, cells: &mut Whole, turns: &mut u64| -> Advance
+            requires { IsAsked program.now repeated.now repeat.now remaining cells.now }
+            ensures { IsGiven program.now repeated.now remaining cells.old cells.new
+                turns.old turns.new result }
         {
             let mut own = kept.replace(Kept::new(alloc));
-            let run = run_loop_watched(
-                rt, alloc, program, repeated, cells, *turns, plan, &mut own, gate, watcher,
+            let advance = run_some_trips(
+                rt, alloc, program, repeated, repeat, remaining, cells, turns, plan, &mut own,
+                gate, watcher,
             );
             kept.set(own);
-            *turns -= run.turns_used;
-            run.outcome
+            advance
         },
         watcher,
     };

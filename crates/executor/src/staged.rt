@@ -3,13 +3,14 @@
 ghost use Rattle.executor.specs.Calls.{IsAsked, IsGiven};
 
 use array_store::Whole;
-use meaning::ending::{Fault, Outcome};
+use meaning::ending::Fault;
 use meaning::syntax::Loop;
 use program_runs::{InOrder, QuietLoops};
-use programs::Program;
+use programs::{Program, Repeat};
 use stage_loop::Watcher;
+use whole_runs::{Advance, Remaining};
 
-/// By calls of a closure, each of which executes a DO statement with its range.
+/// By calls of a closure, each of which executes trips of a DO statement.
 #[derive(Drop)]
 pub struct Staged<'w, F, W: Watcher> {
     /// What is called.
@@ -18,21 +19,28 @@ pub struct Staged<'w, F, W: Watcher> {
     pub watcher: &'w W,
 }
 
-impl<'w, F: Fn(&Program, &Loop, &mut Whole, &mut u64) -> Outcome, W: Watcher> QuietLoops
-    for Staged<'w, F, W> {
+impl<
+    'w,
+    F: Fn(&Program, &Loop, &Repeat, Remaining, &mut Whole, &mut u64) -> Advance,
+    W: Watcher,
+> QuietLoops for Staged<'w, F, W> {
     ghost ready = { λ s.
-        ((p : _) (l : _) (c : _) (t : _) → IsAsked p.now l.now c.now → F.pre s.call p l c t) ×
-        ((p : _) (l : _) (c : _) (t : _) (o : _) (d : _) (u : _) → IsAsked p.now l.now c.now →
-        F.post s.call p l c t o d u → IsGiven p.now l.now c.now d.now t.now u.now o) };
+        ((p : _) (l : _) (r : _) (m : _) (c : _) (t : _) → IsAsked p.now l.now r.now m c.now →
+        F.pre s.call p l r m c t) ×
+        ((p : _) (l : _) (r : _) (m : _) (c : _) (t : _) (a : _) (d : _) (u : _) →
+        IsAsked p.now l.now r.now m c.now → F.post s.call p l r m c t a d u →
+        IsGiven p.now l.now m c.now d.now t.now u.now a) };
 
-    fn run_loop(
+    fn run_trips(
         &self,
         program: &Program,
         repeated: &Loop,
+        repeat: &Repeat,
+        remaining: Remaining,
         cells: &mut Whole,
         turns: &mut u64,
-    ) -> Outcome {
-        (self.call)(program, repeated, cells, turns)
+    ) -> Advance {
+        (self.call)(program, repeated, repeat, remaining, cells, turns)
     }
 
     fn faulted(&self, program: &Program, fault: Fault, cells: &Whole) {
@@ -50,14 +58,16 @@ pub struct Watched<'w, W: Watcher> {
 impl<'w, W: Watcher> QuietLoops for Watched<'w, W> {
     ghost ready = { λ _. Unit {0} };
 
-    fn run_loop(
+    fn run_trips(
         &self,
         program: &Program,
         repeated: &Loop,
+        repeat: &Repeat,
+        remaining: Remaining,
         cells: &mut Whole,
         turns: &mut u64,
-    ) -> Outcome {
-        InOrder.run_loop(program, repeated, cells, turns)
+    ) -> Advance {
+        InOrder.run_trips(program, repeated, repeat, remaining, cells, turns)
     }
 
     fn faulted(&self, program: &Program, fault: Fault, cells: &Whole) {

@@ -23,6 +23,7 @@ use Rattle.evaluator.specs.Statements.{outcome_of, IsEnd, Leaves, Moves, Comes, 
 use Rattle.evaluator.proofs.Composed.{add_turns}
 use Rattle.evaluator.proofs.Executed.{fault_at, one_less, added_goes, added_fails}
 use Rattle.evaluator.proofs.Looped.{from_place, behind_place, at_place, at_end_of, trips_left, behind_range, at_trip, at_last_trip, arms_left, after_test, do_is, while_comes}
+use Rattle.whole_runs.proofs.Advancing.{several, several_split}
 use Rattle.program_runs.specs.declared.halt.Halt.{Halt}
 use Rattle.program_runs.specs.declared.halt.Halt.TheVariants as halts
 use Rattle.program_runs.specs.Walk.{IsOver, Halts, Runs, GoesOn, Steps, GoesAgain, Passes, SoFar, Ends}
@@ -319,6 +320,35 @@ module _ (rec : Meaning) (line : ℕ) (variable : List ℕ) (first by : ℤ) (co
       pub sum_faults : (k : Map) (kind : FaultKind) → IsOver (rec range range m t) t n left outcomes.Normal mid new → Adds variable by n k (Err kind) → IsOver whole given k left (fault_at kind line) old new
       sum_faults k kind x adds =
           subst (λ z. IsOver whole given z left (fault_at kind line) old new) (sym adds.1) (over_at_end whole _ given left n (fault_at kind line) old new (added_fails line variable by n kind adds.0 (λ z. trips_left rec line variable first by count range (i + 1) z left)) (range_goes x))
+
+-- ---- some trips at once
+
+module _ (rec : Meaning) (line : ℕ) (variable : List ℕ) (by first : ℤ) (range : Members) (whole : Ran) (given t total : ℕ) (m : Map) (old mid : Told) (s : SoFar whole (several rec line variable by range first total m t) given t old mid) where
+  abbrev some : ℕ → Map → ℕ → Ran
+  some n k u = several rec line variable by range first n k u
+
+  pub none_left : total ≡ 0 → IsOver whole given m t outcomes.Normal old mid
+  unfolding fold_trips
+  none_left none = over_at_end whole _ given t m outcomes.Normal old mid (ap (λ n. some n m t) none) s
+
+  there : (n : ℕ) → n ≤ total → total ≡ n + (total - n)
+  there n le = omega arith
+
+  module _ (new : Told) (n : ℕ) (le : n ≤ total) where
+    parts : some total m t ≡ goes_on (some n m t) t (λ a u. some (total - n) a u)
+    parts = ap (λ j. some j m t) (there n le) ∙ several_split rec line variable by range first first n (total - n) m t
+
+    pub some_go : (k : Map) (left : ℕ) → IsOver (some n m t) t k left outcomes.Normal mid new → SoFar whole (some (total - n) k left) given left old new
+    some_go k left x =
+        so_far_more whole _ given t old mid new s (some n m t).pieces (some n m t).used (some (total - n) k left) left (parts ∙ over_goes (some n m t) t k left mid new x (λ a u. some (total - n) a u)) x.turns x.bytes
+
+    pub some_end : (k : Map) (left : ℕ) (o : Outcome) → IsEnd o → IsOver (some n m t) t k left o mid new → IsOver whole given k left o old new
+    some_end k left o end x =
+        over_along whole _ given t old mid new s k left o (subst (λ r. IsOver r t k left o mid new) (sym (parts ∙ over_stays (some n m t) t k left o mid new end x (λ a u. some (total - n) a u))) x)
+
+    pub some_halt : (h : Halt) → Halts (some n m t).pieces h mid new → Halts whole.pieces h old new
+    some_halt h x =
+        halts_along whole _ given t old mid new s h (subst (λ (r : Ran). Halts r.pieces h mid new) (sym parts) (halts_then (some n m t) t h mid new (λ a u. some (total - n) a u) x))
 
 -- ---- DO statements
 

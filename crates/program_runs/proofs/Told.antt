@@ -1,28 +1,19 @@
 -- What is told of statements, and what is kept of them.
-use Rattle.std.proofs.Common.{◌≡◌, ℕ, Bool, List, Option, Some, None, sym, subst, ◌∙◌}
+use Rattle.std.proofs.Common.{◌≡◌, List, Option, Some, None, sym, subst, ◌∙◌}
 use Rattle.std.specs.Prelude.{IsTrue, not}
 use Rattle.std.specs.Borrow.{Bor}
 use Rattle.std.proofs.lemmas.Bool.{false≢true}
 use Rattle.meaning.specs.declared.syntax.Tree.{Tree}
-use Rattle.meaning.specs.Syntax.{ExprTree, FormatTree, LimitsTree, ListItemsTree, ShapeTree, doing, logical_if}
+use Rattle.meaning.specs.Syntax.{ExprTree, FormatTree, ListItemsTree, ShapeTree, logical_if}
 use Rattle.landmarks.specs.Quiet.{output_in}
 use Rattle.postfix.specs.declared.code.Code.{Code}
 use Rattle.programs.specs.declared.action.Action.{Action}
 use Rattle.programs.specs.declared.action.ListCodes.{ListCodes}
-use Rattle.programs.specs.declared.action.Repeat.{Repeat}
-use Rattle.programs.specs.Acts.{Acts, Repeats}
+use Rattle.programs.specs.Acts.{Acts}
 use Rattle.programs.specs.Asked.{ConditionalIs, is_logical_if}
-use Rattle.programs.specs.Codes.{AreLimits, IsCell, IsCode}
+use Rattle.programs.specs.Codes.{IsCode}
 use Rattle.programs.specs.Items.{AreItems, AreItemsOf}
 use Rattle.program_runs.specs.Conditions.{AreSomeParts}
-
--- of a DO statement with this variable and these limits
-pub told_by : (t : Tree) (s : ShapeTree) (label : Option (List ℕ)) (comma : Bool) (variable : List ℕ) (limits : LimitsTree) → s ≡ doing label comma variable limits → (r : Repeat) → Repeats t r s → IsCell t variable r.variable × AreLimits t limits r
-told_by t s label comma variable limits is r d =
-    let two = sym d.is ∙ is in
-    let same_variable : d.variable ≡ variable = cc in
-    let same_limits : d.limits ≡ limits = cc in
-    (subst (λ n. IsCell t n r.variable) same_variable d.counted, subst (λ l. AreLimits t l r) same_limits d.are)
 
 -- of a statement that writes this list
 pub items_told : (t : Tree) (s : ShapeTree) (source : FormatTree) (list : ListItemsTree) → Some (source, list) ≡ output_in s → (codes : ListCodes) → AreItemsOf t (output_in s) codes → AreItems t list codes

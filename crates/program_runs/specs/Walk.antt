@@ -15,6 +15,7 @@ use Rattle.numbering.specs.Starts.{map_of}
 use Rattle.evaluator.specs.declared.passed.Passed.{Passed}
 use Rattle.evaluator.specs.declared.passed.Passed.TheVariants.{Ended, Again}
 use Rattle.evaluator.specs.Statements.{outcome_of}
+use Rattle.whole_runs.specs.declared.trips.Advance.{Advance}
 
 -- ---- a run by itself, from turns that are given
 
@@ -74,6 +75,15 @@ RunsIn t cells new_cells does given left o old new = Runs (does (map_of t cells)
 abbrev pub StepsIn : Tree → List ℤ → List ℤ → (Map → ℕ → Ways → Ran) → ℕ → ℕ → Result Outcome Halt → Told → Told → Type 0
 StepsIn t cells new_cells does given left o old new =
     Steps (λ go. does (map_of t cells) given go) given (map_of t new_cells) left o old new
+
+-- so many trips of a DO statement, or the next one, which was cut short
+abbrev pub Advances : (ℕ → Ran) → ℕ → Map → ℕ → Result Advance Halt → Told → Told → Type 0
+Advances trips given m left (Ok a) old new = Runs (trips a.done) given m left (Ok a.outcome) old new
+Advances trips given m left (Err h) old new = Halts (trips 1).pieces h old new
+
+abbrev pub AdvancesIn : Tree → List ℤ → List ℤ → (ℕ → Map → ℕ → Ran) → ℕ → ℕ → Result Advance Halt → Told → Told → Type 0
+AdvancesIn t cells new_cells trips given left r old new =
+    Advances (λ n. trips n (map_of t cells) given) given (map_of t new_cells) left r old new
 
 -- whatever a DO WHILE that is executed again does
 abbrev pub PassesIn : Tree → List ℤ → List ℤ → (Follow → Map → ℕ → Ways → Ran) → ℕ → ℕ → Result Passed Halt → Told → Told → Type 0

@@ -1,52 +1,48 @@
 //! How DO statements without output are executed: one trip after another, or in any way that gives the same.
 
-ghost use Rattle.std.specs.Prelude.{◌≡◌, length};
+ghost use Rattle.std.specs.Prelude.{◌≡◌, ◌≢◌, ◌≤◌, ℤ, length, pos};
 ghost use Rattle.meaning.specs.declared.syntax.Loop.{out-Loop};
 ghost use Rattle.meaning.specs.Syntax.{shape_tree};
-ghost use Rattle.meaning.specs.Trees.{flat, item_tree, members_tree};
-ghost use Rattle.numbering.specs.Checked.{items_in, count_in};
-ghost use Rattle.programs.specs.Programs.{IsStatement};
-ghost use Rattle.evaluator.specs.Known.{AreStatements};
-ghost use Rattle.evaluator.specs.Over.{MovesIn, loop_as};
-ghost use Rattle.landmarks.specs.Kept.{IsKept};
-ghost use Rattle.landmarks.specs.Quiet.{WritesNothing};
-ghost use Rattle.evaluator.specs.Statements.{Spends};
-ghost use Rattle.evaluator.specs.Unset.{LeavesItsVariable};
+ghost use Rattle.numbering.specs.Checked.{count_in};
+ghost use Rattle.programs.specs.Acts.{Repeats};
+ghost use Rattle.whole_runs.specs.Trips.{IsQuietLoop, LeavesIn, trips_in};
 
 use array_store::Whole;
 use meaning::ending::{Fault, Outcome};
 use meaning::syntax::Loop;
-use programs::Program;
-use whole_runs::loop_whole;
+use programs::{Program, Repeat};
+use whole_runs::{Advance, Remaining, trips_whole};
 
-/// Executes DO statements without output, each of which stands in no other such one.
+/// Executes trips of DO statements without output.
 pub trait QuietLoops {
     /// What it needs before it executes any.
     ghost ready: { Self → Type 0 };
 
-    /// Executes a DO statement with its range, which writes nothing, its own turn and limits included; what is no DO
-    /// statement is passed over. Answers how it ended. It has no refusal: where a growth was refused, it does the same
-    /// without what it wanted memory for.
-    fn run_loop(
+    /// Executes some of the trips that are left of a DO statement whose range writes nothing, from the next one on: all of them, a
+    /// part, or none. Its variable has its value in the next one. Answers how many they were, and how the last of them ended. Where
+    /// none was executed nothing is changed, and the caller executes the next one. It has no refusal: where a growth was refused, it
+    /// does the same without what it wanted memory for.
+    fn run_trips(
         &self,
         program: &Program,
         repeated: &Loop,
+        repeat: &Repeat,
+        remaining: Remaining,
         cells: &mut Whole,
         turns: &mut u64,
-    ) -> Outcome
+    ) -> Advance
         requires ready { ready self.now }
-        requires named { AreStatements program.now
-            (flat (members_tree (out-Loop repeated.now).range.items)) }
-        requires kept { IsKept program.now (members_tree (out-Loop repeated.now).range.items) }
-        requires quiet { WritesNothing (members_tree (out-Loop repeated.now).range.items) }
-        requires leaves { LeavesItsVariable repeated.now }
-        requires head { IsStatement program.now (item_tree (out-Loop repeated.now).head) }
+        requires quiet { IsQuietLoop program.now repeated.now }
+        requires repeats { Repeats program.now repeat.now
+            (shape_tree (out-Loop repeated.now).head.form.shape.value) }
+        requires moves { remaining.span.step ≢ pos 0 }
         requires sized { length cells.old ≡ count_in program.now }
-        ensures moves { MovesIn program.now cells.old cells.new
-            (loop_as (items_in program.now)
-            (shape_tree (out-Loop repeated.now).head.form.shape.value) repeated.now)
-            turns.old turns.new result }
-        ensures spends { Spends result turns.old turns.new }
+        ensures done { result.done ≤ remaining.trips }
+        ensures leaves { (first : ℤ) → LeavesIn program.now cells.old cells.new
+            (trips_in program.now repeated.now first remaining.span.step result.done)
+            turns.old turns.new result.outcome }
+        ensures nothing { result.done ≡ 0 →
+            (cells.new ≡ cells.old) × (turns.new ≡ turns.old) }
         ensures len { length cells.new ≡ length cells.old };
 
     /// Takes note of a fault that ended the program. It is called once, behind the fault, with the cells as that left them, and changes
@@ -60,13 +56,22 @@ pub struct InOrder;
 impl QuietLoops for InOrder {
     ghost ready = { λ _. Unit {0} };
 
-    fn run_loop(
+    fn run_trips(
         &self,
         program: &Program,
         repeated: &Loop,
+        repeat: &Repeat,
+        remaining: Remaining,
         cells: &mut Whole,
         turns: &mut u64,
-    ) -> Outcome {
-        loop_whole(program, repeated, cells, turns)
+    ) -> Advance {
+        let done = remaining.trips;
+        if done == 0 {
+            let outcome = Outcome::Normal;
+            return Advance { done, outcome };
+        }
+        let step = remaining.span.step;
+        let outcome = trips_whole(program, repeated, repeat, step, done, cells, turns);
+        Advance { done, outcome }
     }
 }

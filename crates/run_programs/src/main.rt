@@ -5,11 +5,12 @@
 //! were counted by hand. A first line `C TURNS n` gives the program n turns; any other has
 //! 1,000,000,000. The examples, in the folder `examples` there, end without a fault; the files beside them hold their records alone.
 //! A program with a DO or DO WHILE statement is run by 40 plans; any other by two, and so is each example. By each plan it comes to
-//! the same. By four plans a program that used n turns comes to the same with n, and with n - 1, where that is a limit, to F4.
+//! the same, and by those with blocks of 2 trips a second time, where DO statements are tried only as far as that is worth it. By
+//! four plans a program that used n turns comes to the same with n, and with n - 1, where that is a limit, to F4.
 #![tactic(auto)]
 
-use executor::run::run;
-use executor::{Open, Out};
+use executor::run::{run, run_adaptive};
+use executor::{Open, Out, Unwatched};
 use meaning::ending::{Ending, Fault, FaultKind, Report, StopMessage};
 use meaning::plan::Plan;
 use std::alloc::Global;
@@ -24,6 +25,9 @@ const TURNS: u64 = 1_000_000_000;
 
 /// How many workers, how many trips in a block, and how many blocks at a time.
 type Numbers = (u64, u64, u64);
+
+/// The trips of a block in the plans by which a program is run a second time, where DO statements are tried only as far as that is worth it.
+const ADAPTIVE: u64 = 2;
 
 /// The plans of a program without a DO statement.
 const FEW: &[Numbers] = &[(1, 1, 1), (4, 2, 8)];
@@ -123,7 +127,21 @@ struct Found {
     records: Vec<u8>,
 }
 
-// How a source ends by the plan with these numbers and so many turns, and its records; none where there is no such plan.
+// Whether a source comes to the same where DO statements are tried only as far as that is worth it.
+fn is_same_adaptive<R: AllocGlobal + Threads + Wait + Sync>(
+    rt: &R,
+    source: &[u8],
+    plan: &Plan,
+    found: &Found,
+) -> bool {
+    let mut sink = Out::new(Vec::new(rt.alloc()));
+    let report = run_adaptive(rt, rt.alloc(), source, plan, &mut sink, &Open, &Unwatched);
+    let records = sink.into_inner();
+    report == found.report && records == found.records
+}
+
+// How a source ends by the plan with these numbers and so many turns, and its records; none where there is no such plan, or where it
+// comes to something else by it if DO statements are tried only as far as that is worth it.
 fn found_by<R: AllocGlobal + Threads + Wait + Sync>(
     rt: &R,
     source: &[u8],
@@ -135,7 +153,11 @@ fn found_by<R: AllocGlobal + Threads + Wait + Sync>(
     let mut sink = Out::new(Vec::new(rt.alloc()));
     let report = run(rt, rt.alloc(), source, &plan, &mut sink, &Open);
     let records = sink.into_inner();
-    Some(Found { report, records })
+    let found = Found { report, records };
+    if block != ADAPTIVE || is_same_adaptive(rt, source, &plan, &found) {
+        return Some(found);
+    }
+    None
 }
 
 // Whether the first line of what is wanted says turns.
@@ -242,13 +264,9 @@ fn writes<R: AllocGlobal + Threads + Wait + Sync>(
     wanted: &[u8],
     numbers: Numbers,
 ) -> bool {
-    let (workers, block, window) = numbers;
-    let Some(plan) = Plan::new(workers, block, window, TURNS) else {
+    let Some(Found { report, records }) = found_by(rt, source, numbers, TURNS) else {
         return false;
     };
-    let mut sink = Out::new(Vec::new(rt.alloc()));
-    let report = run(rt, rt.alloc(), source, &plan, &mut sink, &Open);
-    let records = sink.into_inner();
     match report.ending {
         Ending::Ended | Ending::Stopped(_) => records.as_slice() == wanted,
         _ => false,

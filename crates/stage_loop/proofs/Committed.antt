@@ -12,7 +12,7 @@ use Rattle.block_stage.specs.Faithful.{base_of, ran, trips_of}
 use Rattle.block_stage.specs.Jobs.{JobParts, data_of}
 use Rattle.block_stage.specs.Taken.{TakenParts, overlay_each}
 use Rattle.stage_loop.specs.Fronts.{IsFront}
-use Rattle.stage_loop.specs.Loops.{LeavesIn}
+use Rattle.whole_runs.specs.Trips.{LeavesIn}
 
 -- ---- how many trips
 

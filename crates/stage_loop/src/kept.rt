@@ -1,10 +1,19 @@
 //! What is kept from one stage to the next, and from one DO statement to the next.
 
-use crate::pace::Pace;
+use crate::pace::{Pace, Step};
 use block_stage::Changes;
 use indexmap::IndexMap;
 use std::alloc::Global;
 use std::mem::replace;
+
+/// How things stand when a trip is left to the caller: the turns that are left, those that trips used which weren't left so, and how many
+/// stages were dear.
+#[derive(Clone, Copy)]
+pub(crate) struct Left {
+    turns: u64,
+    used: u64,
+    dear: u64,
+}
 
 /// What is known of a DO statement by its earlier executions.
 #[derive(Clone, Copy)]
@@ -13,6 +22,12 @@ pub(crate) struct Known {
     pub pace: Pace,
     // The turns that the blocks of its first stage used when it was executed last, where it had one.
     pub first: Option<u64>,
+    // The turns that were left when it was executed last.
+    pub begun: u64,
+    // How things stood when a trip was left to the caller, where one was.
+    pub left: Option<Left>,
+    // Whether most of such a trip's turns were used outside of the DO statements in it.
+    pub is_plain: bool,
 }
 
 /// What is kept between the stages of a DO statement, and between DO statements that are run by stages: what the views of blocks were
@@ -27,6 +42,9 @@ pub struct Kept {
     last: Known,
     // The same of the others.
     others: IndexMap<u32, Known>,
+    // The turns of all trips that weren't left to the caller, and how many stages were dear.
+    used: u64,
+    dear: u64,
 }
 
 impl Kept {
@@ -48,6 +66,8 @@ impl Kept {
             line: 0,
             last: Known::nothing(),
             others: IndexMap::new(alloc),
+            used: 0,
+            dear: 0,
         }
     }
 
@@ -66,8 +86,73 @@ impl Kept {
         self.spares = spares;
     }
 
+    // What is known of the DO statement at a line where so many of its trips were executed and so many turns are left: with what came of a
+    // trip that was left to the caller.
+    pub(crate) fn begin(&self, line: u32, before: u64, turns: u64) -> Known {
+        let known = self.known_at(line);
+        if before == 0 {
+            return Known {
+                begun: turns,
+                left: None,
+                ..known
+            };
+        }
+        match known.left {
+            Some(left) => self.behind_left(known, left, turns),
+            None => known,
+        }
+    }
+
+    // What is known behind a trip that was left to the caller, where so many turns are left. Where a stage in it was dear, one of such trips
+    // would be so too.
+    fn behind_left(&self, known: Known, left: Left, turns: u64) -> Known {
+        let used = left.turns.saturating_sub(turns);
+        let held = self.used.saturating_sub(left.used);
+        let step = if self.dear > left.dear {
+            Step::dear(used)
+        } else {
+            Step::of_one(used)
+        };
+        Known {
+            pace: known.pace.behind(step),
+            left: None,
+            is_plain: held < used / 2,
+            ..known
+        }
+    }
+
+    // Keeps what is known of the DO statement at a line behind a step, where so many of its trips were executed and so many turns are left;
+    // for its next execution, whose trips will use as many turns as those of this one on the whole.
+    pub(crate) fn keep_behind(
+        &mut self,
+        line: u32,
+        known: Known,
+        step: Step,
+        done: u64,
+        left: u64,
+    ) {
+        self.used = self.used.saturating_add(step.used);
+        if step.is_dear {
+            self.dear = self.dear.saturating_add(1);
+        }
+        let pace = known
+            .pace
+            .on_the_whole(done, known.begun.saturating_sub(left));
+        self.keep(line, Known { pace, ..known });
+    }
+
+    // Keeps that a trip of the DO statement at a line is left to the caller.
+    pub(crate) fn leave(&mut self, line: u32, known: Known, turns: u64) {
+        let left = Some(Left {
+            turns,
+            used: self.used,
+            dear: self.dear,
+        });
+        self.keep(line, Known { left, ..known });
+    }
+
     // What is known of the DO statement at a line.
-    pub(crate) fn known_at(&self, line: u32) -> Known {
+    fn known_at(&self, line: u32) -> Known {
         if line == self.line {
             return self.last;
         }
@@ -78,7 +163,7 @@ impl Kept {
     }
 
     // Keeps what is known of the DO statement at a line. Where a growth is refused, nothing is known of one that was executed before.
-    pub(crate) fn keep(&mut self, line: u32, known: Known) {
+    fn keep(&mut self, line: u32, known: Known) {
         if line != self.line {
             let _ = self.others.insert(self.line, self.last);
             self.line = line;
@@ -93,6 +178,9 @@ impl Known {
         Known {
             pace: Pace::new(),
             first: None,
+            begun: 0,
+            left: None,
+            is_plain: false,
         }
     }
 }

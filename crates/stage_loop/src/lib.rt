@@ -4,6 +4,7 @@
 
 mod course;
 mod do_statement;
+mod held;
 mod kept;
 mod pace;
 mod size;
@@ -11,6 +12,6 @@ mod stages;
 mod watcher;
 
 pub use block_stage::{Cause, Dependence, Gate, Open, StageTold};
-pub use do_statement::{run_loop, run_loop_watched, run_loop_with};
+pub use do_statement::{run_loop, run_loop_watched, run_some_trips};
 pub use kept::Kept;
 pub use watcher::{Unwatched, Watcher};

@@ -5,10 +5,10 @@ ghost use Rattle.std.specs.Prelude.{◌<◌};
 
 use meaning::plan::Plan;
 
-// The turns that trips are worth for a stage to pay for its threads and views, where nothing good is known of stages.
+// The turns that the trips of a DO statement used and are likely to use for a try of stages, where nothing good is known of them.
 const PAY: u64 = 200_000;
 
-// The same behind a good stage.
+// The turns that trips are worth for a stage to pay for its threads and views.
 const GOOD_PAY: u64 = 60_000;
 
 // The turns of a block in a stage that is a try.
@@ -47,6 +47,28 @@ pub(crate) struct Step {
     pub is_dear: bool,
 }
 
+impl Step {
+    /// One trip in order.
+    pub fn of_one(used: u64) -> Step {
+        Step {
+            done: 1,
+            used,
+            all: None,
+            is_dear: false,
+        }
+    }
+
+    /// One trip, of which a stage would be dear.
+    pub fn dear(used: u64) -> Step {
+        Step {
+            done: 1,
+            used,
+            all: Some(used),
+            is_dear: true,
+        }
+    }
+}
+
 /// What is known of a DO statement.
 #[derive(Clone, Copy)]
 pub(crate) struct Pace {
@@ -60,6 +82,8 @@ pub(crate) struct Pace {
     back: u64,
     // The turns of the next stage in all its blocks; 0 where it is a try.
     reach: u64,
+    // How many turns its trips used so far, in all its executions.
+    past: u64,
 }
 
 /// Whether a block's view took too much time for its turns, by what it weighs.
@@ -93,14 +117,22 @@ impl Pace {
             credit: 0,
             back: BACK,
             reach: 0,
+            past: 0,
         }
     }
 
-    /// Whether the next of so many trips are worth a stage, which has two blocks at least.
+    /// Whether the next of so many trips are worth a stage, which has two blocks at least: by what they are likely to use, and where it is a
+    /// try, by what earlier ones used too, as others like them may come.
     pub fn is_worth(&self, plan: &Plan, left: u64) -> bool {
-        let pay = if self.reach > 0 { GOOD_PAY } else { PAY };
         let has_two = left > 1 && plan.window() > 1;
-        has_two && self.credit == 0 && left.saturating_mul(self.per_trip) >= pay
+        let likely = left.saturating_mul(self.per_trip);
+        let is_tried = self.reach > 0 || likely.saturating_add(self.past) >= PAY;
+        has_two && self.credit == 0 && likely >= GOOD_PAY && is_tried
+    }
+
+    /// Whether a trip that is executed in order may hold DO statements that are worth stages; so may one of which nothing is known.
+    pub fn may_hold_stages(&self) -> bool {
+        self.per_trip == 0 || self.per_trip >= GOOD_PAY
     }
 
     /// How many trips are run in order at once.
@@ -137,6 +169,7 @@ impl Pace {
     /// What is known behind some trips more.
     pub fn behind(&self, step: Step) -> Pace {
         let per_trip = trips_worth(step.used, step.done);
+        let past = self.past.saturating_add(step.used);
         match step.all {
             None => Pace {
                 per_trip,
@@ -145,8 +178,8 @@ impl Pace {
                     .saturating_mul(4)
                     .min(trips_worth(CHUNK, per_trip)),
                 credit: self.credit.saturating_sub(step.used),
-                back: self.back,
-                reach: self.reach,
+                past,
+                ..*self
             },
             Some(all) => self.behind_stage(per_trip, step, all),
         }
@@ -156,6 +189,7 @@ impl Pace {
     // good where all were.
     fn behind_stage(&self, per_trip: u64, step: Step, all: u64) -> Pace {
         let chunk = trips_worth(CHUNK, per_trip);
+        let past = self.past.saturating_add(step.used);
         if step.is_dear || step.used.saturating_mul(4) < all.saturating_mul(3) {
             return Pace {
                 per_trip,
@@ -163,6 +197,7 @@ impl Pace {
                 credit: all.saturating_mul(self.back).min(MOST_CREDIT),
                 back: self.back.saturating_mul(2).min(MOST_BACK),
                 reach: 0,
+                past,
             };
         }
         let reach = if step.used < all {
@@ -176,6 +211,7 @@ impl Pace {
             credit: 0,
             back: if step.used < all { self.back } else { BACK },
             reach,
+            past,
         }
     }
 

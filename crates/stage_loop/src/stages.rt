@@ -4,12 +4,14 @@ ghost use Rattle.std.specs.Prelude.{◌≡◌, ◌≢◌, ◌-◌, ◌<◌, ◌�
 ghost use Rattle.numbering.specs.Checked.{count_in, items_in};
 ghost use Rattle.numbering.specs.Starts.{map_of};
 ghost use Rattle.programs.specs.Acts.{Repeats};
-ghost use Rattle.evaluator.specs.Over.{repeated_as, trips_as};
+ghost use Rattle.evaluator.specs.Over.{repeated_as};
 ghost use Rattle.block_stage.specs.Jobs.{shape_in, variable_in};
 ghost use Rattle.stage_loop.specs.Fronts.{IsFront};
-ghost use Rattle.stage_loop.specs.Loops.{AreIntegers, IsQuietLoop, LeavesIn};
+ghost use Rattle.whole_runs.specs.Trips.{IsQuietLoop, LeavesIn, trips_in};
+ghost use Rattle.stage_loop.specs.Loops.{AreIntegers};
 
 use crate::course::{Course, behind};
+use crate::held::holds_loops;
 use crate::kept::{Kept, Known};
 use crate::pace::{Pace, Size, Step, is_dear};
 use crate::size::{blocks_of, trips_in, workers_of};
@@ -24,6 +26,7 @@ use programs::{Program, Repeat};
 use std::alloc::Global;
 use std::sync::Wait;
 use std::thread::Threads;
+use whole_runs::Advance as Progress;
 
 // The first blocks of a stage, up to its cut: how many they are, what is taken of them, the turns that all its blocks used, and whether
 // the first view was dear.
@@ -287,22 +290,53 @@ fn known_behind(known: Known, step: Step, is_first: bool) -> Known {
     Known {
         pace: known.pace.behind(step),
         first,
+        ..known
     }
 }
 
-// Keeps what is known of the DO statement at a line for its next execution, behind so many trips of this one, which used so many turns.
-fn keep(kept: &mut Kept, line: u32, known: Known, done: u64, used: u64) {
-    let pace = known.pace.on_the_whole(done, used);
-    kept.keep(
-        line,
-        Known {
-            pace,
-            first: known.first,
-        },
-    );
+// What is known of a DO statement at a line where so many of its trips are executed and others are ahead; a watcher is told of the first.
+fn begun<W: Watcher>(
+    kept: &Kept,
+    line: u32,
+    before: u64,
+    trips: u64,
+    turns: u64,
+    watcher: &W,
+) -> Known {
+    if before == 0 {
+        watcher.reached(line, trips);
+    }
+    kept.begin(line, before, turns)
 }
 
-/// Executes the range once for each trip, by stages; the variable has its value in the first of them.
+// Keeps that the next trip is left to the caller, where none was executed before it and one is ahead; a watcher is told of it.
+fn leave<W: Watcher>(
+    kept: &mut Kept,
+    line: u32,
+    known: Known,
+    done: u64,
+    ahead: u64,
+    turns: u64,
+    watcher: &W,
+) {
+    if done == 0 && ahead > 0 {
+        watcher.passed(line, 1);
+        kept.leave(line, known, turns);
+    }
+}
+
+// Whether the next trip is left to the caller: it is executed in order, and most of it are DO statements that may be worth stages.
+fn is_left(kept: &Kept, known: Known, plan: &Plan, repeated: &Loop, trips: u64) -> bool {
+    let pace = known.pace;
+    kept.is_adaptive()
+        && !known.is_plain
+        && !pace.is_worth(plan, trips)
+        && pace.may_hold_stages()
+        && holds_loops(&repeated.range)
+}
+
+/// Executes the range once for each trip, by stages, as far as trips aren't left to the caller; the variable has its value in the first
+/// of them, before which so many were executed.
 pub(crate) fn run_stages<R: Threads + Wait + Sync, G: Gate + Sync, W: Watcher>(
     rt: &R,
     alloc: Global,
@@ -310,38 +344,39 @@ pub(crate) fn run_stages<R: Threads + Wait + Sync, G: Gate + Sync, W: Watcher>(
     repeated: &Loop,
     repeat: &Repeat,
     course: Course,
+    before: u64,
     plan: &Plan,
     kept: &mut Kept,
     cells: &mut Whole,
     turns: &mut u64,
     gate: &G,
     watcher: &W,
-) -> Outcome
+) -> Progress
     requires quiet { IsQuietLoop program.now repeated.now }
     requires repeats { Repeats program.now repeat.now (shape_in repeated.now) }
     requires moves { course.step ≢ pos 0 }
     requires fits { AreIntegers course.value course.step course.trips }
     requires sized { length cells.old ≡ count_in program.now }
     requires has { map_of program.now cells.old (variable_in repeated.now) [] ≡ course.value }
+    ensures done { result.done ≤ course.trips }
     ensures leaves { LeavesIn program.now cells.old cells.new
-        (trips_as (items_in program.now) repeated.now (variable_in repeated.now)
-        course.value course.step course.trips) turns.old turns.new result }
-    ensures turns { turns.new ≤ turns.old }
+        (trips_in program.now repeated.now course.value course.step result.done)
+        turns.old turns.new result.outcome }
+    ensures nothing { result.done ≡ 0 → (cells.new ≡ cells.old) × (turns.new ≡ turns.old) }
     ensures len { length cells.new ≡ length cells.old }
 {
     let line = repeated.head.line;
-    let given = *turns;
-    let mut known = kept.known_at(line);
+    let mut known = begun(kept, line, before, course.trips, *turns, watcher);
     let mut last = known.first;
     let mut rest = course;
-    watcher.reached(line, course.trips);
-    while rest.trips > 0 {
+    while rest.trips > 0 && !is_left(kept, known, plan, repeated, rest.trips) {
+        let passed = course.trips - rest.trips;
         let watch = Watch {
             watcher,
             line,
-            done: course.trips - rest.trips,
+            done: before.saturating_add(passed),
         };
-        let before = *turns;
+        let given = *turns;
         let Advance {
             done,
             outcome,
@@ -356,21 +391,27 @@ pub(crate) fn run_stages<R: Threads + Wait + Sync, G: Gate + Sync, W: Watcher>(
         }
         let step = Step {
             done,
-            used: before.saturating_sub(*turns),
+            used: given.saturating_sub(*turns),
             all,
             is_dear,
         };
-        known = known_behind(known, step, rest.trips == course.trips);
-        let so_far = (course.trips - rest.trips).saturating_add(done);
-        keep(kept, line, known, so_far, given.saturating_sub(*turns));
-        match outcome {
-            Outcome::Normal => {}
-            Outcome::Left(label) => return Outcome::Left(label),
-            Outcome::Stopped(line) => return Outcome::Stopped(line),
-            Outcome::Fault(fault) => return Outcome::Fault(fault),
+        known = known_behind(known, step, passed == 0);
+        let passed = passed + done;
+        kept.keep_behind(line, known, step, before.saturating_add(passed), *turns);
+        let progress = Progress {
+            done: passed,
+            outcome,
+        };
+        if !progress.is_normal() {
+            return progress;
         }
         rest = behind(rest, done);
         last = all;
     }
-    Outcome::Normal
+    let done = course.trips - rest.trips;
+    leave(kept, line, known, done, rest.trips, *turns, watcher);
+    Progress {
+        done,
+        outcome: Outcome::Normal,
+    }
 }

@@ -3,10 +3,11 @@
 #![tactic(auto)]
 
 mod listing;
+mod trips;
 mod whole;
 
 pub use listing::list_values;
+pub use trips::{Advance, Remaining, trips_whole, variable_whole};
 pub use whole::{
-    add_whole, condition_whole, item_whole, limits_whole, list_whole, loop_whole, set_whole,
-    test_whole,
+    add_whole, condition_whole, item_whole, limits_whole, list_whole, set_whole, test_whole,
 };

@@ -1,12 +1,11 @@
 //! What is proved over any store, over a whole store, which refuses no write.
 
 ghost use Rattle.std.specs.Prelude.{◌≡◌, ◌<◌, ◌≤◌, ℕ, List, [], IsTrue, length, not, IfOk};
-ghost use Rattle.meaning.specs.declared.syntax.Loop.{out-Loop};
 ghost use Rattle.meaning.specs.Execution.{step};
 ghost use Rattle.meaning.specs.Lists.{listed, list_limit};
 ghost use Rattle.meaning.specs.Maps.{put};
 ghost use Rattle.meaning.specs.Syntax.{ExprTree, LimitsTree, list_items_tree, shape_tree};
-ghost use Rattle.meaning.specs.Trees.{flat, item_tree, members_tree};
+ghost use Rattle.meaning.specs.Trees.{item_tree};
 ghost use Rattle.meaning.specs.Trips.{span_of};
 ghost use Rattle.numbering.specs.Checked.{items_in, count_in};
 ghost use Rattle.numbering.specs.Starts.{map_of};
@@ -14,21 +13,17 @@ ghost use Rattle.values.specs.Programs.{scope_in};
 ghost use Rattle.programs.specs.Codes.{AreLimits, IsCell, IsCode};
 ghost use Rattle.programs.specs.Items.{AreItems};
 ghost use Rattle.programs.specs.Programs.{IsStatement};
-ghost use Rattle.evaluator.specs.Known.{AreStatements};
 ghost use Rattle.evaluator.specs.Limited.{SpanIs};
 ghost use Rattle.evaluator.specs.Listing.{ListIs};
-ghost use Rattle.evaluator.specs.Over.{ConditionIn, MovesIn, TestsIn, loop_as};
-ghost use Rattle.landmarks.specs.Kept.{IsKept};
-ghost use Rattle.landmarks.specs.Quiet.{WritesNothing, is_writing};
+ghost use Rattle.evaluator.specs.Over.{ConditionIn, MovesIn, TestsIn};
+ghost use Rattle.landmarks.specs.Quiet.{is_writing};
 ghost use Rattle.evaluator.specs.Statements.{Adds, Spends};
 
 use crate::listing::list_values;
 use array_store::Whole;
-use evaluator::{
-    Span, add_to, run_item, run_loop, set_variable, test_arm, test_condition, values_of_codes,
-};
+use evaluator::{Span, add_to, run_item, set_variable, test_arm, test_condition, values_of_codes};
 use meaning::ending::{Fault, FaultKind, Outcome, Value};
-use meaning::syntax::{Item, ListItems, Loop};
+use meaning::syntax::{Item, ListItems};
 use postfix::Code;
 use programs::{ListCodes, Program, Repeat};
 use std::alloc::{AllocError, Global};
@@ -60,28 +55,6 @@ pub fn item_whole(program: &Program, item: &Item, cells: &mut Whole, turns: &mut
     ensures len { length cells.new ≡ length cells.old }
 {
     match run_item(program, item, cells, turns) {
-        Ok(outcome) => outcome,
-        // A whole store refuses no write.
-        Err(_) => Outcome::Normal,
-    }
-}
-
-/// Executes a DO statement with its range, which writes nothing; what is no DO statement is passed over.
-pub fn loop_whole(program: &Program, repeated: &Loop, cells: &mut Whole, turns: &mut u64) -> Outcome
-    requires named { AreStatements program.now
-        (flat (members_tree (out-Loop repeated.now).range.items)) }
-    requires kept { IsKept program.now (members_tree (out-Loop repeated.now).range.items) }
-    requires quiet { WritesNothing (members_tree (out-Loop repeated.now).range.items) }
-    requires head { IsStatement program.now (item_tree (out-Loop repeated.now).head) }
-    requires sized { length cells.old ≡ count_in program.now }
-    ensures moves { MovesIn program.now cells.old cells.new
-        (loop_as (items_in program.now) (shape_tree (out-Loop repeated.now).head.form.shape.value)
-        repeated.now)
-        turns.old turns.new result }
-    ensures spends { Spends result turns.old turns.new }
-    ensures len { length cells.new ≡ length cells.old }
-{
-    match run_loop(program, repeated, cells, turns) {
         Ok(outcome) => outcome,
         // A whole store refuses no write.
         Err(_) => Outcome::Normal,

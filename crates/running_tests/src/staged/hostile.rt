@@ -7,16 +7,17 @@ use crate::stages::Counting;
 use array_store::Whole;
 use executor::run::run_by;
 use executor::{Out, Staged, Unwatched};
-use meaning::ending::{Ending, Fault, FaultKind, Outcome};
+use meaning::ending::{Ending, Fault, FaultKind};
 use meaning::plan::Plan;
 use meaning::syntax::Loop;
-use programs::Program;
-use stage_loop::{Kept, StageTold, Watcher, run_loop, run_loop_watched};
+use programs::{Program, Repeat};
+use stage_loop::{Kept, StageTold, Watcher, run_some_trips};
 use std::alloc::Global;
 use std::cell::Cell;
 use std::process::Abort;
 use std::sync::Wait;
 use std::thread::Threads;
+use whole_runs::{Advance, Remaining};
 
 /// Bytes that are asked for before a loop, and behind it, and nowhere else. `bench/hostile` has the same numbers.
 const BEFORE: usize = 77_771;
@@ -56,16 +57,20 @@ fn run<R: Abort + Threads + Wait + Sync>(rt: &R, alloc: Global, source: &[u8], p
     let asked = Cell::new(Vec::new(alloc));
     let loops = Cell::new(0_u64);
     let staged = Staged {
-        call: |program: &Program, repeated: &Loop, cells: &mut Whole, turns: &mut u64| -> Outcome
-            requires { IsAsked program.now repeated.now cells.now }
-            ensures { IsGiven program.now repeated.now cells.old cells.new turns.old turns.new result }
+        call: |program: &Program, repeated: &Loop, repeat: &Repeat, remaining: Remaining, cells: &mut Whole, turns: &mut u64| -> Advance
+            requires { IsAsked program.now repeated.now repeat.now remaining cells.now }
+            ensures { IsGiven program.now repeated.now remaining cells.old cells.new
+                turns.old turns.new result }
         {
             loops.set(loops.get().saturating_add(1));
+            let mut kept = Kept::new(alloc);
             ask(alloc, BEFORE, &asked);
-            let run = run_loop(rt, alloc, program, repeated, cells, *turns, plan, &gate);
+            let advance = run_some_trips(
+                rt, alloc, program, repeated, repeat, remaining, cells, turns, plan, &mut kept,
+                &gate, &Unwatched,
+            );
             ask(alloc, BEHIND, &asked);
-            *turns -= run.turns_used;
-            run.outcome
+            advance
         },
         watcher: &Unwatched,
     };
@@ -176,19 +181,20 @@ fn run_told<R: Abort + Threads + Wait + Sync>(
     let asked = Cell::new(Vec::new(alloc));
     let loops = Cell::new(0_u64);
     let staged = Staged {
-        call: |program: &Program, repeated: &Loop, cells: &mut Whole, turns: &mut u64| -> Outcome
-            requires { IsAsked program.now repeated.now cells.now }
-            ensures { IsGiven program.now repeated.now cells.old cells.new turns.old turns.new result }
+        call: |program: &Program, repeated: &Loop, repeat: &Repeat, remaining: Remaining, cells: &mut Whole, turns: &mut u64| -> Advance
+            requires { IsAsked program.now repeated.now repeat.now remaining cells.now }
+            ensures { IsGiven program.now repeated.now remaining cells.old cells.new
+                turns.old turns.new result }
         {
             loops.set(loops.get().saturating_add(1));
             let mut kept = Kept::new(alloc);
             ask(alloc, BEFORE, &asked);
-            let run = run_loop_watched(
-                rt, alloc, program, repeated, cells, *turns, plan, &mut kept, &gate, tally,
+            let advance = run_some_trips(
+                rt, alloc, program, repeated, repeat, remaining, cells, turns, plan, &mut kept,
+                &gate, tally,
             );
             ask(alloc, BEHIND, &asked);
-            *turns -= run.turns_used;
-            run.outcome
+            advance
         },
         watcher: &Unwatched,
     };

@@ -2,18 +2,17 @@
 
 ghost use Rattle.std.specs.Prelude.{◌≡◌, ◌≢◌, ◌-◌, ◌*◌, ◌<◌, pos, length};
 ghost use Rattle.numbering.specs.Checked.{count_in};
-ghost use Rattle.programs.specs.Acts.{Repeats};
-ghost use Rattle.block_stage.specs.Jobs.{shape_in};
-ghost use Rattle.stage_loop.specs.Loops.{AreIntegers, IsQuietLoop};
+ghost use Rattle.whole_runs.specs.Trips.{IsQuietLoop};
+ghost use Rattle.stage_loop.specs.Loops.{AreIntegers};
 ghost use Rattle.executor.specs.Calls.{IsAsked, IsGiven};
 
 use crate::staged::watch::{Watch, see};
 use array_store::Whole;
 use block_stage::Job;
-use evaluator::{count_of, repeat_in};
+use evaluator::{Span, count_of};
 use executor::run::run_by;
-use executor::{Out, Staged, Unwatched};
-use meaning::ending::{Ending, Outcome};
+use executor::{InOrder, Out, QuietLoops, Staged, Unwatched};
+use meaning::ending::Ending;
 use meaning::syntax::Loop;
 use programs::{Program, Repeat};
 use std::alloc::Global;
@@ -21,7 +20,7 @@ use std::process::Abort;
 use std::sync::Wait;
 use std::sync::atomic::{AtomicU64, Ordering};
 use std::thread::Threads;
-use whole_runs::{limits_whole, loop_whole};
+use whole_runs::{Advance, Remaining};
 
 /// How a source ended whose DO statements were looked at, what it wrote, and how many of them were looked at.
 #[derive(Drop)]
@@ -102,71 +101,48 @@ fn look_at<R: Abort + Threads + Wait + Sync>(
     let _ = watching.looked.fetch_add(1, Ordering::SeqCst);
 }
 
-// Looks at the first stage of a DO statement over cells that may change.
+// Looks at the first stage of a DO statement.
 fn look<R: Abort + Threads + Wait + Sync>(
     watching: &Watching<'_, R>,
     program: &Program,
     repeated: &Loop,
-    repeat: &Repeat,
-    base: &mut Whole,
-    turns: u64,
-)
-    requires asked { IsAsked program.now repeated.now base.old }
-    requires repeats { Repeats program.now repeat.now (shape_in repeated.now) }
-{
-    let rt = watching.rt;
-    assert!(rt; turns > 0);
-    match limits_whole(program, repeat, base) {
-        Ok(span) => {
-            let course = Course {
-                first: span.first,
-                step: span.step,
-                trips: count_of(span),
-                turns: turns - 1,
-            };
-            look_at(watching, program, repeated, base, course);
-        }
-        Err(_) => {}
-    }
-}
-
-// Looks at the first stage of a DO statement over a copy of the cells, if memory for it is granted.
-fn look_aside<R: Abort + Threads + Wait + Sync>(
-    watching: &Watching<'_, R>,
-    program: &Program,
-    repeated: &Loop,
-    repeat: &Repeat,
+    remaining: Remaining,
     cells: &Whole,
     turns: u64,
 )
-    requires asked { IsAsked program.now repeated.now cells.now }
-    requires repeats { Repeats program.now repeat.now (shape_in repeated.now) }
+    requires quiet { IsQuietLoop program.now repeated.now }
+    requires sized { length cells.now ≡ count_in program.now }
+    requires moves { remaining.span.step ≢ pos 0 }
 {
-    match Whole::new(watching.alloc, cells.cells()) {
-        Ok(base) => {
-            let mut base = base;
-            look(watching, program, repeated, repeat, &mut base, turns);
-        }
-        Err(_) => {}
-    }
+    let rt = watching.rt;
+    let Span { first, step, .. } = remaining.span;
+    let trips = count_of(remaining.span);
+    assert!(rt; trips == remaining.trips);
+    let course = Course {
+        first,
+        step,
+        trips,
+        turns,
+    };
+    look_at(watching, program, repeated, cells, course);
 }
 
-// Looks at the first stage of a DO statement, and executes it in order.
+// Looks at the first stage of a DO statement, and executes its trips in order.
 fn look_and_run<R: Abort + Threads + Wait + Sync>(
     watching: &Watching<'_, R>,
     program: &Program,
     repeated: &Loop,
+    repeat: &Repeat,
+    remaining: Remaining,
     cells: &mut Whole,
     turns: &mut u64,
-) -> Outcome
-    requires { IsAsked program.now repeated.now cells.old }
-    ensures { IsGiven program.now repeated.now cells.old cells.new turns.old turns.new result }
+) -> Advance
+    requires { IsAsked program.now repeated.now repeat.now remaining cells.old }
+    ensures { IsGiven program.now repeated.now remaining cells.old cells.new
+        turns.old turns.new result }
 {
-    match repeat_in(program, &repeated.head) {
-        Some(repeat) => look_aside(watching, program, repeated, repeat, cells, *turns),
-        None => {}
-    }
-    loop_whole(program, repeated, cells, turns)
+    look(watching, program, repeated, remaining, cells, *turns);
+    InOrder.run_trips(program, repeated, repeat, remaining, cells, turns)
 }
 
 // How a source ends whose DO statements are looked at, and what it writes.
@@ -176,10 +152,11 @@ fn run<R: Abort + Threads + Wait + Sync>(
     turns: u64,
 ) -> (Ending, Vec<u8>) {
     let staged = Staged {
-        call: |program: &Program, repeated: &Loop, cells: &mut Whole, turns: &mut u64| -> Outcome
-            requires { IsAsked program.now repeated.now cells.now }
-            ensures { IsGiven program.now repeated.now cells.old cells.new turns.old turns.new result }
-        { look_and_run(watching, program, repeated, cells, turns) },
+        call: |program: &Program, repeated: &Loop, repeat: &Repeat, remaining: Remaining, cells: &mut Whole, turns: &mut u64| -> Advance
+            requires { IsAsked program.now repeated.now repeat.now remaining cells.now }
+            ensures { IsGiven program.now repeated.now remaining cells.old cells.new
+                turns.old turns.new result }
+        { look_and_run(watching, program, repeated, repeat, remaining, cells, turns) },
         watcher: &Unwatched,
     };
     let mut sink = Out::new(Vec::new(watching.alloc));

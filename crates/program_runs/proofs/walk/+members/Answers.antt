@@ -1,4 +1,4 @@
-use Rattle.std.proofs.Common.{to_z, of_z, ◌+◌, ◌≡◌, ◌<◌, true, false, [], ap, sym, ◌∙◌, subst, refl, rules, arith, Result, Ok, Err}
+use Rattle.std.proofs.Common.{to_z, of_z, pos, ◌+◌, ◌-◌, ◌≡◌, ◌≤◌, true, false, [], ap, sym, ◌∙◌, subst, refl, rules, arith, Result, Ok, Err}
 use Rattle.std.specs.Prelude.{FitsSigned, IfOk}
 use Rattle.std.specs.Int.{w32}
 use Rattle.std.proofs.lemmas.Bool.{false≢true}
@@ -28,18 +28,21 @@ use Rattle.evaluator.specs.Passed.{SpendsBy, ended_by as ended_so, passed_behind
 use Rattle.evaluator.specs.Statements.{Adds, Moves, Comes}
 use Rattle.evaluator.proofs.Composed.{comes_none, if_ok_ended, if_ok_so, moves_same}
 use Rattle.evaluator.proofs.Executed.{fault_at, passes_over}
-use Rattle.evaluator.proofs.Looped.{from_place, while_none, while_is, while_ends, while_faults, known_at, head_known, range_known, arms_known, arm_known, body_known, loop_does, block_does, unless_do, do_unmoved, do_faults, arms_left, no_arm_left, next_arm, test_ends}
+use Rattle.evaluator.specs.Quiet.{variable_of}
+use Rattle.evaluator.proofs.Looped.{counted_cell, says, from_place, while_none, while_is, while_ends, while_faults, known_at, head_known, range_known, arms_known, arm_known, body_known, loop_does, block_does, unless_do, do_unmoved, do_faults, arms_left, no_arm_left, next_arm, test_ends}
 use Rattle.evaluator.proofs.Turning.{smaller_on, smaller_back, after_test, spends_less, spends_behind}
 use denote.Param.Weighed.{at_most, most}
 use Rattle.meaning.proofs.syntax.Member.TheLaws.{the_size}
 use Rattle.meaning.proofs.syntax.Arm.TheLaws.{the_size as arm_size}
 use Rattle.meaning.specs.declared.syntax.Member.TheViews.{size_is-Loop, sized-Loop, sized-Block, size_is-Arm, size_is-Block, weight-Arm-body, weight-Block-arms}
 use Rattle.program_runs.specs.declared.halt.Halt.{Halt}
+use Rattle.whole_runs.specs.Trips.{trips_in}
+use Rattle.whole_runs.proofs.Advancing.{is_end, quiet_loop, several}
 use Rattle.program_runs.specs.Allowed.{IsAllowed, AreArmsAllowed}
-use Rattle.program_runs.specs.Walk.{Runs, Steps, Halts, PassesIn}
+use Rattle.program_runs.specs.Quiet.{IsLoopOf}
+use Rattle.program_runs.specs.Walk.{AdvancesIn, IsOver, Runs, SoFar, Steps, Halts, PassesIn}
 use Rattle.program_runs.proofs.Allowing.{allowed_at, allowed_range, leaves_its_variable, quiet_unless_loud, allowed_arms, allowed_body}
-use Rattle.program_runs.proofs.Composed.{so_far_none, steps_same, steps_quietly, passes_ended, passes_same, while_walks, while_halts, member_goes, member_again, member_jumps, member_leaves, member_ends, member_halts, last_member, last_trip, range_halts, range_ends, trip_goes, sum_faults, do_runs, arm_steps}
-use Rattle.program_runs.proofs.Told.{told_by}
+use Rattle.program_runs.proofs.Composed.{so_far_none, steps_same, steps_quietly, passes_ended, passes_same, while_walks, while_halts, member_goes, member_again, member_jumps, member_leaves, member_ends, member_halts, last_member, last_trip, range_halts, range_ends, trip_goes, sum_faults, none_left, some_go, some_end, some_halt, quiet_over, do_runs, arm_steps}
 use Rattle.program_runs.proofs.walk.+members.Goals as goal
 
 pub walk_arms-loop-arm-init : goal.walk_arms-loop-arm-init
@@ -219,46 +222,6 @@ walk_arms-returns-clause-spends g t c =
 pub walk_arms-returns-clause-len : goal.walk_arms-returns-clause-len
 walk_arms-returns-clause-len g t c =
     c.loop-arm.invariant.len
-
-pub walk_do-returns-then-not-take_turn-clause-steps : goal.walk_do-returns-then-not-take_turn-clause-steps
-walk_do-returns-then-not-take_turn-clause-steps g t c =
-    let p = c.args.program.now in
-    let program = items_in p in
-    let told = g.S.Sink.told in
-    let l = out-Loop c.args.repeated.now in
-    let range = members_tree l.range.items in
-    let m = map_of p c.args.cells.now in
-    λ label comma. steps_quietly _ c.args.turns.now m c.take_turn.new.turns (fault_at F4 l.head.line) (told c.args.sink.now) (do_unmoved (scope_in p) (exec program) label comma c.args.variable.now (limits_tree c.args.limits.now) l.head.line range m c.args.turns.now c.take_turn.new.turns c.if-not-take_turn.ensures.0 c.if-not-take_turn.ensures.1)
-
-pub walk_do-walk_trips-requires : goal.walk_do-walk_trips-requires
-walk_do-walk_trips-requires g t c =
-    let some = (c.in-Ok.ensures.span (limits_tree c.args.limits.now) c.requires.limited).1 in
-    let sized = c.set_whole.ensures.len ∙ c.in-Ok.ensures.len ∙ c.requires.sized in
-    let given = c.decreases in
-    λ κs h. (omega arith, (search rules, (search rules, (c.requires.ready, (c.requires.named, (c.requires.allowed, (c.requires.counted, (some, (sized, c.requires.unrefused)))))))))
-
-pub walk_do-returns-in-Ok-clause-steps : goal.walk_do-returns-in-Ok-clause-steps
-walk_do-returns-in-Ok-clause-steps g t c =
-    let p = c.args.program.now in
-    let program = items_in p in
-    let told = g.S.Sink.told in
-    let l = out-Loop c.args.repeated.now in
-    let range = members_tree l.range.items in
-    let m = map_of p c.args.cells.now in
-    let y = c.walk_trips in
-    let fits : FitsSigned w32 c.in-Ok.span.first = search rules in
-    let first : map_of p c.set_whole.new.cells ≡ put m c.args.variable.now [] c.in-Ok.span.first = c.set_whole.ensures.set c.args.variable.now c.requires.counted ∙ ap (λ x. put x c.args.variable.now [] (to_z w32 (of_z w32 c.in-Ok.span.first))) (c.limits_whole.ensures.kept (limits_tree c.args.limits.now) c.requires.limited) ∙ ap (λ x. put m c.args.variable.now [] x) (to_z-of_z w32 c.in-Ok.span.first fits) in
-    λ label comma. do_runs (scope_in p) (exec program) label comma c.args.variable.now (limits_tree c.args.limits.now) l.head.line range m c.args.turns.now c.take_turn.new.turns c.if-not-take_turn.ensures (span_values c.in-Ok.span) (map_of p c.set_whole.new.cells) (map_of p y.new.cells) y.new.turns y.result (told c.args.sink.now) (told y.new.sink) (c.in-Ok.ensures.span (limits_tree c.args.limits.now) c.requires.limited).0 first y.ensures.runs
-
-pub walk_do-returns-in-Err-clause-steps : goal.walk_do-returns-in-Err-clause-steps
-walk_do-returns-in-Err-clause-steps g t c =
-    let p = c.args.program.now in
-    let program = items_in p in
-    let told = g.S.Sink.told in
-    let l = out-Loop c.args.repeated.now in
-    let range = members_tree l.range.items in
-    let m = map_of p c.args.cells.now in
-    λ label comma. steps_quietly _ c.args.turns.now _ c.take_turn.new.turns (fault_at c.in-Err.kind l.head.line) (told c.args.sink.now) (subst (λ z. Moves (λ go. looped (scope_in p) (exec program) (doing label comma c.args.variable.now (limits_tree c.args.limits.now)) l.head.line range m c.args.turns.now go) c.args.turns.now z c.take_turn.new.turns (fault_at c.in-Err.kind l.head.line)) (sym (c.in-Err.ensures.kept (limits_tree c.args.limits.now) c.requires.limited)) (do_faults (scope_in p) (exec program) label comma c.args.variable.now (limits_tree c.args.limits.now) l.head.line range m c.args.turns.now c.take_turn.new.turns c.if-not-take_turn.ensures c.in-Err.kind (c.in-Err.ensures.span (limits_tree c.args.limits.now) c.requires.limited)))
 
 pub walk_list-loop-place-init : goal.walk_list-loop-place-init
 walk_list-loop-place-init g t c =
@@ -601,56 +564,6 @@ pub walk_list-returns-clause-len : goal.walk_list-returns-clause-len
 walk_list-returns-clause-len g t c =
     c.loop-place.invariant.len
 
-pub walk_loop-returns-then-not-is_loud-clause-steps : goal.walk_loop-returns-then-not-is_loud-clause-steps
-walk_loop-returns-then-not-is_loud-clause-steps g t c =
-    let p = c.args.program.now in
-    let program = items_in p in
-    let told = g.S.Sink.told in
-    let y = c.run_loop in
-    steps_quietly _ c.args.turns.now (map_of p y.new.cells) y.new.turns y.result (told c.args.sink.now) y.ensures.moves
-
-pub walk_loop-walk_do-requires : goal.walk_loop-walk_do-requires
-walk_loop-walk_do-requires g t c =
-    let d = c.in-Some.ensures in
-    let r = told_by c.args.program.now _ d.label d.comma _ _ d.is c.in-Some-repeat_in.repeat.now c.in-Some-repeat_in.ensures in
-    let given = c.decreases in
-    λ κs h. (omega arith, (search rules, (search rules, (c.requires.ready, (c.requires.named, (c.requires.allowed, (r.0, (r.1, (c.requires.sized, c.requires.unrefused)))))))))
-
-pub walk_loop-returns-in-Some-repeat_in-clause-steps : goal.walk_loop-returns-in-Some-repeat_in-clause-steps
-walk_loop-returns-in-Some-repeat_in-clause-steps g t c =
-    let p = c.args.program.now in
-    let program = items_in p in
-    let told = g.S.Sink.told in
-    let l = out-Loop c.args.repeated.now in
-    let range = members_tree l.range.items in
-    let m = map_of p c.args.cells.now in
-    let y = c.walk_do in
-    let d = c.in-Some.ensures in
-    subst (λ s. Steps (λ go. looped (scope_in p) (exec program) s l.head.line range m c.args.turns.now go) c.args.turns.now (map_of p y.new.cells) y.new.turns y.result (told c.args.sink.now) (told y.new.sink)) (sym d.is) (y.ensures.steps d.label d.comma)
-
-pub walk_loop-returns-in-None-clause-steps : goal.walk_loop-returns-in-None-clause-steps
-walk_loop-returns-in-None-clause-steps g t c =
-    let p = c.args.program.now in
-    let program = items_in p in
-    let told = g.S.Sink.told in
-    let l = out-Loop c.args.repeated.now in
-    let range = members_tree l.range.items in
-    let m = map_of p c.args.cells.now in
-    steps_same (λ go. go onward m c.args.turns.now) (λ go. looped (scope_in p) (exec program) (shape_tree l.head.form.shape.value) l.head.line range m c.args.turns.now go) c.args.turns.now m c.args.turns.now (Ok outcomes.Normal) (told c.args.sink.now) (told c.args.sink.now) (unless_do (shape_tree l.head.form.shape.value) (scope_in p) (exec program) l.head.line range m c.args.turns.now c.in-None.ensures) (steps_quietly _ c.args.turns.now m c.args.turns.now outcomes.Normal (told c.args.sink.now) (passes_over m c.args.turns.now))
-
-pub walk_member-walk_loop-requires : goal.walk_member-walk_loop-requires
-walk_member-walk_loop-requires g t c =
-    let p = c.args.program.now in
-    let head = head_known (IsStatement p) c.args.member.now c.in-Loop.repeated c.in-Loop.is c.requires.named in
-    let range = range_known (IsStatement p) c.args.member.now c.in-Loop.repeated c.in-Loop.is c.requires.named in
-    let allowed = allowed_range p c.args.member.now c.in-Loop.repeated c.in-Loop.is c.requires.allowed in
-    let quiet = quiet_unless_loud p c.args.member.now c.in-Loop.repeated c.in-Loop.is c.requires.allowed in
-    let leaves = leaves_its_variable p c.args.member.now c.in-Loop.repeated c.in-Loop.is c.requires.allowed in
-    let given = c.decreases in
-    let same = ap the_size c.in-Loop.is in
-    let size = sized-Loop c.in-Loop.repeated in
-    λ κs h. (omega arith, (search rules, (search rules, (c.requires.ready, ((range, (allowed, (quiet, (leaves, (head, (c.requires.sized, c.requires.unrefused)))))))))))
-
 pub walk_member-walk_arms-requires : goal.walk_member-walk_arms-requires
 walk_member-walk_arms-requires g t c =
     let p = c.args.program.now in
@@ -847,306 +760,221 @@ walk_while-returns-in-Err-clause-passes g t c =
     let n = map_of p c.condition_whole.new.cells in
     λ again. steps_quietly (λ go. while_as program l again m t0 go) t0 n u (outcomes.Fault f) old (subst (λ z. Moves (λ go. while_as program l again m t0 go) t0 z u (outcomes.Fault f)) (sym (c.in-Err.ensures.kept d.condition d.code)) (moves_same (λ go. repeated (scope_in p) (exec program) d.condition line range again m t0 go) (λ go. while_as program l again m t0 go) t0 m u (outcomes.Fault f) (while_is program l d.condition (ap while_of d.is) again m t0) (while_faults (scope_in p) (exec program) d.condition line range again m t0 u f (c.in-Err.ensures.tests d.condition d.code))))
 
-pub walk_trips-loop-init : goal.walk_trips-loop-init
-walk_trips-loop-init g t c =
-    record { so_far = so_far_none _ c.args.turns.now (g.S.Sink.told c.args.sink.now); ends = c.count_of-end.ensures; sized = c.requires.sized; len = refl; unrefused = c.requires.unrefused; fewer = omega arith }
-
-pub walk_trips-returns-in_err-walk_list-clause-runs : goal.walk_trips-returns-in_err-walk_list-clause-runs
-walk_trips-returns-in_err-walk_list-clause-runs g t c =
+pub walk_trip-walk_list-requires : goal.walk_trip-walk_list-requires
+walk_trip-walk_list-requires g t c =
     let p = c.args.program.now in
-    let program = items_in p in
+    let l = c.args.repeated.now in
+    let w = c.requires.walked in
+    let named = subst (λ xs. AreStatements p (flat (members_tree xs))) (sym c.deref.ensures.value) w.named in
+    let allowed = subst (λ xs. IsAllowed p (members_tree xs)) (sym c.deref.ensures.value) w.allowed in
+    let given = c.decreases in
+    let whole = size_is-Loop l in
+    let body = ap (λ xs. most the_size xs) c.deref.ensures.value in
+    λ κs h. (omega arith, (search rules, (search rules, (c.requires.ready, (named, (allowed, (c.requires.sized, c.requires.unrefused)))))))
+
+pub walk_trip-returns-in_err-outcome-clause-runs : goal.walk_trip-returns-in_err-outcome-clause-runs
+walk_trip-returns-in_err-outcome-clause-runs g t c =
+    let p = c.args.program.now in
+    let rec = exec (items_in p) in
     let told = g.S.Sink.told in
     let l = out-Loop c.args.repeated.now in
+    let v = variable_of (shape_tree l.head.form.shape.value) in
     let range = members_tree l.range.items in
-    let span = c.args.span in
-    let i = c.loop.counter in
-    let inv = c.loop.invariant in
-    let m = map_of p c.loop.cells in
+    let step = c.args.step in
+    let t0 = c.args.turns.now in
+    let m = map_of p c.args.cells.now in
+    let old = told c.args.sink.now in
     let y = c.walk_list in
-    let n = map_of p y.new.cells in
-    let left = y.new.turns in
-    let lt : i < trip_count span.first span.last span.step = (let e = inv.ends in let test = c.loop-test.true in omega arith) in
-    let runs = subst (λ xs. Halts (exec program (members_tree xs) (members_tree xs) m c.loop.turns).pieces c.in_err-walk_list.field-0.0 (told c.loop.sink) (told y.new.sink)) c.deref.ensures.value c.in_err-walk_list.ensures.runs in
+    let new = told y.new.sink in
+    let runs = subst (λ xs. Halts (rec (members_tree xs) (members_tree xs) m t0).pieces c.in_err-outcome.field-0.0 old new) c.deref.ensures.value c.in_err-outcome.ensures.runs in
     let q = err_from_is_err_and c.from_residual.result c.from_residual.ensures.1 in
-    rw (q.1, q.2) (range_halts (exec program) l.head.line c.args.variable.now span.first span.step (trip_count span.first span.last span.step) range _ c.args.turns.now i c.loop.turns m (told c.args.sink.now) (told c.loop.sink) inv.so_far (told y.new.sink) lt _ runs)
+    λ first. rw (q.1, q.2) (range_halts rec l.head.line v first step 1 range _ t0 0 t0 m old old (so_far_none _ t0 old) new (omega arith) _ runs)
 
-pub walk_trips-returns-in_err-walk_list-clause-len : goal.walk_trips-returns-in_err-walk_list-clause-len
-walk_trips-returns-in_err-walk_list-clause-len g t c =
+pub walk_trip-returns-then-not-is_normal-clause-runs : goal.walk_trip-returns-then-not-is_normal-clause-runs
+walk_trip-returns-then-not-is_normal-clause-runs g t c =
     let p = c.args.program.now in
-    let program = items_in p in
+    let rec = exec (items_in p) in
     let told = g.S.Sink.told in
     let l = out-Loop c.args.repeated.now in
+    let v = variable_of (shape_tree l.head.form.shape.value) in
     let range = members_tree l.range.items in
-    let span = c.args.span in
-    let i = c.loop.counter in
-    let inv = c.loop.invariant in
-    let m = map_of p c.loop.cells in
+    let step = c.args.step in
+    let t0 = c.args.turns.now in
+    let m = map_of p c.args.cells.now in
+    let old = told c.args.sink.now in
     let y = c.walk_list in
+    let new = told y.new.sink in
     let n = map_of p y.new.cells in
     let left = y.new.turns in
-    let lt : i < trip_count span.first span.last span.step = (let e = inv.ends in let test = c.loop-test.true in omega arith) in
-    c.in_err-walk_list.ensures.len ∙ inv.len
+    let o = c.in_ok-outcome.outcome in
+    let end = is_end o (λ e. false≢true (sym c.if-not-is_normal.true ∙ c.is_normal.ensures.1 e)) in
+    let runs = subst (λ xs. Runs (rec (members_tree xs) (members_tree xs) m t0) t0 n left (Ok o) old new) c.deref.ensures.value c.in_ok-outcome.ensures.runs in
+    λ first. range_ends rec l.head.line v first step 1 range _ t0 0 t0 m old old (so_far_none _ t0 old) new (omega arith) n left o end runs
 
-pub walk_trips-returns-in-Left-clause-runs : goal.walk_trips-returns-in-Left-clause-runs
-walk_trips-returns-in-Left-clause-runs g t c =
+pub walk_trip-returns-in-Ok-clause-runs : goal.walk_trip-returns-in-Ok-clause-runs
+walk_trip-returns-in-Ok-clause-runs g t c =
     let p = c.args.program.now in
-    let program = items_in p in
+    let rec = exec (items_in p) in
     let told = g.S.Sink.told in
     let l = out-Loop c.args.repeated.now in
+    let v = variable_of (shape_tree l.head.form.shape.value) in
     let range = members_tree l.range.items in
-    let span = c.args.span in
-    let i = c.loop.counter in
-    let inv = c.loop.invariant in
-    let m = map_of p c.loop.cells in
+    let step = c.args.step in
+    let t0 = c.args.turns.now in
+    let m = map_of p c.args.cells.now in
+    let old = told c.args.sink.now in
     let y = c.walk_list in
+    let new = told y.new.sink in
     let n = map_of p y.new.cells in
+    let k = map_of p c.add_whole.new.cells in
     let left = y.new.turns in
-    let lt : i < trip_count span.first span.last span.step = (let e = inv.ends in let test = c.loop-test.true in omega arith) in
-    let runs = subst (λ xs. Runs (exec program (members_tree xs) (members_tree xs) m c.loop.turns) c.loop.turns n left (Ok (outcomes.Left c.in-Left.label)) (told c.loop.sink) (told y.new.sink)) c.deref.ensures.value (rw c.in-Left.is at c.in_ok-walk_list.ensures.runs) in
-    range_ends (exec program) l.head.line c.args.variable.now span.first span.step (trip_count span.first span.last span.step) range _ c.args.turns.now i c.loop.turns m (told c.args.sink.now) (told c.loop.sink) inv.so_far (told y.new.sink) lt n left (outcomes.Left c.in-Left.label) tt runs
+    let o = c.in_ok-outcome.outcome in
+    let normal : o ≡ outcomes.Normal = c.is_normal.ensures.0 c.if-not-is_normal.false in
+    let runs = subst (λ z. Runs (rec range range m t0) t0 n left (Ok z) old new) normal (subst (λ xs. Runs (rec (members_tree xs) (members_tree xs) m t0) t0 n left (Ok o) old new) c.deref.ensures.value c.in_ok-outcome.ensures.runs) in
+    let fits : FitsSigned w32 step = search rules in
+    let adds = subst (λ by. Adds v by n k (Ok tt)) (to_z-of_z w32 step fits) (c.in-Ok.ensures.adds v (counted_cell p c.args.repeat.now (shape_tree l.head.form.shape.value) c.requires.repeats)) in
+    λ first. subst (λ z. IsOver (several rec l.head.line v step range first 1 m t0) t0 k left z old new) (sym normal) (last_trip rec l.head.line v first step 1 range _ t0 1 left k old new (trip_goes rec l.head.line v first step 1 range _ t0 0 t0 m old old (so_far_none _ t0 old) new (omega arith) n left k runs adds) (omega arith))
 
-pub walk_trips-returns-in-Left-clause-turns : goal.walk_trips-returns-in-Left-clause-turns
-walk_trips-returns-in-Left-clause-turns g t c =
+pub walk_trip-returns-in-Err-clause-runs : goal.walk_trip-returns-in-Err-clause-runs
+walk_trip-returns-in-Err-clause-runs g t c =
     let p = c.args.program.now in
-    let program = items_in p in
+    let rec = exec (items_in p) in
     let told = g.S.Sink.told in
     let l = out-Loop c.args.repeated.now in
+    let v = variable_of (shape_tree l.head.form.shape.value) in
     let range = members_tree l.range.items in
-    let span = c.args.span in
-    let i = c.loop.counter in
-    let inv = c.loop.invariant in
-    let m = map_of p c.loop.cells in
+    let step = c.args.step in
+    let t0 = c.args.turns.now in
+    let m = map_of p c.args.cells.now in
+    let old = told c.args.sink.now in
     let y = c.walk_list in
+    let new = told y.new.sink in
     let n = map_of p y.new.cells in
+    let k = map_of p c.add_whole.new.cells in
     let left = y.new.turns in
-    let lt : i < trip_count span.first span.last span.step = (let e = inv.ends in let test = c.loop-test.true in omega arith) in
-    let le = c.in_ok-walk_list.ensures.turns in
-    let fewer = inv.fewer in
+    let o = c.in_ok-outcome.outcome in
+    let normal : o ≡ outcomes.Normal = c.is_normal.ensures.0 c.if-not-is_normal.false in
+    let runs = subst (λ z. Runs (rec range range m t0) t0 n left (Ok z) old new) normal (subst (λ xs. Runs (rec (members_tree xs) (members_tree xs) m t0) t0 n left (Ok o) old new) c.deref.ensures.value c.in_ok-outcome.ensures.runs) in
+    let fits : FitsSigned w32 step = search rules in
+    let adds = subst (λ by. Adds v by n k (Err c.in-Err.kind)) (to_z-of_z w32 step fits) (c.in-Err.ensures.adds v (counted_cell p c.args.repeat.now (shape_tree l.head.form.shape.value) c.requires.repeats)) in
+    λ first. sum_faults rec l.head.line v first step 1 range _ t0 0 t0 m old old (so_far_none _ t0 old) new (omega arith) n left k c.in-Err.kind runs adds
+
+pub walk_some-run_trips-advance-requires-clause-quiet : goal.walk_some-run_trips-advance-requires-clause-quiet
+walk_some-run_trips-advance-requires-clause-quiet g t c =
+    let w = c.requires.walked in
+    quiet_loop c.args.program.now c.args.repeated.now c.args.repeat.now c.requires.repeats w.head w.named w.allowed.kept (w.quiet (sym c.is_loud.ensures ∙ c.if-is_loud.false)) w.leaves
+
+pub walk_some-returns-then-is_loud-clause-runs : goal.walk_some-returns-then-is_loud-clause-runs
+walk_some-returns-then-is_loud-clause-runs g t c =
+    let p = c.args.program.now in
+    let told = g.S.Sink.told in
+    let step = c.args.remaining.span.step in
+    let fits : FitsSigned w32 step = search rules in
+    let y = c.walk_trip in
+    λ first. subst (λ s. AdvancesIn p c.args.cells.now y.new.cells (trips_in p c.args.repeated.now first s) c.args.turns.now y.new.turns y.result (told c.args.sink.now) (told y.new.sink)) (to_z-of_z w32 step fits) (y.ensures.runs first)
+
+pub walk_some-returns-then-advance-gt0-clause-runs : goal.walk_some-returns-then-advance-gt0-clause-runs
+walk_some-returns-then-advance-gt0-clause-runs g t c =
+    let p = c.args.program.now in
+    let told = g.S.Sink.told in
+    let y = c.run_trips-advance in
+    λ first. quiet_over _ c.args.turns.now (map_of p y.new.cells) y.new.turns y.result.outcome (told c.args.sink.now) (y.ensures.leaves first)
+
+pub walk_some-returns-then-advance-gt0-clause-turns : goal.walk_some-returns-then-advance-gt0-clause-turns
+walk_some-returns-then-advance-gt0-clause-turns g t c =
+    let e = (c.run_trips-advance.ensures.leaves (pos 0)).turns in
     omega arith
 
-pub walk_trips-returns-in-Left-clause-len : goal.walk_trips-returns-in-Left-clause-len
-walk_trips-returns-in-Left-clause-len g t c =
+pub walk_some-returns-clause-runs : goal.walk_some-returns-clause-runs
+walk_some-returns-clause-runs g t c =
     let p = c.args.program.now in
-    let program = items_in p in
     let told = g.S.Sink.told in
-    let l = out-Loop c.args.repeated.now in
-    let range = members_tree l.range.items in
-    let span = c.args.span in
-    let i = c.loop.counter in
-    let inv = c.loop.invariant in
-    let m = map_of p c.loop.cells in
-    let y = c.walk_list in
-    let n = map_of p y.new.cells in
-    let left = y.new.turns in
-    let lt : i < trip_count span.first span.last span.step = (let e = inv.ends in let test = c.loop-test.true in omega arith) in
-    c.in_ok-walk_list.ensures.len ∙ inv.len
+    let step = c.args.remaining.span.step in
+    let fits : FitsSigned w32 step = search rules in
+    let y = c.run_trips-advance in
+    let z = c.walk_trip-2 in
+    let none : y.result.done ≡ 0 = omega arith in
+    let same = y.ensures.nothing none in
+    λ first. subst (λ u. AdvancesIn p c.args.cells.now z.new.cells (trips_in p c.args.repeated.now first step) u z.new.turns z.result (told c.args.sink.now) (told z.new.sink)) same.1 (subst (λ cs. AdvancesIn p cs z.new.cells (trips_in p c.args.repeated.now first step) y.new.turns z.new.turns z.result (told c.args.sink.now) (told z.new.sink)) same.0 (subst (λ s. AdvancesIn p y.new.cells z.new.cells (trips_in p c.args.repeated.now first s) y.new.turns z.new.turns z.result (told c.args.sink.now) (told z.new.sink)) (to_z-of_z w32 step fits) (z.ensures.runs first)))
 
-pub walk_trips-returns-in-Stopped-clause-runs : goal.walk_trips-returns-in-Stopped-clause-runs
-walk_trips-returns-in-Stopped-clause-runs g t c =
+pub walk_trips-loop-done-init : goal.walk_trips-loop-done-init
+walk_trips-loop-done-init g t c =
     let p = c.args.program.now in
-    let program = items_in p in
-    let told = g.S.Sink.told in
-    let l = out-Loop c.args.repeated.now in
-    let range = members_tree l.range.items in
+    let told = g.S.Sink.told c.args.sink.now in
     let span = c.args.span in
-    let i = c.loop.counter in
-    let inv = c.loop.invariant in
-    let m = map_of p c.loop.cells in
-    let y = c.walk_list in
-    let n = map_of p y.new.cells in
-    let left = y.new.turns in
-    let lt : i < trip_count span.first span.last span.step = (let e = inv.ends in let test = c.loop-test.true in omega arith) in
-    let runs = subst (λ xs. Runs (exec program (members_tree xs) (members_tree xs) m c.loop.turns) c.loop.turns n left (Ok (outcomes.Stopped c.in-Stopped.line)) (told c.loop.sink) (told y.new.sink)) c.deref.ensures.value (rw c.in-Stopped.is at c.in_ok-walk_list.ensures.runs) in
-    range_ends (exec program) l.head.line c.args.variable.now span.first span.step (trip_count span.first span.last span.step) range _ c.args.turns.now i c.loop.turns m (told c.args.sink.now) (told c.loop.sink) inv.so_far (told y.new.sink) lt n left (outcomes.Stopped c.in-Stopped.line) tt runs
+    let count = trip_count span.first span.last span.step in
+    let whole = trips_in p c.args.repeated.now span.first span.step count (map_of p c.args.cells.now) c.args.turns.now in
+    let all : count - 0 ≡ count = omega arith in
+    record { so_far = subst (λ n. SoFar whole (trips_in p c.args.repeated.now span.first span.step n (map_of p c.args.cells.now) c.args.turns.now) c.args.turns.now c.args.turns.now told told) (sym all) (so_far_none whole c.args.turns.now told); within = omega arith; sized = c.requires.sized; len = refl; unrefused = c.requires.unrefused; fewer = omega arith }
 
-pub walk_trips-returns-in-Stopped-clause-turns : goal.walk_trips-returns-in-Stopped-clause-turns
-walk_trips-returns-in-Stopped-clause-turns g t c =
+pub walk_trips-returns-in_err-advance-clause-runs : goal.walk_trips-returns-in_err-advance-clause-runs
+walk_trips-returns-in_err-advance-clause-runs g t c =
     let p = c.args.program.now in
-    let program = items_in p in
+    let rec = exec (items_in p) in
     let told = g.S.Sink.told in
     let l = out-Loop c.args.repeated.now in
+    let v = variable_of (shape_tree l.head.form.shape.value) in
     let range = members_tree l.range.items in
     let span = c.args.span in
-    let i = c.loop.counter in
-    let inv = c.loop.invariant in
-    let m = map_of p c.loop.cells in
-    let y = c.walk_list in
+    let done = c.loop-done.done in
+    let inv = c.loop-done.invariant in
+    let m = map_of p c.loop-done.cells in
+    let y = c.walk_some in
+    let total = trip_count span.first span.last span.step - done in
+    let lt : 1 ≤ total = (let e = c.count_of-count.ensures in let test = c.loop-done-test.true in omega arith) in
+    let q = err_from_is_err_and c.from_residual.result c.from_residual.ensures.1 in
+    rw (q.1, q.2) (some_halt rec l.head.line v span.step span.first range _ c.args.turns.now c.loop-done.turns total m (told c.args.sink.now) (told c.loop-done.sink) inv.so_far (told y.new.sink) 1 lt _ (c.in_err-advance.ensures.runs span.first))
+
+pub walk_trips-returns-then-not-is_normal-clause-runs : goal.walk_trips-returns-then-not-is_normal-clause-runs
+walk_trips-returns-then-not-is_normal-clause-runs g t c =
+    let p = c.args.program.now in
+    let rec = exec (items_in p) in
+    let told = g.S.Sink.told in
+    let l = out-Loop c.args.repeated.now in
+    let v = variable_of (shape_tree l.head.form.shape.value) in
+    let range = members_tree l.range.items in
+    let span = c.args.span in
+    let done = c.loop-done.done in
+    let inv = c.loop-done.invariant in
+    let m = map_of p c.loop-done.cells in
+    let y = c.walk_some in
+    let a = c.in_ok-advance.advance in
+    let total = trip_count span.first span.last span.step - done in
+    let le : a.done ≤ total = (let e = c.count_of-count.ensures in let f = c.in_ok-advance.ensures.done in omega arith) in
+    let end = is_end a.outcome (λ e. false≢true (sym c.if-not-is_normal.true ∙ c.is_normal.ensures.1 e)) in
+    some_end rec l.head.line v span.step span.first range _ c.args.turns.now c.loop-done.turns total m (told c.args.sink.now) (told c.loop-done.sink) inv.so_far (told y.new.sink) a.done le (map_of p y.new.cells) y.new.turns a.outcome end (c.in_ok-advance.ensures.runs span.first)
+
+pub walk_trips-loop-done-preserved : goal.walk_trips-loop-done-preserved
+walk_trips-loop-done-preserved g t c =
+    let p = c.args.program.now in
+    let rec = exec (items_in p) in
+    let told = g.S.Sink.told in
+    let l = out-Loop c.args.repeated.now in
+    let v = variable_of (shape_tree l.head.form.shape.value) in
+    let range = members_tree l.range.items in
+    let span = c.args.span in
+    let count = trip_count span.first span.last span.step in
+    let done = c.loop-done.done in
+    let inv = c.loop-done.invariant in
+    let m = map_of p c.loop-done.cells in
+    let y = c.walk_some in
     let n = map_of p y.new.cells in
     let left = y.new.turns in
-    let lt : i < trip_count span.first span.last span.step = (let e = inv.ends in let test = c.loop-test.true in omega arith) in
-    let le = c.in_ok-walk_list.ensures.turns in
+    let a = c.in_ok-advance.advance in
+    let total = count - done in
+    let f = c.in_ok-advance.ensures.done in
+    let le : a.done ≤ total = (let e = c.count_of-count.ensures in omega arith) in
+    let normal : a.outcome ≡ outcomes.Normal = c.is_normal.ensures.0 c.if-not-is_normal.false in
+    let runs = subst (λ o. IsOver (several rec l.head.line v span.step range span.first a.done m c.loop-done.turns) c.loop-done.turns n left o (told c.loop-done.sink) (told y.new.sink)) normal (c.in_ok-advance.ensures.runs span.first) in
+    let goes = some_go rec l.head.line v span.step span.first range _ c.args.turns.now c.loop-done.turns total m (told c.args.sink.now) (told c.loop-done.sink) inv.so_far (told y.new.sink) a.done le n left runs in
+    let rest : total - a.done ≡ count - (done + a.done) = omega arith in
     let fewer = inv.fewer in
-    omega arith
-
-pub walk_trips-returns-in-Stopped-clause-len : goal.walk_trips-returns-in-Stopped-clause-len
-walk_trips-returns-in-Stopped-clause-len g t c =
-    let p = c.args.program.now in
-    let program = items_in p in
-    let told = g.S.Sink.told in
-    let l = out-Loop c.args.repeated.now in
-    let range = members_tree l.range.items in
-    let span = c.args.span in
-    let i = c.loop.counter in
-    let inv = c.loop.invariant in
-    let m = map_of p c.loop.cells in
-    let y = c.walk_list in
-    let n = map_of p y.new.cells in
-    let left = y.new.turns in
-    let lt : i < trip_count span.first span.last span.step = (let e = inv.ends in let test = c.loop-test.true in omega arith) in
-    c.in_ok-walk_list.ensures.len ∙ inv.len
-
-pub walk_trips-returns-in-Fault-clause-runs : goal.walk_trips-returns-in-Fault-clause-runs
-walk_trips-returns-in-Fault-clause-runs g t c =
-    let p = c.args.program.now in
-    let program = items_in p in
-    let told = g.S.Sink.told in
-    let l = out-Loop c.args.repeated.now in
-    let range = members_tree l.range.items in
-    let span = c.args.span in
-    let i = c.loop.counter in
-    let inv = c.loop.invariant in
-    let m = map_of p c.loop.cells in
-    let y = c.walk_list in
-    let n = map_of p y.new.cells in
-    let left = y.new.turns in
-    let lt : i < trip_count span.first span.last span.step = (let e = inv.ends in let test = c.loop-test.true in omega arith) in
-    let runs = subst (λ xs. Runs (exec program (members_tree xs) (members_tree xs) m c.loop.turns) c.loop.turns n left (Ok (outcomes.Fault c.in-Fault.fault)) (told c.loop.sink) (told y.new.sink)) c.deref.ensures.value (rw c.in-Fault.is at c.in_ok-walk_list.ensures.runs) in
-    range_ends (exec program) l.head.line c.args.variable.now span.first span.step (trip_count span.first span.last span.step) range _ c.args.turns.now i c.loop.turns m (told c.args.sink.now) (told c.loop.sink) inv.so_far (told y.new.sink) lt n left (outcomes.Fault c.in-Fault.fault) tt runs
-
-pub walk_trips-returns-in-Fault-clause-turns : goal.walk_trips-returns-in-Fault-clause-turns
-walk_trips-returns-in-Fault-clause-turns g t c =
-    let p = c.args.program.now in
-    let program = items_in p in
-    let told = g.S.Sink.told in
-    let l = out-Loop c.args.repeated.now in
-    let range = members_tree l.range.items in
-    let span = c.args.span in
-    let i = c.loop.counter in
-    let inv = c.loop.invariant in
-    let m = map_of p c.loop.cells in
-    let y = c.walk_list in
-    let n = map_of p y.new.cells in
-    let left = y.new.turns in
-    let lt : i < trip_count span.first span.last span.step = (let e = inv.ends in let test = c.loop-test.true in omega arith) in
-    let le = c.in_ok-walk_list.ensures.turns in
-    let fewer = inv.fewer in
-    omega arith
-
-pub walk_trips-returns-in-Fault-clause-len : goal.walk_trips-returns-in-Fault-clause-len
-walk_trips-returns-in-Fault-clause-len g t c =
-    let p = c.args.program.now in
-    let program = items_in p in
-    let told = g.S.Sink.told in
-    let l = out-Loop c.args.repeated.now in
-    let range = members_tree l.range.items in
-    let span = c.args.span in
-    let i = c.loop.counter in
-    let inv = c.loop.invariant in
-    let m = map_of p c.loop.cells in
-    let y = c.walk_list in
-    let n = map_of p y.new.cells in
-    let left = y.new.turns in
-    let lt : i < trip_count span.first span.last span.step = (let e = inv.ends in let test = c.loop-test.true in omega arith) in
-    c.in_ok-walk_list.ensures.len ∙ inv.len
-
-pub walk_trips-add_whole-requires-clause-sized : goal.walk_trips-add_whole-requires-clause-sized
-walk_trips-add_whole-requires-clause-sized g t c =
-    let p = c.args.program.now in
-    let program = items_in p in
-    let told = g.S.Sink.told in
-    let l = out-Loop c.args.repeated.now in
-    let range = members_tree l.range.items in
-    let span = c.args.span in
-    let i = c.loop.counter in
-    let inv = c.loop.invariant in
-    let m = map_of p c.loop.cells in
-    let y = c.walk_list in
-    let n = map_of p y.new.cells in
-    let left = y.new.turns in
-    let lt : i < trip_count span.first span.last span.step = (let e = inv.ends in let test = c.loop-test.true in omega arith) in
-    c.in_ok-walk_list.ensures.len ∙ inv.sized
-
-pub walk_trips-returns-in-Err-clause-runs : goal.walk_trips-returns-in-Err-clause-runs
-walk_trips-returns-in-Err-clause-runs g t c =
-    let p = c.args.program.now in
-    let program = items_in p in
-    let told = g.S.Sink.told in
-    let l = out-Loop c.args.repeated.now in
-    let range = members_tree l.range.items in
-    let span = c.args.span in
-    let i = c.loop.counter in
-    let inv = c.loop.invariant in
-    let m = map_of p c.loop.cells in
-    let y = c.walk_list in
-    let n = map_of p y.new.cells in
-    let left = y.new.turns in
-    let lt : i < trip_count span.first span.last span.step = (let e = inv.ends in let test = c.loop-test.true in omega arith) in
-    let runs = subst (λ xs. Runs (exec program (members_tree xs) (members_tree xs) m c.loop.turns) c.loop.turns n left (Ok outcomes.Normal) (told c.loop.sink) (told y.new.sink)) c.deref.ensures.value (rw c.in-Normal.is at c.in_ok-walk_list.ensures.runs) in
-    let fits : FitsSigned w32 span.step = search rules in
-    let adds = subst (λ by. Adds c.args.variable.now by n (map_of p c.add_whole.new.cells) (Err c.in-Err.kind)) (to_z-of_z w32 span.step fits) (c.in-Err.ensures.adds c.args.variable.now c.requires.counted) in
-    sum_faults (exec program) l.head.line c.args.variable.now span.first span.step (trip_count span.first span.last span.step) range _ c.args.turns.now i c.loop.turns m (told c.args.sink.now) (told c.loop.sink) inv.so_far (told y.new.sink) lt n left (map_of p c.add_whole.new.cells) c.in-Err.kind runs adds
-
-pub walk_trips-returns-in-Err-clause-turns : goal.walk_trips-returns-in-Err-clause-turns
-walk_trips-returns-in-Err-clause-turns g t c =
-    let p = c.args.program.now in
-    let program = items_in p in
-    let told = g.S.Sink.told in
-    let l = out-Loop c.args.repeated.now in
-    let range = members_tree l.range.items in
-    let span = c.args.span in
-    let i = c.loop.counter in
-    let inv = c.loop.invariant in
-    let m = map_of p c.loop.cells in
-    let y = c.walk_list in
-    let n = map_of p y.new.cells in
-    let left = y.new.turns in
-    let lt : i < trip_count span.first span.last span.step = (let e = inv.ends in let test = c.loop-test.true in omega arith) in
-    let le = c.in_ok-walk_list.ensures.turns in
-    let fewer = inv.fewer in
-    omega arith
-
-pub walk_trips-returns-in-Err-clause-len : goal.walk_trips-returns-in-Err-clause-len
-walk_trips-returns-in-Err-clause-len g t c =
-    let p = c.args.program.now in
-    let program = items_in p in
-    let told = g.S.Sink.told in
-    let l = out-Loop c.args.repeated.now in
-    let range = members_tree l.range.items in
-    let span = c.args.span in
-    let i = c.loop.counter in
-    let inv = c.loop.invariant in
-    let m = map_of p c.loop.cells in
-    let y = c.walk_list in
-    let n = map_of p y.new.cells in
-    let left = y.new.turns in
-    let lt : i < trip_count span.first span.last span.step = (let e = inv.ends in let test = c.loop-test.true in omega arith) in
-    c.in-Err.ensures.len ∙ c.in_ok-walk_list.ensures.len ∙ inv.len
-
-pub walk_trips-loop-preserved : goal.walk_trips-loop-preserved
-walk_trips-loop-preserved g t c =
-    let p = c.args.program.now in
-    let program = items_in p in
-    let told = g.S.Sink.told in
-    let l = out-Loop c.args.repeated.now in
-    let range = members_tree l.range.items in
-    let span = c.args.span in
-    let i = c.loop.counter in
-    let inv = c.loop.invariant in
-    let m = map_of p c.loop.cells in
-    let y = c.walk_list in
-    let n = map_of p y.new.cells in
-    let left = y.new.turns in
-    let lt : i < trip_count span.first span.last span.step = (let e = inv.ends in let test = c.loop-test.true in omega arith) in
-    let runs = subst (λ xs. Runs (exec program (members_tree xs) (members_tree xs) m c.loop.turns) c.loop.turns n left (Ok outcomes.Normal) (told c.loop.sink) (told y.new.sink)) c.deref.ensures.value (rw c.in-Normal.is at c.in_ok-walk_list.ensures.runs) in
-    let fits : FitsSigned w32 span.step = search rules in
-    let adds = subst (λ by. Adds c.args.variable.now by n (map_of p c.add_whole.new.cells) (Ok tt)) (to_z-of_z w32 span.step fits) (c.in-Ok.ensures.adds c.args.variable.now c.requires.counted) in
-    let le = c.in_ok-walk_list.ensures.turns in
-    let fewer = inv.fewer in
+    let less = c.in_ok-advance.ensures.turns in
     record {
-      so_far = trip_goes (exec program) l.head.line c.args.variable.now span.first span.step (trip_count span.first span.last span.step) range _ c.args.turns.now i c.loop.turns m (told c.args.sink.now) (told c.loop.sink) inv.so_far (told y.new.sink) lt n left (map_of p c.add_whole.new.cells) runs adds;
-      ends = inv.ends;
-      sized = c.in-Ok.ensures.len ∙ c.in_ok-walk_list.ensures.len ∙ inv.sized;
-      len = c.in-Ok.ensures.len ∙ c.in_ok-walk_list.ensures.len ∙ inv.len;
+      so_far = subst (λ k. SoFar (trips_in p c.args.repeated.now span.first span.step count (map_of p c.args.cells.now) c.args.turns.now) (several rec l.head.line v span.step range span.first k n left) c.args.turns.now left (told c.args.sink.now) (told y.new.sink)) rest goes;
+      within = (let e = c.count_of-count.ensures in omega arith);
+      sized = c.in_ok-advance.ensures.len ∙ inv.sized;
+      len = c.in_ok-advance.ensures.len ∙ inv.len;
       unrefused = runs.bytes.stays ∙ inv.unrefused;
       fewer = omega arith;
     }
@@ -1154,20 +982,86 @@ walk_trips-loop-preserved g t c =
 pub walk_trips-returns-clause-runs : goal.walk_trips-returns-clause-runs
 walk_trips-returns-clause-runs g t c =
     let p = c.args.program.now in
+    let rec = exec (items_in p) in
+    let told = g.S.Sink.told in
+    let l = out-Loop c.args.repeated.now in
+    let v = variable_of (shape_tree l.head.form.shape.value) in
+    let range = members_tree l.range.items in
+    let span = c.args.span in
+    let total = trip_count span.first span.last span.step - c.loop-done.done in
+    let none : total ≡ 0 = (let e = c.count_of-count.ensures in let ge = c.loop-done-test.false in omega arith) in
+    none_left rec l.head.line v span.step span.first range _ c.args.turns.now c.loop-done.turns total (map_of p c.loop-done.cells) (told c.args.sink.now) (told c.loop-done.sink) c.loop-done.invariant.so_far none
+
+pub walk_do-returns-then-not-take_turn-clause-steps : goal.walk_do-returns-then-not-take_turn-clause-steps
+walk_do-returns-then-not-take_turn-clause-steps g t c =
+    let p = c.args.program.now in
+    let program = items_in p in
+    let told = g.S.Sink.told in
+    let l = out-Loop c.args.repeated.now in
+    let s = shape_tree l.head.form.shape.value in
+    let d = c.requires.repeats in
+    let range = members_tree l.range.items in
+    let m = map_of p c.args.cells.now in
+    let t0 = c.args.turns.now in
+    let u = c.take_turn.new.turns in
+    subst (λ z. Steps (λ go. looped (scope_in p) (exec program) z l.head.line range m t0 go) t0 m u (Ok (fault_at F4 l.head.line)) (told c.args.sink.now) (told c.args.sink.now)) (sym (says p c.args.repeat.now s d)) (steps_quietly _ t0 m u (fault_at F4 l.head.line) (told c.args.sink.now) (do_unmoved (scope_in p) (exec program) d.label d.comma (variable_of s) d.limits l.head.line range m t0 u c.if-not-take_turn.ensures.0 c.if-not-take_turn.ensures.1))
+
+pub walk_do-returns-in-Ok-clause-steps : goal.walk_do-returns-in-Ok-clause-steps
+walk_do-returns-in-Ok-clause-steps g t c =
+    let p = c.args.program.now in
+    let program = items_in p in
+    let told = g.S.Sink.told in
+    let l = out-Loop c.args.repeated.now in
+    let shape = shape_tree l.head.form.shape.value in
+    let d = c.requires.repeats in
+    let range = members_tree l.range.items in
+    let m = map_of p c.args.cells.now in
+    let t0 = c.args.turns.now in
+    let u = c.take_turn.new.turns in
+    let s = c.in-Ok.span in
+    let y = c.walk_trips in
+    let new = map_of p y.new.cells in
+    let fits : FitsSigned w32 s.first = search rules in
+    let cell = counted_cell p c.args.repeat.now shape d in
+    let first : map_of p c.set_whole.new.cells ≡ put m (variable_of shape) [] s.first = c.set_whole.ensures.set (variable_of shape) cell ∙ ap (λ x. put x (variable_of shape) [] (to_z w32 (of_z w32 s.first))) (c.limits_whole.ensures.kept d.limits d.are) ∙ ap (λ x. put m (variable_of shape) [] x) (to_z-of_z w32 s.first fits) in
+    subst (λ z. Steps (λ go. looped (scope_in p) (exec program) z l.head.line range m t0 go) t0 new y.new.turns y.result (told c.args.sink.now) (told y.new.sink)) (sym (says p c.args.repeat.now shape d)) (do_runs (scope_in p) (exec program) d.label d.comma (variable_of shape) d.limits l.head.line range m t0 u c.if-not-take_turn.ensures (span_values s) (map_of p c.set_whole.new.cells) new y.new.turns y.result (told c.args.sink.now) (told y.new.sink) (c.in-Ok.ensures.span d.limits d.are).0 first y.ensures.runs)
+
+pub walk_do-returns-in-Err-clause-steps : goal.walk_do-returns-in-Err-clause-steps
+walk_do-returns-in-Err-clause-steps g t c =
+    let p = c.args.program.now in
+    let program = items_in p in
+    let told = g.S.Sink.told in
+    let l = out-Loop c.args.repeated.now in
+    let shape = shape_tree l.head.form.shape.value in
+    let d = c.requires.repeats in
+    let range = members_tree l.range.items in
+    let m = map_of p c.args.cells.now in
+    let n = map_of p c.limits_whole.new.cells in
+    let t0 = c.args.turns.now in
+    let u = c.take_turn.new.turns in
+    let f = fault_at c.in-Err.kind l.head.line in
+    subst (λ z. Steps (λ go. looped (scope_in p) (exec program) z l.head.line range m t0 go) t0 n u (Ok f) (told c.args.sink.now) (told c.args.sink.now)) (sym (says p c.args.repeat.now shape d)) (steps_quietly _ t0 n u f (told c.args.sink.now) (subst (λ z. Moves (λ go. looped (scope_in p) (exec program) (doing d.label d.comma (variable_of shape) d.limits) l.head.line range m t0 go) t0 z u f) (sym (c.in-Err.ensures.kept d.limits d.are)) (do_faults (scope_in p) (exec program) d.label d.comma (variable_of shape) d.limits l.head.line range m t0 u c.if-not-take_turn.ensures c.in-Err.kind (c.in-Err.ensures.span d.limits d.are))))
+
+pub walk_loop-returns-in-None-clause-steps : goal.walk_loop-returns-in-None-clause-steps
+walk_loop-returns-in-None-clause-steps g t c =
+    let p = c.args.program.now in
     let program = items_in p in
     let told = g.S.Sink.told in
     let l = out-Loop c.args.repeated.now in
     let range = members_tree l.range.items in
-    let span = c.args.span in
-    let i = c.loop.counter in
-    let inv = c.loop.invariant in
-    let m = map_of p c.loop.cells in
-    last_trip (exec program) l.head.line c.args.variable.now span.first span.step (trip_count span.first span.last span.step) range _ c.args.turns.now i c.loop.turns m (told c.args.sink.now) (told c.loop.sink) inv.so_far (let e = inv.ends in let ge = c.loop-test.false in omega arith)
+    let m = map_of p c.args.cells.now in
+    steps_same (λ go. go onward m c.args.turns.now) (λ go. looped (scope_in p) (exec program) (shape_tree l.head.form.shape.value) l.head.line range m c.args.turns.now go) c.args.turns.now m c.args.turns.now (Ok outcomes.Normal) (told c.args.sink.now) (told c.args.sink.now) (unless_do (shape_tree l.head.form.shape.value) (scope_in p) (exec program) l.head.line range m c.args.turns.now c.in-None.ensures) (steps_quietly _ c.args.turns.now m c.args.turns.now outcomes.Normal (told c.args.sink.now) (passes_over m c.args.turns.now))
 
-pub walk_trips-returns-clause-turns : goal.walk_trips-returns-clause-turns
-walk_trips-returns-clause-turns g t c =
-    c.loop.invariant.fewer
-
-pub walk_trips-returns-clause-len : goal.walk_trips-returns-clause-len
-walk_trips-returns-clause-len g t c =
-    c.loop.invariant.len
+pub walk_member-walk_loop-requires : goal.walk_member-walk_loop-requires
+walk_member-walk_loop-requires g t c =
+    let p = c.args.program.now in
+    let head = head_known (IsStatement p) c.args.member.now c.in-Loop.repeated c.in-Loop.is c.requires.named in
+    let range = range_known (IsStatement p) c.args.member.now c.in-Loop.repeated c.in-Loop.is c.requires.named in
+    let allowed = allowed_range p c.args.member.now c.in-Loop.repeated c.in-Loop.is c.requires.allowed in
+    let quiet = quiet_unless_loud p c.args.member.now c.in-Loop.repeated c.in-Loop.is c.requires.allowed in
+    let leaves = leaves_its_variable p c.args.member.now c.in-Loop.repeated c.in-Loop.is c.requires.allowed in
+    let walked : IsLoopOf p c.in-Loop.repeated = record { head = head; named = range; allowed = allowed; quiet = quiet; leaves = leaves } in
+    let given = c.decreases in
+    let same = ap the_size c.in-Loop.is in
+    let size = sized-Loop c.in-Loop.repeated in
+    λ κs h. (omega arith, (search rules, (search rules, (c.requires.ready, (walked, (c.requires.sized, c.requires.unrefused))))))

@@ -1,13 +1,12 @@
 use Rattle.std.proofs.Common.{◌≡◌, ◌≤◌, ◌<◌, ◌+◌, ◌-◌, ◌*◌, suc, length, true, false}
-use Rattle.meaning.specs.declared.syntax.Loop.{out-Loop}
 use Rattle.meaning.specs.Execution.{exec}
-use Rattle.meaning.specs.Trees.{members_tree}
 use Rattle.meaning.specs.Trips.{trip_count}
 use Rattle.numbering.specs.Checked.{count_in, items_in}
 use Rattle.numbering.specs.Starts.{map_of}
 use Rattle.values.specs.Programs.{scope_in}
 use Rattle.evaluator.specs.Statements.{Comes}
-use Rattle.evaluator.proofs.Looped.{from_place, trips_left, arms_left}
+use Rattle.evaluator.proofs.Looped.{from_place, arms_left}
+use Rattle.whole_runs.specs.Trips.{trips_in}
 use Rattle.program_runs.specs.Walk.{SoFar}
 use Rattle.program_runs.proofs.walk.+members.Given as goal
 
@@ -40,15 +39,18 @@ invariant-walk_list-loop-place g l = record {
 abbrev pub decreases-walk_list-loop-place : goal.decreases-walk_list-loop-place
 decreases-walk_list-loop-place g l = l.turns * suc (length l.members) + (length l.members - l.place)
 
-abbrev pub invariant-walk_trips-loop : goal.invariant-walk_trips-loop
-invariant-walk_trips-loop g l = record {
+abbrev pub invariant-walk_trips-loop-done : goal.invariant-walk_trips-loop-done
+invariant-walk_trips-loop-done g l = record {
   so_far : SoFar
-      (trips_left (exec (items_in l.program)) (out-Loop l.repeated).head.line l.variable l.span.first l.span.step (trip_count l.span.first l.span.last l.span.step) (members_tree (out-Loop l.repeated).range.items) 0 (map_of l.program l.initial.cells) l.initial.turns)
-      (trips_left (exec (items_in l.program)) (out-Loop l.repeated).head.line l.variable l.span.first l.span.step (trip_count l.span.first l.span.last l.span.step) (members_tree (out-Loop l.repeated).range.items) l.counter (map_of l.program l.cells) l.turns)
+      (trips_in l.program l.repeated l.span.first l.span.step (trip_count l.span.first l.span.last l.span.step) (map_of l.program l.initial.cells) l.initial.turns)
+      (trips_in l.program l.repeated l.span.first l.span.step (trip_count l.span.first l.span.last l.span.step - l.done) (map_of l.program l.cells) l.turns)
       l.initial.turns l.turns (g.S.Sink.told l.initial.sink) (g.S.Sink.told l.sink);
-  ends : l.end ≡ trip_count l.span.first l.span.last l.span.step;
+  within : l.done ≤ trip_count l.span.first l.span.last l.span.step;
   sized : length l.cells ≡ count_in l.program;
   len : length l.cells ≡ length l.initial.cells;
   unrefused : (g.S.Sink.told l.sink).refused ≡ false;
   fewer : l.turns ≤ l.initial.turns;
 }
+
+abbrev pub decreases-walk_trips-loop-done : goal.decreases-walk_trips-loop-done
+decreases-walk_trips-loop-done g l = trip_count l.span.first l.span.last l.span.step - l.done

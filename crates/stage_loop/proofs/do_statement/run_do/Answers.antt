@@ -30,8 +30,8 @@ returns-then-not-take_turn-clause-moves g c =
     let u = c.take_turn.new.turns in
     subst (λ s. MovesIn p cells cells (loop_as all s l) c.args.turns.now u (fault_at F4 line)) (sym (says p c.args.repeat.now (shape_in l) d)) (do_unmoved (scope_in p) (exec all) d.label d.comma (variable_in l) d.limits line (range_in l) (map_of p cells) c.args.turns.now u c.if-not-take_turn.ensures.0 c.if-not-take_turn.ensures.1)
 
-pub run_stages-requires-clause-fits : goal.run_stages-requires-clause-fits
-run_stages-requires-clause-fits g c = λ κs h k lt.
+pub run_all-requires-clause-fits : goal.run_all-requires-clause-fits
+run_all-requires-clause-fits g c = λ κs h k lt.
     let d = c.requires.repeats in
     let s = c.in-Ok.span in
     let first_fits : FitsSigned w32 s.first = search rules in
@@ -40,8 +40,8 @@ run_stages-requires-clause-fits g c = λ κs h k lt.
     let some = (c.in-Ok.ensures.span d.limits d.are).1 in
     subst (λ z. FitsSigned w32 z) (λ i. sym (to_z-of_z w32 s.first first_fits) i +ℤ pos k *ℤ sym (to_z-of_z w32 s.step step_fits) i) (each_fits s.first s.last s.step some first_fits last_fits k (subst (λ n. k < n) c.count_of.ensures lt))
 
-pub run_stages-requires-clause-has : goal.run_stages-requires-clause-has
-run_stages-requires-clause-has g c = λ κs h.
+pub run_all-requires-clause-has : goal.run_all-requires-clause-has
+run_all-requires-clause-has g c = λ κs h.
     let p = c.args.program.now in
     let l = c.args.repeated.now in
     let set = c.set_whole.ensures.set (variable_in l) (counted_cell p c.args.repeat.now (shape_in l) c.requires.repeats) in
@@ -57,7 +57,7 @@ returns-in-Ok-clause-moves g c =
     let t = c.args.turns.now in
     let u = c.take_turn.new.turns in
     let s = c.in-Ok.span in
-    let y = c.run_stages in
+    let y = c.run_all in
     let new = map_of p y.new.cells in
     let first_fits : FitsSigned w32 s.first = search rules in
     let step_fits : FitsSigned w32 s.step = search rules in

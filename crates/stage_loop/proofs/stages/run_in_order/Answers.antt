@@ -7,7 +7,7 @@ use Rattle.values.specs.Programs.{map_at}
 use Rattle.evaluator.specs.Over.{repeated_as}
 use Rattle.evaluator.specs.Statements.{Leaves, ran_by}
 use Rattle.whole_runs.proofs.Wholes.{does_whole}
-use Rattle.stage_loop.proofs.Advances.{leaves_of_run}
+use Rattle.whole_runs.proofs.Advancing.{leaves_of_run}
 use Rattle.stage_loop.proofs.stages.run_in_order.Goals as goal
 
 pub returns-in-Ok-clause-leaves : goal.returns-in-Ok-clause-leaves
