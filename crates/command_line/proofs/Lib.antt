@@ -1,3 +1,4 @@
 pub mod Words
-pub mod Halves
+pub mod Places
 pub mod Nearest
+pub mod Asking

@@ -1,9 +1,9 @@
 -- What clap's definitions say of f77run's command is what the words ask for.
-use Rattle.std.proofs.Common.{◌≡◌, ◌∙◌, ◌<◌, ◌≤◌, ◌^◌, ◌==◌, ◌&&◌, ◌||◌, ℕ, Bool, cond, true, false, suc, refl, sym, ap, ap₂, subst, arith, List, [], ◌∷◌, ◌++◌, length, inl, inr, Option, Some, None, Result, Ok, Err, true≢false, nat_lt, nat_le, append-nil, codes}
+use Rattle.std.proofs.Common.{◌≡◌, ◌∙◌, ◌<◌, ◌≤◌, ◌^◌, ◌==◌, ◌&&◌, ◌||◌, ℕ, Bool, cond, true, false, zero, suc, refl, sym, ap, ap₂, subst, arith, List, [], ◌∷◌, ◌++◌, length, inl, inr, Option, Some, None, Result, Ok, Err, true≢false, nat_lt, nat_le, append-nil, codes}
 use Rattle.std.proofs.lemmas.Bool.{le-ltb, leb-true, lt-ltb}
 use Rattle.std.proofs.lemmas.Bool.Decides.{Decides-eqb}
 use Rattle.std.specs.Option.{option_map_or}
-use Rattle.std.specs.Prelude.{◌⊎◌, drop, encode_utf8, option_map, option_and_then, slice_get, find, is_some, fold, map, unwrap_or, IfErr, IfOk, MatchResult}
+use Rattle.std.specs.Prelude.{◌⊎◌, drop, encode_utf8, option_map, option_and_then, slice_get, find, is_some, fold, map, unwrap_or, slice_index_or}
 use Rattle.std.specs.Borrow.{Bor}
 use Rattle.std.proofs.lemmas.List.{length-map}
 use Rattle.std.specs.List.{list_all}
@@ -29,11 +29,11 @@ use Rattle.clap.specs.declared.parser.matches.ValueSource.{ValueSource}
 use Rattle.clap.specs.declared.parser.matches.ValueSource.TheVariants.{CommandLine, DefaultValue}
 use Rattle.clap.specs.declared.builder.value_parser.Reading.{Reading}
 use Rattle.clap.specs.declared.builder.value_parser.Reading.TheVariants.{AsWritten}
-use Rattle.command_line.specs.Command.{f77run, fault_for, file_rule, flag_rule, number_rule, word_rule}
-use Rattle.command_line.specs.CommandLine.{Flag, Given, Line, Name, Part, Text, Word, alone, asked_by, asked_for, asks, behind, block, checks, closed, counts, default_of, ends, errs, explains, file, first, fits_under, flag, give, gives, greatest, holding, is_in, is_number, is_on, letter_word, long_or_short, long_word, meet, moved, name_of, nothing_read, number_in, number_of, part, put, put_flag, put_if, read, rule, sets, short_word, speculating, stages, take, turns, values, window, with_text, word_of, workers}
+use Rattle.command_line.specs.Command.{f77run, wrong_for, file_rule, flag_rule, number_rule, word_rule}
+use Rattle.command_line.specs.CommandLine.{Flag, Given, Line, Name, Part, Text, Word, alone, asks, behind, block, checks, closed, counts, default_of, ends, errs, explains, file, files_of, first, fits_under, flag, give, given_by, gives, greatest, holding, is_in, is_number, is_on, letter_word, long_or_short, long_word, meet, moved, name_of, nothing_read, number_in, number_of, part, put, put_flag, put_if, read, rule, sets, short_word, speculating, stages, take, too_many_files, turns, values, window, with_text, word_of, workers}
 use Rattle.command_line.specs.Matches.{AreGiven, HoldTexts, IsGiven, IsNumber, as_found, as_seen, fits, seen}
-use Rattle.command_line.specs.declared.asked.OptionsFault.{OptionsFault}
-use Rattle.command_line.specs.declared.asked.OptionsFault.TheVariants as fault
+use Rattle.command_line.specs.declared.asked.Wrong.{Wrong}
+use Rattle.command_line.specs.declared.asked.Wrong.TheVariants as wrong
 
 -- ---- rows
 
@@ -155,9 +155,9 @@ all_put test (y ∷ ys) x h e = go (test y) h (λ t. all_put test ys x t e)
 -- ---- what a step comes to
 
 -- what is given, by clap's kinds and rows
-abbrev pub Comes : Result Given OptionsFault → Kinds → List Row → Type 0
+abbrev pub Comes : Result Given Wrong → Kinds → List Row → Type 0
 Comes (Ok given) kinds rows = (kinds ≡ []) × Rows given rows × Fits_all given
-Comes (Err f) kinds rows = (k : ErrorKind) × (kinds ≡ k ∷ []) × (fault_for k ≡ f)
+Comes (Err f) kinds rows = (k : ErrorKind) × (kinds ≡ k ∷ []) × (wrong_for k ≡ f)
 
 abbrev pub rules : List Rule
 rules = (built f77run).top.rules
@@ -304,16 +304,16 @@ abbrev pub Stands : Line → Walk → Type 0
 Stands line w = (rows : List Row) × (waiting : Waiting) × (w ≡ standing line.held line.only_files rows waiting) × Rows line.given rows
     × Fits_all line.given × Waits line.held waiting
 
-abbrev pub Steps : Result Line OptionsFault → Kinds → Walk → Type 0
+abbrev pub Steps : Result Line Wrong → Kinds → Walk → Type 0
 Steps (Ok line) kinds w = (kinds ≡ []) × Stands line w
-Steps (Err f) kinds w = (k : ErrorKind) × (kinds ≡ k ∷ []) × (fault_for k ≡ f)
+Steps (Err f) kinds w = (k : ErrorKind) × (kinds ≡ k ∷ []) × (wrong_for k ≡ f)
 
 nil_behind : (kinds : Kinds) → or_else kinds [] ≡ kinds
 nil_behind [] = refl
 nil_behind (k ∷ ks) = refl
 
 -- what was held is done with, and this is held
-held_told : (r : Result Given OptionsFault) (kinds : Kinds) (rows : List Row) (only : Bool) (next : Option (Part × Option Text)) (waiting : Waiting)
+held_told : (r : Result Given Wrong) (kinds : Kinds) (rows : List Row) (only : Bool) (next : Option (Part × Option Text)) (waiting : Waiting)
     → Comes r kinds rows → Waits next waiting
     → Steps (behind r (λ given. Ok (record { given = given; held = next; only_files = only }))) kinds (standing next only rows waiting)
 held_told (Ok given) kinds rows only next waiting c w = (c.0, (rows, waiting, refl, c.1, c.2, w))
@@ -323,15 +323,15 @@ first_told : (kinds more after : Kinds) (k : ErrorKind) → kinds ≡ k ∷ [] �
 first_told kinds more after k e = ap (λ l. or_else (or_else l more) after) e
 
 -- a request, whatever stands behind it
-request_told : (r : Result Given OptionsFault) (wanted : OptionsFault) (asked : ErrorKind) (kinds all_kinds : Kinds) (rows : List Row) (w : Walk)
-    → Comes r kinds rows → fault_for asked ≡ wanted
+request_told : (r : Result Given Wrong) (wanted : Wrong) (asked : ErrorKind) (kinds all_kinds : Kinds) (rows : List Row) (w : Walk)
+    → Comes r kinds rows → wrong_for asked ≡ wanted
     → ((k : ErrorKind) → or_else kinds (asked ∷ []) ≡ k ∷ [] → all_kinds ≡ k ∷ [])
     → Steps (behind r (λ given. Err wanted)) all_kinds w
 request_told (Ok given) wanted asked kinds all_kinds rows w c is law = (asked, law asked (ap (λ k. or_else k (asked ∷ [])) c.0), is)
 request_told (Err f) wanted asked kinds all_kinds rows w c is law = (c.0, law c.0 (ap (λ k. or_else k (asked ∷ [])) c.1), c.2)
 
 -- what is given by a word alone: an option with its value, or the flag
-given_told : (r : Result Given OptionsFault) (next : Given → Result Given OptionsFault) (kinds after : Kinds) (rows more : List Row) (only : Bool) → Comes r kinds rows
+given_told : (r : Result Given Wrong) (next : Given → Result Given Wrong) (kinds after : Kinds) (rows more : List Row) (only : Bool) → Comes r kinds rows
     → ((given : Given) → Rows given rows → Fits_all given → Comes (next given) after more)
     → Steps (behind r (λ given. behind (next given) (λ put_in. Ok (record { given = put_in; held = None; only_files = only }))))
     (or_else (or_else kinds after) []) (standing None only more idle)
@@ -340,7 +340,7 @@ given_told (Ok given) next kinds after rows more only c law = go (next given) (l
     same : or_else (or_else kinds after) [] ≡ after
     same = nil_behind (or_else kinds after) ∙ ap (λ k. or_else k after) c.0
 
-    go : (r : Result Given OptionsFault) → Comes r after more
+    go : (r : Result Given Wrong) → Comes r after more
         → Steps (behind r (λ put_in. Ok (record { given = put_in; held = None; only_files = only }))) (or_else (or_else kinds after) []) (standing None only more idle)
     go (Ok put_in) d = (same ∙ d.0, (more, idle, refl, d.1, d.2, inl refl))
     go (Err f) d = (d.0, same ∙ d.1, d.2)
@@ -356,7 +356,7 @@ abbrev plain_line : Given → Held_part → Line
 plain_line given held = record { given = given; held = held; only_files = false }
 
 -- what clap makes of a word is what the words say
-abbrev Meets : Result Line OptionsFault → Kinds → Held × Step → Text → Held_part → List Row → Waiting → Type 0
+abbrev Meets : Result Line Wrong → Kinds → Held × Step → Text → Held_part → List Row → Waiting → Type 0
 Meets r kinds met word held rows waiting =
     Steps r (or_else kinds (step_fault top 1 met.0 met.1)) (after_step rules word (standing held false rows waiting) met.0 met.1)
 
@@ -416,15 +416,15 @@ once : (kinds after : Kinds) (k : ErrorKind) → kinds ≡ k ∷ [] → or_else 
 once kinds after k e = ap (λ l. or_else l after) e
 
 help_told : (value : Option Text) (word : Text) (given : Given) (held : Held_part) (rows : List Row) (waiting : Waiting)
-    → Rows given rows → Fits_all given → Named (alone (asks fault.Help) value) (Some help_at) value word given held rows waiting
+    → Rows given rows → Fits_all given → Named (alone (asks wrong.Help) value) (Some help_at) value word given held rows waiting
 help_told None word given held rows waiting h all =
-    request_told (closed given held) fault.Help kind.DisplayHelp _ _ _ _ (closed_told given held rows h all) refl (λ k e. once _ _ k e)
+    request_told (closed given held) wrong.Help kind.DisplayHelp _ _ _ _ (closed_told given held rows h all) refl (λ k e. once _ _ k e)
 help_told (Some v) word given held rows waiting h all = (kind.TooManyValues, refl, refl)
 
 version_told : (value : Option Text) (word : Text) (given : Given) (held : Held_part) (rows : List Row) (waiting : Waiting)
-    → Rows given rows → Fits_all given → Named (alone (asks fault.Version) value) (Some version_at) value word given held rows waiting
+    → Rows given rows → Fits_all given → Named (alone (asks wrong.Version) value) (Some version_at) value word given held rows waiting
 version_told None word given held rows waiting h all =
-    request_told (closed given held) fault.Version kind.DisplayVersion _ _ _ _ (closed_told given held rows h all) refl (λ k e. once _ _ k e)
+    request_told (closed given held) wrong.Version kind.DisplayVersion _ _ _ _ (closed_told given held rows h all) refl (λ k e. once _ _ k e)
 version_told (Some v) word given held rows waiting h all = (kind.TooManyValues, refl, refl)
 
 named_told : (name : Text) (value : Option Text) (word : Text) (given : Given) (held : Held_part) (rows : List Row) (waiting : Waiting)
@@ -437,7 +437,7 @@ named_told name value word given held rows waiting h all =
     pick : (a b c d r q i j k l f g : Bool) → Named
         (cond a (gives workers value) (cond b (gives block value) (cond c (gives window value) (cond d (gives turns value) (cond r (gives rule value) (cond q (gives speculating value)
         (cond i (alone (sets checks) value) (cond j (alone (sets counts) value) (cond k (alone (sets explains) value) (cond l (alone (sets stages) value)
-        (cond f (alone (asks fault.Help) value) (cond g (alone (asks fault.Version) value) (errs fault.NoSuchOption)))))))))))))
+        (cond f (alone (asks wrong.Help) value) (cond g (alone (asks wrong.Version) value) (errs wrong.NoSuchOption)))))))))))))
         (cond (a || false) (Some (rule_at workers)) (cond (b || false) (Some (rule_at block)) (cond (c || false) (Some (rule_at window)) (cond (d || false) (Some (rule_at turns))
         (cond (r || false) (Some (rule_at rule)) (cond (q || false) (Some (rule_at speculating)) (cond (i || false) (Some (flag_at checks)) (cond (j || false) (Some (flag_at counts)) (cond (k || false) (Some (flag_at explains)) (cond (l || false) (Some (flag_at stages))
         (cond (f || false) (Some help_at) (cond (g || false) (Some version_at) None))))))))))))
@@ -524,13 +524,13 @@ letter_told : (letter : ℕ) (letters : Text) (count : ℕ) (word : Text) (given
     → Rows given rows → Fits_all given → Lettered (letter_word (Some letter)) (Some letter) letters count word given held rows waiting
 letter_told letter letters count word given held rows waiting h all = pick (104 == letter) (86 == letter)
   where
-    pick : (a b : Bool) → Short_found (cond a (asks fault.Help) (cond b (asks fault.Version) (errs fault.NoSuchOption)))
+    pick : (a b : Bool) → Short_found (cond a (asks wrong.Help) (cond b (asks wrong.Version) (errs wrong.NoSuchOption)))
         (cond (a || false) (Some help_at) (cond (b || false) (Some version_at) None)) (drop (length (encode_utf8 letter)) letters) letters count
         word given held rows waiting
     pick true b =
-        request_told (closed given held) fault.Help kind.DisplayHelp _ _ _ _ (closed_told given held rows h all) refl (λ k e. first_told _ _ _ k e)
+        request_told (closed given held) wrong.Help kind.DisplayHelp _ _ _ _ (closed_told given held rows h all) refl (λ k e. first_told _ _ _ k e)
     pick false true =
-        request_told (closed given held) fault.Version kind.DisplayVersion _ _ _ _ (closed_told given held rows h all) refl (λ k e. first_told _ _ _ k e)
+        request_told (closed given held) wrong.Version kind.DisplayVersion _ _ _ _ (closed_told given held rows h all) refl (λ k e. first_told _ _ _ k e)
     pick false false = (kind.UnknownArgument, refl, refl)
 
 abbrev Short : Option Text → Text → Given → Held_part → List Row → Waiting → Type 0
@@ -595,16 +595,16 @@ step_told word line rows waiting w h all = go line.only_files
 
 -- ---- all the words
 
-abbrev Ends : Result Given OptionsFault → Kinds → Kinds → Walk → Type 0
+abbrev Ends : Result Given Wrong → Kinds → Kinds → Walk → Type 0
 Ends r before kinds end =
     Comes r (or_else (or_else before kinds) (settle_fault rules false end.held)) (settled rules end.held).rows
 
-abbrev Reads : Result Given OptionsFault → List Text → Walk → Type 0
+abbrev Reads : Result Given Wrong → List Text → Walk → Type 0
 Reads r words w =
     Comes r (or_else (walk_fault top [] w words) (settle_fault rules false (fold (walked rules []) w words).held))
     (settled rules (fold (walked rules []) w words).held).rows
 
-behind_told : (r : Result Line OptionsFault) (words : List Text) (kinds : Kinds) (w : Walk) → Steps r kinds w
+behind_told : (r : Result Line Wrong) (words : List Text) (kinds : Kinds) (w : Walk) → Steps r kinds w
     → ((line : Line) (next : Walk) → Stands line next → Reads (read words line) words next)
     → Ends (behind r (read words)) kinds (walk_fault top [] w words) (fold (walked rules []) w words)
 behind_told (Ok line) words kinds w s next =
@@ -679,9 +679,9 @@ right_defaults (a ∷ rs) rows e = go (is_right a) refl e (λ t. right_defaults 
     go false n t ih = absurd (true≢false (sym t))
 
 -- what is given, by clap's kinds and by its rows behind the defaults
-abbrev pub Leaves : Result Given OptionsFault → Kinds → List Row → Type 0
+abbrev pub Leaves : Result Given Wrong → Kinds → List Row → Type 0
 Leaves (Ok given) kinds rows = (kinds ≡ []) × AreGiven given rows
-Leaves (Err f) kinds rows = (k : ErrorKind) × (kinds ≡ k ∷ []) × (fault_for k ≡ f)
+Leaves (Err f) kinds rows = (k : ErrorKind) × (kinds ≡ k ∷ []) × (wrong_for k ≡ f)
 
 -- ---- the defaults of flags
 
@@ -784,7 +784,7 @@ all_found : (given : Given) (rows : List Row) → Defaulted all_flags given rows
 all_found given rows h (part p) = h (part p) ∙ ap (λ b. as_far b (values (part p) given)) (no_flag p) ∙ sym (without_default (values (part p) given))
 all_found given rows h (flag f) = h (flag f) ∙ ap (λ b. as_far b (values (flag f) given)) (some_flag f) ∙ found_of_flag f (values (flag f) given)
 
-left_told : (r : Result Given OptionsFault) (kinds : Kinds) (rows : List Row) → Comes r kinds rows → Leaves r kinds (fold with_default rows flags_at)
+left_told : (r : Result Given Wrong) (kinds : Kinds) (rows : List Row) → Comes r kinds rows → Leaves r kinds (fold with_default rows flags_at)
 left_told (Ok given) kinds rows c = (c.0, (all_found given (fold with_default rows flags_at) (with_flags given rows c.1), c.2))
 left_told (Err f) kinds rows c = c
 
@@ -824,26 +824,26 @@ told words =
 
 -- the line is refused by clap, or memory was
 pub refused : (words : List Text) (e : Error) → HasKind (fault_of f77run words) e
-    → (fault_for (kind_of e) ≡ fault.Memory) ⊎ (asked_for words ≡ Err (fault_for (kind_of e)))
-refused words e (inl memory) = inl (ap fault_for memory)
+    → (wrong_for (kind_of e) ≡ wrong.Memory) ⊎ (given_by words ≡ Err (wrong_for (kind_of e)))
+refused words e (inl memory) = inl (ap wrong_for memory)
 refused words e (inr among) = go (read (drop 1 words) nothing_read) refl (told words)
   where
     only : (k : ErrorKind) → fault_of f77run words ≡ k ∷ [] → kind_of e ≡ k
     only k one = elim (subst (IsAmong (kind_of e)) one among) [ inl is ↦ is | inr never ↦ absurd never ]
 
-    go : (r : Result Given OptionsFault) → read (drop 1 words) nothing_read ≡ r → Leaves r (fault_of f77run words) (matches_of f77run words)
-        → (fault_for (kind_of e) ≡ fault.Memory) ⊎ (asked_for words ≡ Err (fault_for (kind_of e)))
+    go : (r : Result Given Wrong) → read (drop 1 words) nothing_read ≡ r → Leaves r (fault_of f77run words) (matches_of f77run words)
+        → (wrong_for (kind_of e) ≡ wrong.Memory) ⊎ (given_by words ≡ Err (wrong_for (kind_of e)))
     go (Ok given) is c = absurd (subst (IsAmong (kind_of e)) c.0 among)
-    go (Err f) is c = inr (ap (λ r. behind r asked_by) is ∙ ap Err (sym (ap fault_for (only c.0 c.1) ∙ c.2)))
+    go (Err f) is c = inr (is ∙ ap Err (sym (ap wrong_for (only c.0 c.1) ∙ c.2)))
 
 -- clap takes the line, and its matches hold what is given
 pub taken : (words : List Text) (m : ArgMatches) → fault_of f77run words ≡ [] → rows_of (found_of m) ≡ matches_of f77run words
-    → (given : Given) × IsGiven given m × (asked_for words ≡ asked_by given)
+    → (given : Given) × IsGiven given m × (given_by words ≡ Ok given)
 taken words m none same = go (read (drop 1 words) nothing_read) refl (told words)
   where
-    go : (r : Result Given OptionsFault) → read (drop 1 words) nothing_read ≡ r → Leaves r (fault_of f77run words) (matches_of f77run words)
-        → (given : Given) × IsGiven given m × (asked_for words ≡ asked_by given)
-    go (Ok given) is c = (given, subst (AreGiven given) (sym same) c.1, ap (λ r. behind r asked_by) is)
+    go : (r : Result Given Wrong) → read (drop 1 words) nothing_read ≡ r → Leaves r (fault_of f77run words) (matches_of f77run words)
+        → (given : Given) × IsGiven given m × (given_by words ≡ Ok given)
+    go (Ok given) is c = (given, subst (AreGiven given) (sym same) c.1, is)
     go (Err f) is c = absurd (true≢false (sym (ap (λ (kinds : Kinds). is_empty kinds) (sym c.1 ∙ none))))
 
 first_text : (vs : List Text) → option_and_then (λ (s : List Text × Reading). option_map (read_as s.1) (slice_get s.0 0)) (as_seen vs) ≡ slice_get vs 0
@@ -883,7 +883,7 @@ same_name (part p) (flag f) e = absurd (apart p f ((bytes_eq-Decides (name_of (p
 same_name (flag f) (part p) e = absurd (apart p f (sym ((bytes_eq-Decides (name_of (flag f)) (name_of (part p))).0 e)))
 
 -- the first text of a name is one that fits it
-first_fits : (name : Name) (given : Given) (v : Text) → list_all fits given ≡ true → slice_get (values name given) 0 ≡ Some v → fits (name, v) ≡ true
+pub first_fits : (name : Name) (given : Given) (v : Text) → list_all fits given ≡ true → slice_get (values name given) 0 ≡ Some v → fits (name, v) ≡ true
 first_fits name [] v h is = absurd (true≢false (sym (ap is_some is)))
 first_fits name (g ∷ gs) v h is =
     go (bytes_eq (name_of g.0) (name_of name)) refl (fits g) refl h is (λ t i. first_fits name gs v t i)
@@ -927,7 +927,7 @@ pub texts_given : (given : Given) (m : ArgMatches) (p : Part) → IsGiven given 
 texts_given given m p h =
     raw_values-rows (found_of m) (name_of (part p)) ∙ all_of-seen (name_of (part p)) (rows_of (found_of m)) ∙ ap (option_map (λ (s : List Text × Reading). s.0)) (h.0 (part p))
 
-pub no_file : (vs : List Text) → None ≡ texts_of vs → (nat_lt 1 (length vs) ≡ false) × (None ≡ slice_get vs 0)
+pub no_file : (vs : List Text) → None ≡ texts_of vs → (files_of vs ≡ Ok None) × (None ≡ slice_get vs 0)
 no_file [] e = (refl, refl)
 no_file (v ∷ vs) e = absurd (true≢false (sym (ap is_some e)))
 
@@ -943,26 +943,34 @@ first_now (f ∷ fs) = refl
 pub first_of_files : (files : List (Bor Text)) (vs : List Text) → Some (map (λ s. s.now) files) ≡ texts_of vs → option_map (λ s. s.now) (slice_get files 0) ≡ slice_get vs 0
 first_of_files files vs e = first_now files ∙ ap (λ l. slice_get l 0) (same_files files vs e)
 
-pub many_files : (files : List (Bor Text)) (vs : List Text) → Some (map (λ s. s.now) files) ≡ texts_of vs → 1 < length files → nat_lt 1 (length vs) ≡ true
-many_files files vs e lt =
-    ap (λ l. nat_lt 1 (length l)) (sym (same_files files vs e)) ∙ ap (nat_lt 1) (length-map files (λ s. s.now)) ∙ lt-ltb 1 (length files) lt
+files_told : (vs : List Text) → nat_lt 1 (length vs) ≡ false → files_of vs ≡ Ok (slice_get vs 0)
+files_told [] e = refl
+files_told (v ∷ []) e = refl
+files_told (v ∷ w ∷ vs) e = absurd (true≢false (sym (lt-ltb 1 (length (v ∷ w ∷ vs)) (omega arith)) ∙ e))
+
+more_told : (vs : List Text) (d : Text) → nat_lt 1 (length vs) ≡ true → files_of vs ≡ Err (too_many_files (slice_index_or vs 0 d) (slice_index_or vs 1 d))
+more_told [] d e = absurd (true≢false (sym e))
+more_told (v ∷ []) d e = absurd (true≢false (sym e))
+more_told (v ∷ w ∷ vs) d e = refl
 
 pub lone_file : (files : List (Bor Text)) (vs : List Text) → Some (map (λ s. s.now) files) ≡ texts_of vs → length files ≤ 1
-    → (nat_lt 1 (length vs) ≡ false) × (option_map (λ s. s.now) (slice_get files 0) ≡ slice_get vs 0)
-lone_file files vs e le = (
-  ap (λ l. nat_lt 1 (length l)) (sym (same_files files vs e)) ∙ ap (nat_lt 1) (length-map files (λ s. s.now)) ∙ le-ltb 1 (length files) le,
-  first_of_files files vs e,
-)
+    → files_of vs ≡ Ok (option_map (λ s. s.now) (slice_get files 0))
+lone_file files vs e le =
+    files_told vs (ap (λ l. nat_lt 1 (length l)) (sym (same_files files vs e)) ∙ ap (nat_lt 1) (length-map files (λ s. s.now)) ∙ le-ltb 1 (length files) le)
+    ∙ ap Ok (sym (first_of_files files vs e))
 
-pub ok_half : {X Y E : Type 0} (r : Result X E) (f : X → Y) (whole half : Result Y E) → whole ≡ half
-    → MatchResult r (λ x. half ≡ Ok (f x)) (λ e. half ≡ Err e) → IfOk r (λ x. whole ≡ Ok (f x))
-ok_half (Ok x) f whole half same h = same ∙ h
-ok_half (Err e) f whole half same h = tt
+pub now_at : (files : List (Bor Text)) (k : ℕ) (d : Bor Text) → (slice_index_or files k d).now ≡ slice_index_or (map (λ s. s.now) files) k d.now
+now_at [] k d = refl
+now_at (f ∷ fs) zero d = refl
+now_at (f ∷ fs) (suc k) d = now_at fs k d
 
-pub err_half : {X Y : Type 0} (r : Result X OptionsFault) (f : X → Y) (whole half : Result Y OptionsFault) → whole ≡ half
-    → MatchResult r (λ x. half ≡ Ok (f x)) (λ e. half ≡ Err e) → IfErr r (λ e. (e ≡ fault.Memory) ⊎ (whole ≡ Err e))
-err_half (Ok x) f whole half same h = tt
-err_half (Err e) f whole half same h = inr (same ∙ h)
+pub many_files : (files : List (Bor Text)) (vs : List Text) (d : Bor Text) → Some (map (λ s. s.now) files) ≡ texts_of vs → 1 < length files
+    → files_of vs ≡ Err (too_many_files (slice_index_or files 0 d).now (slice_index_or files 1 d).now)
+many_files files vs d e lt =
+    let same : map (λ s. s.now) files ≡ vs = same_files files vs e in
+    let at : (k : ℕ) → slice_index_or vs k d.now ≡ (slice_index_or files k d).now = λ k. sym (now_at files k d ∙ ap (λ l. slice_index_or l k d.now) same) in
+    more_told vs d.now (ap (λ l. nat_lt 1 (length l)) (sym same) ∙ ap (nat_lt 1) (length-map files (λ s. s.now)) ∙ lt-ltb 1 (length files) lt)
+    ∙ ap₂ (λ a b. Err (too_many_files a b)) (at 0) (at 1)
 
 reads_u64 : {E : Type 0} (G : Text → Result ℕ E → Type 0) (t : Text) (r : Option ℕ) → ReadsOne G t r
     → ((u : Text) (x : Result ℕ E) → G u x → ParsesUnsigned 64 10 u x) → (most : ℕ) → most < 2 ^ 64 → is_in most t ≡ true → r ≡ Some (number_of t)

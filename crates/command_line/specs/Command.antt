@@ -6,8 +6,8 @@ use Rattle.clap.specs.declared.builder.action.ArgAction.TheVariants.{Set, SetTru
 use Rattle.clap.specs.declared.builder.value_parser.ValueParser.TheVariants as vp
 use Rattle.clap.specs.declared.error.kind.ErrorKind.{ErrorKind}
 use Rattle.clap.specs.declared.error.kind.ErrorKind.TheVariants as kind
-use Rattle.command_line.specs.declared.asked.OptionsFault.{OptionsFault}
-use Rattle.command_line.specs.declared.asked.OptionsFault.TheVariants as fault
+use Rattle.command_line.specs.declared.asked.Wrong.{Wrong}
+use Rattle.command_line.specs.declared.asked.Wrong.TheVariants as wrong
 
 -- an option that takes a number from 1 to the greatest
 abbrev pub number_rule : Text → ℕ → Rule
@@ -48,12 +48,12 @@ abbrev pub f77run : App
 f77run =
     with_rule (with_rule (with_rule (with_rule (with_rule (with_options versioned) (flag_rule (codes "check"))) (flag_rule (codes "count"))) (flag_rule (codes "explain"))) (flag_rule (codes "stages"))) file_rule
 
-abbrev pub fault_for : ErrorKind → OptionsFault
-fault_for kind.DisplayHelp = fault.Help
-fault_for kind.DisplayVersion = fault.Version
-fault_for kind.OutOfMemory = fault.Memory
-fault_for kind.InvalidValue = fault.NoValue
-fault_for kind.TooManyValues = fault.NeedlessValue
-fault_for kind.ArgumentConflict = fault.GivenTwice
-fault_for kind.ValueValidation = fault.BadNumber
-fault_for _ = fault.NoSuchOption
+abbrev pub wrong_for : ErrorKind → Wrong
+wrong_for kind.DisplayHelp = wrong.Help
+wrong_for kind.DisplayVersion = wrong.Version
+wrong_for kind.OutOfMemory = wrong.Memory
+wrong_for kind.InvalidValue = wrong.NoValue
+wrong_for kind.TooManyValues = wrong.NeedlessValue
+wrong_for kind.ArgumentConflict = wrong.GivenTwice
+wrong_for kind.ValueValidation = wrong.BadNumber
+wrong_for _ = wrong.NoSuchOption

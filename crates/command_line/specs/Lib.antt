@@ -1,4 +1,4 @@
 pub mod Command
 pub mod CommandLine
+pub mod Culprits
 pub mod Matches
-pub mod Unknown

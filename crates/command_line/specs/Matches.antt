@@ -1,5 +1,5 @@
 -- How the matches of clap hold what the words give.
-use Rattle.std.specs.Prelude.{◌≡◌, ℕ, Bool, true, false, nat_lt, length, is_some, List, [], ◌∷◌, Option, Some, None, if◌then◌else◌, codes}
+use Rattle.std.specs.Prelude.{◌≡◌, ℕ, Bool, true, is_some, List, [], ◌∷◌, Option, Some, None, if◌then◌else◌, codes}
 use Rattle.std.specs.List.{list_all}
 use Rattle.std.specs.Str.{bytes_eq}
 use Rattle.clap.specs.Walk.{Row, rows_of}
@@ -7,12 +7,10 @@ use Rattle.clap.specs.Matches.{found_of}
 use Rattle.clap.specs.declared.builder.value_parser.Reading.{Reading}
 use Rattle.clap.specs.declared.builder.value_parser.Reading.TheVariants.{AsWritten}
 use Rattle.clap.specs.declared.parser.matches.ArgMatches.{ArgMatches}
-use Rattle.command_line.specs.CommandLine.{Asked, Given, Name, Part, Text, default_of, file, first, fits_under, flag, greatest, name_of, part, values}
-use Rattle.command_line.specs.declared.asked.OptionsFault.{OptionsFault}
+use Rattle.command_line.specs.CommandLine.{Asked, Given, Name, Part, Text, default_of, fits_under, flag, greatest, name_of, part, values}
 use Rattle.command_line.specs.declared.asked.Options.{Options}
 use Rattle.std.specs.Borrow.{Bor}
-use Rattle.std.specs.Prelude.{Result, Ok, Err, MatchResult, map, option_map}
-use Rattle.command_line.specs.declared.asked.OptionsFault.TheVariants as fault
+use Rattle.std.specs.Prelude.{map, option_map}
 
 -- the values of an id, and how they are read
 abbrev pub seen : Text → List Row → Option (List Text × Reading)
@@ -47,12 +45,6 @@ IsGiven given matches = AreGiven given (rows_of (found_of matches))
 abbrev pub IsNumber : Part → Text → ℕ → Type 0
 IsNumber p name default = (name ≡ name_of (part p)) × (default ≡ default_of p) × (is_some (greatest p) ≡ true)
 
-abbrev pub IsOneFile : Given → Option Text → Type 0
-IsOneFile given named = (nat_lt 1 (length (values (part file) given)) ≡ false) × (named ≡ first (part file) given)
-
-abbrev pub AreTooMany : Given → OptionsFault → Type 0
-AreTooMany given e = (nat_lt 1 (length (values (part file) given)) ≡ true) × (e ≡ fault.TooManyFiles)
-
 abbrev pub texts_in : List (Bor Text) → List Text
 texts_in = map (λ word. word.now)
 
@@ -68,6 +60,3 @@ shown o = record {
   explain = o.explain;
   stages = o.stages;
 }
-
-abbrev pub AsksFor : Result Asked OptionsFault → Result Options OptionsFault → Type 0
-AsksFor asked result = MatchResult result (λ o. asked ≡ Ok (shown o)) (λ e. asked ≡ Err e)

@@ -1,7 +1,8 @@
-//! The command line of f77run: what its words ask for, and the texts that it shows of itself.
+//! The command line of f77run: what its words ask for, what is wrong with them, and the texts that it shows of itself.
 #![tactic(auto)]
 
 pub mod asked;
+mod culprits;
 pub mod help;
 pub mod options;
-pub mod unknown;
+mod reading;

@@ -1,118 +1,83 @@
-//! The words of a command line: `f77run [OPTIONS] [FILE]`.
+//! What the words of a command line ask for.
 
-ghost use Rattle.std.specs.Prelude.{◌≡◌, ◌⊎◌, IfErr, IfOk, MatchResult, Ok, Err, option_map, false};
-ghost use Rattle.clap.specs.Words.{app_of, rule_of};
+ghost use Rattle.std.specs.Prelude.{◌≡◌, ◌⊎◌, IfErr, IfOk, MatchOption, MatchResult, Some, None, Ok, Err, is_some, option_map};
 ghost use Rattle.command_line.specs.declared.asked.OptionsFault.TheVariants.{Memory};
-ghost use Rattle.command_line.specs.Command.{f77run, fault_for, file_rule, flag_rule, number_rule, word_rule};
-ghost use Rattle.command_line.specs.CommandLine.{Flag, Given, Part, asked_by, asked_for, first, flag, is_on, name_of, number_in, part, speculation_of};
-ghost use Rattle.command_line.specs.Matches.{AreTooMany, AsksFor, IsGiven, IsNumber, IsOneFile};
-ghost use Rattle.command_line.specs.Matches.{shown, texts_in};
+ghost use Rattle.command_line.specs.CommandLine.{Flag, Given, Part, file, speculating, files_of, first, first_idle, flag, idle_pair, is_idle, is_on, mode_of, name_of, number_in, part, plan_in, settings, speculation_of, stands, values};
+ghost use Rattle.command_line.specs.Culprits.{AsksFor, IsAsked, IsClash, IsFault, IsIdle};
+ghost use Rattle.command_line.specs.Matches.{IsGiven, IsNumber, texts_in};
 
-use crate::asked::{Options, OptionsFault, Speculation};
-use clap::builder::ValueParser;
-use clap::error::ErrorKind;
-use clap::{Arg, ArgAction, ArgMatches, Command};
+use crate::asked::{Mode, Options, OptionsFault, Setting, Speculation};
+use crate::culprits::fault_by;
+use crate::reading::read;
+use clap::ArgMatches;
 use meaning::plan::Plan;
-use std::alloc::{AllocError, Global};
+use std::alloc::Global;
+
+// All settings, in the order of the help.
+const SETTINGS: &[Setting] = &[
+    Setting::Workers,
+    Setting::Block,
+    Setting::Window,
+    Setting::Turns,
+    Setting::Speculate,
+    Setting::Check,
+    Setting::Count,
+    Setting::Explain,
+    Setting::Stages,
+    Setting::Rule,
+    Setting::File,
+];
 
 /// Reads a command line, the first word of which is the program's name: options and a file in any order, each option once at
 /// most. `--workers` (1 to 64; 4 where it isn't given), `--block` (1 to 1,000,000; 64), `--window` (1 to 256; 8) and
 /// `--turns` (1 to 1,000,000,000,000; 1,000,000,000) take a number as `--turns 5` or `--turns=5`, in digits with a plus
-/// sign in front or not. `--speculate` takes `adaptive`, which it is where it isn't given, `always` or `never`. `--rule` takes any text. `--check`, `--count`, `--explain` and `--stages` take none, and are false where
-/// they aren't given. Behind `--` each word is a file, and a minus sign alone is one too.
+/// sign in front or not. `--speculate` takes `adaptive`, which it is where it isn't given, `always` or `never`. `--rule` takes
+/// any text. `--check`, `--count`, `--explain` and `--stages` take none, and are false where they aren't given. Behind `--`
+/// each word is a file, and a minus sign alone is one too.
 ///
 /// # Errors
 ///
 /// The first thing, from the left, for which the words name no run; what stands for an option or a file is looked at
-/// when the word behind it is known, and the number of files, and then the word of `--speculate`, behind all words. `Memory` where memory was refused.
-pub fn options<'a>(alloc: Global, words: &'a [&'a str]) -> Result<Options<'a>, OptionsFault>
-    ensures ok { IfOk result (λ o. asked_for (texts_in words.entry.now) ≡ Ok (shown o)) }
-    ensures err { IfErr result (λ e. (e ≡ OptionsFault.Memory)
-        ⊎ (asked_for (texts_in words.entry.now) ≡ Err e)) }
+/// when the word behind it is known. Behind all words the number of files is looked at, then the word of `--speculate`, and
+/// then what has no effect with others: with `--rule` all else; with `--check` what is about a run; with `--speculate never`
+/// the numbers of a parallel run. `Memory` where memory was refused.
+pub fn options<'a>(alloc: Global, words: &'a [&'a str]) -> Result<Options<'a>, OptionsFault<'a>>
+    ensures ok { IfOk result (λ o. IsAsked (texts_in words.entry.now) o) }
+    ensures err { IfErr result (λ e. (e ≡ OptionsFault.Memory) ⊎ IsFault (texts_in words.entry.now) e) }
 {
-    match command(alloc)?.try_get_matches_from(words) {
+    match read(alloc, words) {
         Ok(matches) => asked(&matches),
-        Err(error) => Err(fault_for(error.kind())),
-    }
-}
-
-// The command whose matches are read.
-fn command<'a>(alloc: Global) -> Result<Command<'a>, AllocError>
-    ensures { IfOk result (λ c. app_of c ≡ f77run) }
-{
-    Command::new(alloc, "f77run")
-        .version("")
-        .arg(number(alloc, "workers", 64))?
-        .arg(number(alloc, "block", 1_000_000))?
-        .arg(number(alloc, "window", 256))?
-        .arg(number(alloc, "turns", 1_000_000_000_000))?
-        .arg(word(alloc, "rule"))?
-        .arg(word(alloc, "speculate"))?
-        .arg(flag(alloc, "check"))?
-        .arg(flag(alloc, "count"))?
-        .arg(flag(alloc, "explain"))?
-        .arg(flag(alloc, "stages"))?
-        .arg(files(alloc))
-}
-
-// An option that takes a number from 1 to `most`.
-fn number<'a>(alloc: Global, name: &'a str, most: u64) -> Arg<'a>
-    ensures rule { rule_of result ≡ number_rule name.now most }
-    ensures local { result.global ≡ false }
-{
-    Arg::new(alloc, name)
-        .long(name)
-        .action(ArgAction::Set)
-        .value_parser(ValueParser::unsigned(1, most))
-}
-
-// An option that takes a word. Any text is read, so that an unknown one is told by whoever knows the words.
-fn word<'a>(alloc: Global, name: &'a str) -> Arg<'a>
-    ensures rule { rule_of result ≡ word_rule name.now }
-    ensures local { result.global ≡ false }
-{
-    Arg::new(alloc, name).long(name).action(ArgAction::Set)
-}
-
-// An option that takes nothing.
-fn flag<'a>(alloc: Global, name: &'a str) -> Arg<'a>
-    ensures rule { rule_of result ≡ flag_rule name.now }
-    ensures local { result.global ≡ false }
-{
-    Arg::new(alloc, name).long(name).action(ArgAction::SetTrue)
-}
-
-// The files. Any number of them is read, so that a second one is a fault of its own.
-fn files<'a>(alloc: Global) -> Arg<'a>
-    ensures rule { rule_of result ≡ file_rule }
-    ensures local { result.global ≡ false }
-{
-    Arg::new(alloc, "FILE").action(ArgAction::Append)
-}
-
-// What is wrong with a command line that clap refuses. It gives no other kind for this command.
-fn fault_for(kind: ErrorKind) -> OptionsFault
-    ensures { result ≡ fault_for kind }
-{
-    match kind {
-        ErrorKind::DisplayHelp => OptionsFault::Help,
-        ErrorKind::DisplayVersion => OptionsFault::Version,
-        ErrorKind::OutOfMemory => OptionsFault::Memory,
-        ErrorKind::InvalidValue => OptionsFault::NoValue,
-        ErrorKind::TooManyValues => OptionsFault::NeedlessValue,
-        ErrorKind::ArgumentConflict => OptionsFault::GivenTwice,
-        ErrorKind::ValueValidation => OptionsFault::BadNumber,
-        _ => OptionsFault::NoSuchOption,
+        Err(wrong) => Err(fault_by(alloc, words, wrong)),
     }
 }
 
 // What the matches ask for.
-fn asked<'a>(matches: &ArgMatches<'a>) -> Result<Options<'a>, OptionsFault>
-    ensures { (given : Given) → IsGiven given matches.now → AsksFor (asked_by given) result }
+fn asked<'a>(matches: &ArgMatches<'a>) -> Result<Options<'a>, OptionsFault<'a>>
+    requires { (given : Given) × IsGiven given matches.now }
+    ensures { (given : Given) → IsGiven given matches.now → AsksFor given result }
 {
     let file = file_given(matches)?;
-    let rule = word_given(matches, "rule");
-    let chosen = speculation_by(word_given(matches, "speculate"));
+    let speculate = speculation_given(matches)?;
+    if let Some(fault) = idle_fault(matches, speculate) {
+        return Err(fault);
+    }
+    Ok(Options {
+        plan: plan_given(matches),
+        speculate,
+        file,
+        rule: word_given(matches, "rule"),
+        check: flag_given(matches, "check"),
+        count: flag_given(matches, "count"),
+        explain: flag_given(matches, "explain"),
+        stages: flag_given(matches, "stages"),
+    })
+}
+
+// The plan. Each number that is given is in its range.
+fn plan_given(matches: &ArgMatches<'_>) -> Plan
+    requires { (given : Given) × IsGiven given matches.now }
+    ensures { (given : Given) → IsGiven given matches.now → result ≡ plan_in given }
+{
     let plan = Plan::new(
         number_given(matches, "workers", 4),
         number_given(matches, "block", 64),
@@ -120,40 +85,8 @@ fn asked<'a>(matches: &ArgMatches<'a>) -> Result<Options<'a>, OptionsFault>
         number_given(matches, "turns", 1_000_000_000),
     );
     match plan {
-        Some(plan) => match chosen {
-            Some(speculate) => Ok(Options {
-                plan,
-                speculate,
-                file,
-                rule,
-                check: flag_given(matches, "check"),
-                count: flag_given(matches, "count"),
-                explain: flag_given(matches, "explain"),
-                stages: flag_given(matches, "stages"),
-            }),
-            None => Err(OptionsFault::NoSuchSpeculation),
-        },
-        None => Err(OptionsFault::BadNumber),
-    }
-}
-
-// What is tried in parallel, by the word that is given, if it is one.
-fn speculation_by(word: Option<&str>) -> Option<Speculation>
-    ensures { result ≡ speculation_of (option_map (λ s. s.now) word.entry) }
-{
-    match word {
-        None => Some(Speculation::Adaptive),
-        Some(word) => {
-            if word == "adaptive" {
-                Some(Speculation::Adaptive)
-            } else if word == "always" {
-                Some(Speculation::Always)
-            } else if word == "never" {
-                Some(Speculation::Never)
-            } else {
-                None
-            }
-        }
+        Some(plan) => plan,
+        None => unreachable!(),
     }
 }
 
@@ -184,16 +117,28 @@ fn word_given<'a>(matches: &ArgMatches<'a>, name: &str) -> Option<&'a str>
     }
 }
 
+// Whether something is given for an option or a file.
+fn part_given(matches: &ArgMatches<'_>, name: &str) -> bool
+    ensures { (given : Given) (p : Part) → IsGiven given matches.now
+        → name.now ≡ name_of (part p) → result ≡ is_some (first (part p) given) }
+{
+    word_given(matches, name).is_some()
+}
+
 // The file, where one is named.
-fn file_given<'a>(matches: &ArgMatches<'a>) -> Result<Option<&'a str>, OptionsFault>
+fn file_given<'a>(matches: &ArgMatches<'a>) -> Result<Option<&'a str>, OptionsFault<'a>>
     ensures { (given : Given) → IsGiven given matches.now → MatchResult result
-        (λ f. IsOneFile given (option_map (λ s. s.now) f)) (λ e. AreTooMany given e) }
+        (λ f. files_of (values (part file) given) ≡ Ok (option_map (λ s. s.now) f))
+        (λ e. IsClash e (files_of (values (part file) given))) }
 {
     match matches.get_strs("FILE") {
         None => Ok(None),
         Some(files) => {
             if files.len() > 1 {
-                Err(OptionsFault::TooManyFiles)
+                Err(OptionsFault::TooManyFiles {
+                    first: files[0],
+                    second: files[1],
+                })
             } else {
                 Ok(files.first().copied())
             }
@@ -201,10 +146,103 @@ fn file_given<'a>(matches: &ArgMatches<'a>) -> Result<Option<&'a str>, OptionsFa
     }
 }
 
-impl From<AllocError> for OptionsFault {
-    ghost from_gives = { λ _ f. f ≡ Memory };
+// What is tried in parallel.
+fn speculation_given<'a>(matches: &ArgMatches<'a>) -> Result<Speculation, OptionsFault<'a>>
+    ensures { (given : Given) → IsGiven given matches.now → MatchResult result
+        (λ s. speculation_of (first (part speculating) given) ≡ Ok s)
+        (λ e. IsClash e (speculation_of (first (part speculating) given))) }
+{
+    match word_given(matches, "speculate") {
+        None => Ok(Speculation::Adaptive),
+        Some(word) => speculation_by(word),
+    }
+}
 
-    fn from(_error: AllocError) -> OptionsFault {
-        OptionsFault::Memory
+// What is tried in parallel by a word, if it is one for that.
+fn speculation_by(word: &str) -> Result<Speculation, OptionsFault<'_>>
+    ensures { MatchResult result
+        (λ s. speculation_of (Some word.entry.now) ≡ Ok s)
+        (λ e. IsClash e (speculation_of (Some word.entry.now))) }
+{
+    if word == "adaptive" {
+        Ok(Speculation::Adaptive)
+    } else if word == "always" {
+        Ok(Speculation::Always)
+    } else if word == "never" {
+        Ok(Speculation::Never)
+    } else {
+        Err(OptionsFault::NoSuchSpeculation { value: word })
+    }
+}
+
+// What is given without an effect, if anything is.
+fn idle_fault<'a>(matches: &ArgMatches<'a>, speculate: Speculation) -> Option<OptionsFault<'a>>
+    ensures { (given : Given) → IsGiven given matches.now
+        → MatchOption result (idle_pair given speculate ≡ None) (λ e. IsIdle e (idle_pair given speculate)) }
+{
+    let mode = mode_given(matches, speculate)?;
+    let idle = idle_given(matches, mode)?;
+    Some(OptionsFault::NoEffect { idle, mode })
+}
+
+// What leaves others without an effect.
+fn mode_given(matches: &ArgMatches<'_>, speculate: Speculation) -> Option<Mode>
+    ensures { (given : Given) → IsGiven given matches.now → result ≡ mode_of given speculate }
+{
+    if part_given(matches, "rule") {
+        Some(Mode::Rule)
+    } else if flag_given(matches, "check") {
+        Some(Mode::Check)
+    } else if speculate == Speculation::Never {
+        Some(Mode::Never)
+    } else {
+        None
+    }
+}
+
+// The first setting that is given and has no effect.
+fn idle_given(matches: &ArgMatches<'_>, mode: Mode) -> Option<Setting>
+    ensures { (given : Given) → IsGiven given matches.now → result ≡ first_idle mode given settings }
+{
+    for setting in SETTINGS {
+        if is_idle(mode, *setting) && is_given(matches, *setting) {
+            return Some(*setting);
+        }
+    }
+    None
+}
+
+// Whether a setting has no effect.
+fn is_idle(mode: Mode, setting: Setting) -> bool
+    ensures { result ≡ is_idle mode setting }
+{
+    match mode {
+        Mode::Rule => setting != Setting::Rule,
+        Mode::Check => {
+            !matches!(
+                setting,
+                Setting::Check | Setting::Explain | Setting::Rule | Setting::File
+            )
+        }
+        Mode::Never => { matches!(setting, Setting::Workers | Setting::Block | Setting::Window) }
+    }
+}
+
+// Whether a setting stands among the words.
+fn is_given(matches: &ArgMatches<'_>, setting: Setting) -> bool
+    ensures { (given : Given) → IsGiven given matches.now → result ≡ stands setting given }
+{
+    match setting {
+        Setting::Workers => part_given(matches, "workers"),
+        Setting::Block => part_given(matches, "block"),
+        Setting::Window => part_given(matches, "window"),
+        Setting::Turns => part_given(matches, "turns"),
+        Setting::Speculate => part_given(matches, "speculate"),
+        Setting::Check => flag_given(matches, "check"),
+        Setting::Count => flag_given(matches, "count"),
+        Setting::Explain => flag_given(matches, "explain"),
+        Setting::Stages => flag_given(matches, "stages"),
+        Setting::Rule => part_given(matches, "rule"),
+        Setting::File => part_given(matches, "FILE"),
     }
 }

@@ -1,13 +1,14 @@
 -- What a sink does with bytes in several calls.
 use Rattle.std.proofs.Common.{◌≡◌, ◌⊎◌, ℕ, true, false, List, [], ◌∷◌, ◌++◌, refl, sym, ap, ◌∙◌, subst, append_assoc, inl, inr, arith}
-use Rattle.std.specs.Prelude.{codes, decimal, length, Some, ◌==◌}
+use Rattle.std.specs.Prelude.{codes, decimal, length, map, Some, ◌==◌}
 use Rattle.std.proofs.lemmas.Bool.{eqb-true}
 use Rattle.std.proofs.lemmas.List.{append-nil}
 use Rattle.meaning.specs.Promise.{Told, Took, IsBroken}
 use Rattle.record_sinks.proofs.Taken.{Took-none, Took-then, Took-refused}
 use Rattle.meaning.specs.declared.ending.Ending.{Ending}
 use Rattle.meaning.specs.declared.ending.Ending.TheVariants as endings
-use Rattle.engine.specs.Lines.{IsTold, line_at, line_of, line_of_text, turns_line, behind_stop}
+use Rattle.engine.specs.Explained.{shown}
+use Rattle.engine.specs.Lines.{IsTold, no_rule_line, line_at, line_of, line_of_text, turns_line, behind_stop}
 use Rattle.engine.specs.Status.{status_of}
 
 broken_before : (xs ys : List ℕ) (a b : Told) → IsBroken xs a b → IsBroken (xs ++ ys) a b
@@ -79,3 +80,10 @@ told_silent_stop (x ∷ xs) a b c none p q =
 pub told_text : (ending : Ending) (a b : Told) → (ending ≡ endings.Ended) ⊎ (ending ≡ endings.WriteRefused) → IsTold (line_of ending) a b → IsTold (line_of_text (status_of ending)) a b
 told_text ending a b (inl is) p = rw is (subst (λ e. IsTold (line_of e) a b) is p)
 told_text ending a b (inr is) p = rw is (subst (λ e. IsTold (line_of e) a b) is p)
+
+-- the parts of the line of a name that no rule and no fault has
+pub told_no_rule : (name : List ℕ) (a b c d : Told) → IsTold (codes "f77run: there is no rule or fault '") a b → IsTold (map shown name) b c
+    → IsTold (codes "'; f77run --rule lists them\n") c d → IsTold (no_rule_line name) a d
+told_no_rule name a b c d p q r =
+    told_then (codes "f77run: there is no rule or fault '") (map shown name ++ codes "'; f77run --rule lists them\n") a b d p
+    (told_then (map shown name) (codes "'; f77run --rule lists them\n") b c d q r)

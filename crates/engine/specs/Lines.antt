@@ -1,10 +1,11 @@
 -- The lines on standard error.
-use Rattle.std.specs.Prelude.{◌≡◌, ◌⊎◌, ℕ, Bool, true, false, List, [], ◌∷◌, ◌++◌, Option, None, Some, codes, decimal, ◌==◌, if◌then◌else◌}
+use Rattle.std.specs.Prelude.{◌≡◌, ◌⊎◌, ℕ, Bool, true, false, List, [], ◌∷◌, ◌++◌, Option, None, Some, codes, decimal, map, ◌==◌, if◌then◌else◌}
 use Rattle.meaning.specs.declared.ending.Ending.{Ending}
 use Rattle.meaning.specs.declared.ending.Ending.TheVariants as endings
 use Rattle.meaning.specs.declared.ending.Report.{Report}
 use Rattle.meaning.specs.Names.{fault_name, rule_name}
 use Rattle.meaning.specs.Promise.{Told, Took, IsBroken}
+use Rattle.engine.specs.Explained.{shown}
 use Rattle.engine.specs.declared.running.NoRun.{NoRun}
 use Rattle.engine.specs.declared.running.NoRun.TheVariants as no_runs
 
@@ -40,13 +41,18 @@ lines_of count report = line_of report.ending ++ turns_line count report.turns
 abbrev pub line_of_text : ℕ → List ℕ
 line_of_text status = if status == 0 then [] else line_of endings.WriteRefused
 
--- of a command line without a run, by its status; what is wrong with a faulty one isn't said here, nor which rules there are
+-- of a name that no rule and no fault has
+abbrev pub no_rule_line : List ℕ → List ℕ
+no_rule_line name = codes "f77run: there is no rule or fault '" ++ map shown name ++ codes "'; f77run --rule lists them\n"
+
+-- of a command line without a run, by its status; what is wrong with a faulty one isn't said here
 abbrev pub line_of_none : NoRun → ℕ → Option (List ℕ)
 line_of_none no_runs.Help status = Some (line_of_text status)
 line_of_none no_runs.Version status = Some (line_of_text status)
+line_of_none no_runs.Names status = Some (line_of_text status)
 line_of_none (no_runs.Rule row) status = Some (line_of_text status)
 line_of_none (no_runs.Fault row) status = Some (line_of_text status)
-line_of_none no_runs.NoSuchRule status = None
+line_of_none (no_runs.NoSuchRule name) status = Some (no_rule_line name.now)
 line_of_none (no_runs.Faulty fault) status = None
 line_of_none no_runs.Memory status = Some (line_of endings.Memory)
 line_of_none no_runs.FileRefused status = Some (codes "FILE REFUSED\n")

@@ -7,7 +7,7 @@ use Rattle.meaning.specs.Names.{fault_name, rule_name}
 use Rattle.meaning.specs.Trees.{Nested}
 use Rattle.command_line.specs.declared.asked.OptionsFault.{OptionsFault}
 use Rattle.command_line.specs.declared.asked.OptionsFault.TheVariants as faults
-use Rattle.rule_texts.specs.Named.{IsNoFault, IsNoRule}
+use Rattle.rule_texts.specs.Named.{IsNoFault, IsNoRule, Spells}
 use Rattle.engine.specs.declared.running.NoRun.{NoRun}
 use Rattle.engine.specs.declared.running.NoRun.TheVariants as no_runs
 
@@ -32,20 +32,22 @@ IsCheck spelled ending = (ending ≡ endings.Memory) ⊎ (ending ≡ ending_of_c
 abbrev pub IsStatusOf : NoRun → ℕ → Type 0
 IsStatusOf no_runs.Help status = (status ≡ 0) ⊎ (status ≡ 5)
 IsStatusOf no_runs.Version status = (status ≡ 0) ⊎ (status ≡ 5)
+IsStatusOf no_runs.Names status = (status ≡ 0) ⊎ (status ≡ 5)
 IsStatusOf (no_runs.Rule row) status = (status ≡ 0) ⊎ (status ≡ 5)
 IsStatusOf (no_runs.Fault row) status = (status ≡ 0) ⊎ (status ≡ 5)
-IsStatusOf no_runs.NoSuchRule status = status ≡ 3
+IsStatusOf (no_runs.NoSuchRule name) status = status ≡ 3
 IsStatusOf (no_runs.Faulty fault) status = status ≡ 3
 IsStatusOf no_runs.Memory status = status ≡ 4
 IsStatusOf no_runs.FileRefused status = status ≡ 5
 
 -- the rule or the fault that has a name
 abbrev pub IsNamedBy : List ℕ → NoRun → Type 0
-IsNamedBy name (no_runs.Rule row) = rule_name row.rule ≡ name
-IsNamedBy name (no_runs.Fault row) = fault_name row.kind ≡ name
-IsNamedBy name no_runs.NoSuchRule = IsNoRule name × IsNoFault name
+IsNamedBy name (no_runs.Rule row) = Spells name (rule_name row.rule)
+IsNamedBy name (no_runs.Fault row) = Spells name (fault_name row.kind)
+IsNamedBy name (no_runs.NoSuchRule told) = (told.now ≡ name) × IsNoRule name × IsNoFault name
 IsNamedBy name no_runs.Help = ⊥
 IsNamedBy name no_runs.Version = ⊥
+IsNamedBy name no_runs.Names = ⊥
 IsNamedBy name (no_runs.Faulty fault) = ⊥
 IsNamedBy name no_runs.Memory = ⊥
 IsNamedBy name no_runs.FileRefused = ⊥
@@ -54,5 +56,6 @@ IsNamedBy name no_runs.FileRefused = ⊥
 abbrev pub no_run_for : OptionsFault → NoRun
 no_run_for faults.Help = no_runs.Help
 no_run_for faults.Version = no_runs.Version
+no_run_for faults.RuleNames = no_runs.Names
 no_run_for faults.Memory = no_runs.Memory
 no_run_for fault = no_runs.Faulty fault

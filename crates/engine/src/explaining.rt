@@ -12,6 +12,7 @@ use meaning::ending::Ending;
 use record_sinks::Sink;
 use rule_texts::{text_of_fault, text_of_rule};
 use source_columns::{line_at, next_continuation};
+use std::fmt;
 
 /// What there is to explain of an ending.
 #[derive(Clone, Copy, Debug)]
@@ -94,5 +95,19 @@ fn shown(byte: u8) -> u8
         byte
     } else {
         b'?'
+    }
+}
+
+/// A sink as a writer of texts, of which it is given printable characters alone.
+#[derive(Drop)]
+pub struct Texts<'a, S: Sink> {
+    /// The sink.
+    pub sink: &'a mut S,
+}
+
+impl<'a, S: Sink> fmt::Write for Texts<'a, S> {
+    fn write_str(&mut self, text: &str) -> fmt::Result {
+        put_shown(text.as_bytes(), self.sink);
+        Ok(())
     }
 }

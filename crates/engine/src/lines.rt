@@ -7,21 +7,6 @@ ghost use Rattle.engine.specs.Status.{status_of};
 use itoa::Buffer;
 use meaning::ending::Ending;
 use record_sinks::{Sink, put_all};
-use std::fmt;
-
-/// A sink as a writer of texts.
-#[derive(Drop)]
-pub struct Texts<'a, S: Sink> {
-    /// The sink.
-    pub sink: &'a mut S,
-}
-
-impl<'a, S: Sink> fmt::Write for Texts<'a, S> {
-    fn write_str(&mut self, text: &str) -> fmt::Result {
-        put(text, self.sink);
-        Ok(())
-    }
-}
 
 /// Writes the line of an ending, if it has one, and answers the exit status. A line that can't be written changes
 /// nothing.

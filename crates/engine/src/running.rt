@@ -2,26 +2,25 @@
 
 ghost use Rattle.std.specs.Prelude.{◌≡◌, ◌⊎◌, IfOk, IfSome};
 ghost use Rattle.engine.specs.declared.running.NoRun.TheVariants.{Memory};
-ghost use Rattle.engine.specs.Lines.{IsTold, line_of_none};
+ghost use Rattle.engine.specs.Lines.{IsTold, line_of_none, no_rule_line};
 ghost use Rattle.engine.specs.Source.{SpellsAs};
 ghost use Rattle.engine.specs.Told.{AreTold};
 ghost use Rattle.engine.specs.Status.{IsCheck, IsNamedBy, IsStatusOf, status_of, no_run_for};
 ghost use Rattle.meaning.specs.Answers.{program_of};
 
-use crate::explaining::{matter_of, put_shown};
-use crate::lines::{Texts, put, tell_ending, tell_turns};
+use crate::explaining::{Texts, matter_of, put_shown};
+use crate::lines::{put, tell_ending, tell_turns};
 use crate::notes::{Noted, Notes};
 use crate::telling::{is_further, is_staged, tell_further, tell_matter, tell_stages};
 use command_line::asked::{Options, OptionsFault, Speculation};
-use command_line::help::{HELP, VERSION};
+use command_line::help::{HELP, NAMES, VERSION};
 use command_line::options::options;
-use command_line::unknown::{nearest_option, unknown_place};
 use executor::run::{run_adaptive, run_by, run_watched};
 use executor::{Open, Out, Sink, Watched};
 use in_order::program_in;
 use meaning::ending::{Ending, Report};
 use meaning::refusal::Refusal;
-use rule_texts::{FAULTS, FaultText, RULES, RuleText, fault_named, rule_named};
+use rule_texts::{FaultText, RuleText, fault_named, rule_named};
 use std::alloc::{AllocError, AllocFailed, Global};
 use std::env::Env;
 use std::fmt::Write as _;
@@ -36,48 +35,51 @@ const BYTES_READ: u64 = 1_048_577;
 
 /// Why no source is run.
 #[derive(Clone, Copy, Debug)]
-enum NoRun {
+enum NoRun<'a> {
     /// The help is asked for instead.
     Help,
     /// The version is asked for instead.
     Version,
+    /// The names of all rules and faults are asked for instead.
+    Names,
     /// A rule is asked for instead.
     Rule(RuleText),
     /// A fault is asked for instead.
     Fault(FaultText),
     /// What is asked for is the name of no rule and no fault.
-    NoSuchRule,
+    NoSuchRule(&'a str),
     /// The command line is at fault.
-    Faulty(OptionsFault),
+    Faulty(OptionsFault<'a>),
     /// Memory was refused before the source was run.
     Memory,
     /// The file or standard input can't be read.
     FileRefused,
 }
 
-impl From<AllocError> for NoRun {
+impl<'a> From<AllocError> for NoRun<'a> {
     ghost from_gives = { λ _ no_run. no_run ≡ Memory };
 
-    fn from(_error: AllocError) -> NoRun {
+    fn from(_error: AllocError) -> NoRun<'a> {
         NoRun::Memory
     }
 }
 
-impl<T: Drop> From<AllocFailed<T>> for NoRun {
+impl<'a, T: Drop> From<AllocFailed<T>> for NoRun<'a> {
     ghost from_gives = { λ _ no_run. no_run ≡ Memory };
 
-    fn from(_error: AllocFailed<T>) -> NoRun {
+    fn from(_error: AllocFailed<T>) -> NoRun<'a> {
         NoRun::Memory
     }
 }
 
-impl From<OptionsFault> for NoRun {
+impl<'a> From<OptionsFault<'a>> for NoRun<'a> {
     ghost from_gives = { λ fault no_run. no_run ≡ no_run_for fault };
 
-    fn from(fault: OptionsFault) -> NoRun {
+    fn from(fault: OptionsFault<'a>) -> NoRun<'a> {
         match fault {
             OptionsFault::Help => NoRun::Help,
             OptionsFault::Version => NoRun::Version,
+            OptionsFault::RuleNames => NoRun::Names,
             OptionsFault::Memory => NoRun::Memory,
             _ => NoRun::Faulty(fault),
         }
@@ -137,7 +139,6 @@ fn by_texts<'a, R: Files + AllocGlobal + Threads + Wait + Sync, I: Read, O: Writ
 ) -> u8 {
     match options(rt.alloc(), texts) {
         Ok(asked) => by_options(rt, &asked, input, out, err),
-        Err(OptionsFault::NoSuchOption) => tell_unknown(rt.alloc(), texts, err),
         Err(fault) => tell_no_run(NoRun::from(fault), out, err),
     }
 }
@@ -202,14 +203,14 @@ fn checked(alloc: Global, source: &[u8]) -> Ending
 }
 
 // What is asked for by the name of a rule or a fault.
-fn rule_asked(name: &str) -> NoRun
-    ensures { IsNamedBy name.now result }
+fn rule_asked(name: &str) -> NoRun<'_>
+    ensures { IsNamedBy name.entry.now result }
 {
     match rule_named(name) {
         Some(row) => NoRun::Rule(row),
         None => match fault_named(name) {
             Some(row) => NoRun::Fault(row),
-            None => NoRun::NoSuchRule,
+            None => NoRun::NoSuchRule(name),
         },
     }
 }
@@ -224,7 +225,7 @@ fn texts_of(alloc: Global, words: &[String]) -> Result<Vec<&str>, AllocError> {
 }
 
 // The words of a command line.
-fn words_of<V: Env>(words: &V, alloc: Global) -> Result<Vec<String>, NoRun> {
+fn words_of<'a, V: Env>(words: &V, alloc: Global) -> Result<Vec<String>, NoRun<'a>> {
     let found = match env::args(&(words, alloc)) {
         Ok(found) => found,
         Err(error) => {
@@ -242,7 +243,7 @@ fn words_of<V: Env>(words: &V, alloc: Global) -> Result<Vec<String>, NoRun> {
 }
 
 // Why a source couldn't be read.
-fn unread(error: &io::Error) -> NoRun {
+fn unread<'a>(error: &io::Error) -> NoRun<'a> {
     match error.kind() {
         ErrorKind::OutOfMemory => NoRun::Memory,
         _ => NoRun::FileRefused,
@@ -326,7 +327,7 @@ fn tell<S: Sink>(
 
 // Writes why no source is run, or the text that is asked for, and answers the exit status.
 #[tactic(auto, using(crate::proofs::Told::told_text))]
-fn tell_no_run<O: Write + Drop, S: Sink>(no_run: NoRun, out: O, err: &mut S) -> u8
+fn tell_no_run<O: Write + Drop, S: Sink>(no_run: NoRun<'_>, out: O, err: &mut S) -> u8
     ensures status { IsStatusOf no_run result }
     ensures line { IfSome (line_of_none no_run result)
         (λ line. IsTold line (S.told err.old) (S.told err.new)) }
@@ -334,9 +335,13 @@ fn tell_no_run<O: Write + Drop, S: Sink>(no_run: NoRun, out: O, err: &mut S) -> 
     match no_run {
         NoRun::Help => tell_ending(show(&[HELP], out), err),
         NoRun::Version => tell_ending(show(&[VERSION], out), err),
+        NoRun::Names => tell_ending(show(&[NAMES], out), err),
         NoRun::Rule(row) => tell_ending(show_rule(&row, out), err),
         NoRun::Fault(row) => tell_ending(show_fault(&row, out), err),
-        NoRun::NoSuchRule => tell_names(err),
+        NoRun::NoSuchRule(name) => {
+            tell_no_rule(name, err);
+            3
+        }
         NoRun::Faulty(fault) => {
             tell_fault(fault, err);
             3
@@ -349,56 +354,22 @@ fn tell_no_run<O: Write + Drop, S: Sink>(no_run: NoRun, out: O, err: &mut S) -> 
     }
 }
 
-// Writes which word is no option, with the nearest that is one, and answers the exit status. Where memory is refused for that,
-// it is said without a name.
-fn tell_unknown<S: Sink>(alloc: Global, texts: &[&str], err: &mut S) -> u8
-    ensures { result ≡ 3 }
-{
-    match unknown_in(alloc, texts) {
-        Some((word, nearest)) => {
-            put("there is no option ", err);
-            put_shown(word.as_bytes(), err);
-            put("; the nearest is ", err);
-            put(nearest, err);
-            put(", and f77run --help lists all\n", err);
-        }
-        None => tell_fault(OptionsFault::NoSuchOption, err),
-    }
-    3
-}
-
-// The word that is no option, without a value, and the option nearest to it.
-fn unknown_in<'a>(alloc: Global, texts: &'a [&'a str]) -> Option<(&'a str, &'static str)> {
-    let place = unknown_place(alloc, texts).ok()??;
-    let word = *texts.get(place)?;
-    let name = match word.split_once('=') {
-        Some((name, _)) => name,
-        None => word,
-    };
-    Some((name, nearest_option(alloc, name).ok()?))
-}
-
-// Writes what is wrong with a command line.
-fn tell_fault<S: Sink>(fault: OptionsFault, err: &mut S) {
+// Writes what is wrong with a command line, in one line.
+fn tell_fault<S: Sink>(fault: OptionsFault<'_>, err: &mut S) {
+    put("f77run: ", err);
     let mut texts = Texts { sink: err };
-    let _ = writeln!(texts, "{fault}");
+    let _ = write!(texts, "{fault}");
+    put("\n", texts.sink);
 }
 
-// Writes which rules and faults there are, and answers the exit status.
-fn tell_names<S: Sink>(err: &mut S) -> u8
-    ensures { result ≡ 3 }
+// Writes that no rule and no fault has a name.
+#[tactic(auto, using(crate::proofs::Told::told_no_rule))]
+fn tell_no_rule<S: Sink>(name: &str, err: &mut S)
+    ensures { IsTold (no_rule_line name.now) (S.told err.old) (S.told err.new) }
 {
-    put("there is no such rule or fault; there are", err);
-    for rule in RULES {
-        put(" ", err);
-        put(rule.name(), err);
-    }
-    for kind in FAULTS {
-        put(" ", err);
-        put(kind.name(), err);
-    }
-    put("\n", err);
-    3
+    put("f77run: there is no rule or fault '", err);
+    put_shown(name.as_bytes(), err);
+    put("'; f77run --rule lists them\n", err);
 }
 
 // Writes a rule in a sentence, with a program that breaks it and one that doesn't.

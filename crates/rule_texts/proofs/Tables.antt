@@ -1,9 +1,10 @@
 -- Each rule and each fault stands in its table.
-use Rattle.std.proofs.Common.{◌≡◌, ◌<◌, ℕ, List, length, arith, get_or, refl, ap, ◌∙◌}
+use Rattle.std.proofs.Common.{◌≡◌, ◌<◌, ℕ, List, length, arith, get_or, refl, sym, subst}
 use Rattle.meaning.specs.declared.ending.FaultKind.{FaultKind}
 use Rattle.meaning.specs.declared.ending.FaultKind.TheVariants.{F1, F2, F3, F4, F5, F6, F7, F8}
 use Rattle.meaning.specs.declared.refusal.Rule.{Rule}
 use Rattle.meaning.specs.declared.refusal.Rule.TheVariants.{C1, C2, C3, C4, C5, C6, C7, G1, G2, G3, N1, N2, N3, N4, N5, K1, K2, K3, K4, K5, K6, K7, K8, K9, K10, K11, K12, K13}
+use Rattle.rule_texts.specs.Named.{Spells}
 use Rattle.rule_texts.specs.declared.TheConstants.{FAULTS, RULES}
 
 -- something stands in a list
@@ -50,7 +51,7 @@ each_fault F6 = (5, (omega arith, refl))
 each_fault F7 = (6, (omega arith, refl))
 each_fault F8 = (7, (omega arith, refl))
 
--- what has another name in each place of the list, and stands in it, has another name
-pub no_name : {X : Type 0} (name_of : X → List ℕ) (xs : List X) (name : List ℕ) (x : X) → Stands xs x
-    → ((k : ℕ) → k < length xs → (d : X) → name_of (get_or xs k d) ≡ name → ⊥) → name_of x ≡ name → ⊥
-no_name name_of xs name x s none e = none s.0 s.1.0 x (ap name_of s.1.1 ∙ e)
+-- what is spelled otherwise in each place of the list, and stands in it, is spelled otherwise
+pub no_name : {X : Type 0} (name_of : X → List ℕ) (xs : List X) (text : List ℕ) (x : X) → Stands xs x
+    → ((k : ℕ) → k < length xs → (d : X) → Spells text (name_of (get_or xs k d)) → ⊥) → Spells text (name_of x) → ⊥
+no_name name_of xs text x s none e = none s.0 s.1.0 x (subst (λ y. Spells text (name_of y)) (sym s.1.1) e)

@@ -5,7 +5,7 @@
 
 ghost use Rattle.std.specs.Prelude.{◌≡◌, MatchOption};
 ghost use Rattle.meaning.specs.Names.{fault_name, rule_name};
-ghost use Rattle.rule_texts.specs.Named.{IsNoFault, IsNoRule};
+ghost use Rattle.rule_texts.specs.Named.{IsNoFault, IsNoRule, Spells};
 
 use meaning::ending::FaultKind;
 use meaning::refusal::Rule;
@@ -414,28 +414,28 @@ pub fn text_of_fault(kind: FaultKind) -> FaultText
     }
 }
 
-/// The texts of the rule that has this name, as `K3`; none where no rule has it.
+/// The texts of the rule that has this name, as `K3` or `k3`; none where no rule has it.
 pub fn rule_named(name: &str) -> Option<RuleText>
     ensures { MatchOption result
         (IsNoRule name.now)
-        (λ row. rule_name row.rule ≡ name.now) }
+        (λ row. Spells name.now (rule_name row.rule)) }
 {
     for rule in RULES {
-        if rule.name() == name {
+        if rule.name().eq_ignore_ascii_case(name) {
             return Some(text_of_rule(*rule));
         }
     }
     None
 }
 
-/// The texts of the fault that has this name, as `F2`; none where no fault has it.
+/// The texts of the fault that has this name, as `F2` or `f2`; none where no fault has it.
 pub fn fault_named(name: &str) -> Option<FaultText>
     ensures { MatchOption result
         (IsNoFault name.now)
-        (λ row. fault_name row.kind ≡ name.now) }
+        (λ row. Spells name.now (fault_name row.kind)) }
 {
     for kind in FAULTS {
-        if kind.name() == name {
+        if kind.name().eq_ignore_ascii_case(name) {
             return Some(text_of_fault(*kind));
         }
     }

@@ -1,7 +1,7 @@
-use Rattle.std.proofs.Common.{arith, below_more, sym, ap, ◌∙◌}
+use Rattle.std.proofs.Common.{arith, below_more, sym, ap, map, ◌∙◌}
+use Rattle.std.specs.Char.{to_ascii_lowercase}
 use Rattle.std.proofs.lemmas.Bool.{false≢true}
 use Rattle.std.proofs.lemmas.List.{get_or_default}
-use Rattle.std.proofs.lemmas.Slice.Eq.{bytes_eq-Decides}
 use Rattle.meaning.specs.Names.{rule_name}
 use Rattle.rule_texts.specs.declared.TheConstants.{RULES}
 use Rattle.rule_texts.proofs.Tables.{each_rule, no_name}
@@ -10,7 +10,7 @@ use Rattle.rule_texts.proofs.rule_named.Goals as goal
 pub loop-rule-preserved : goal.loop-rule-preserved
 loop-rule-preserved c =
     below_more _ _ c.loop-rule.invariant
-    (λ d e. false≢true (sym c.if-eq.false ∙ c.eq.ensures ∙ (bytes_eq-Decides c.name.result.now c.args.name.now).1 (c.name.ensures ∙ ap rule_name (get_or_default RULES.now c.loop-rule.rule-index _ d c.loop-rule-test.true) ∙ e)))
+    (λ d e. false≢true (sym c.if-eq_ignore_ascii_case.false ∙ c.eq_ignore_ascii_case.ensures.test.1 (ap (map to_ascii_lowercase) (c.name.ensures ∙ ap rule_name (get_or_default RULES.now c.loop-rule.rule-index _ d c.loop-rule-test.true)) ∙ e)))
 
 pub returns : goal.returns
 returns c rule e = no_name rule_name RULES.now c.args.name.now rule (each_rule rule) (λ k lt. c.loop-rule.invariant k (omega (arith, lt, c.loop-rule-test.false))) e

@@ -96,6 +96,7 @@ const REFUSED: &[(&[&[u8]], &str, usize)] = &[
     (&[b"f77run", b"--help"], "", 3),
     (&[b"f77run", b"--version"], "", 12),
     (&[b"f77run", b"--version"], "", 13),
+    (&[b"f77run", b"--rule"], "", 3),
     (&[b"f77run", b"--rule", b"K3"], "", 3),
     (&[b"f77run", b"--rule", b"N2"], "", 135),
     (&[b"f77run", b"--rule", b"N2"], "", 136),

@@ -1,7 +1,7 @@
 //! What the words of command lines ask for. The expected values are worked from what `f77run --help` says; what is wrong with other words is
 //! asked of the program as it is built, by `tests/run`.
 
-use command_line::asked::{Options, OptionsFault, Speculation};
+use command_line::asked::{Mode, Options, OptionsFault, Setting, Speculation};
 use command_line::options::options;
 use meaning::plan::Plan;
 use std::test::*;
@@ -237,9 +237,9 @@ const ASKED: &[(&[&str], Numbers, Flags, Option<&str>, Option<&str>)] = &[
         Some("a.f"),
     ),
     (
-        &["f77run", "--check", "--turns", "5", "--explain", "--count"],
+        &["f77run", "--stages", "--turns", "5", "--explain", "--count"],
         (4, 64, 8, 5),
-        (true, true, true, false),
+        (false, true, true, true),
         None,
         None,
     ),
@@ -266,9 +266,9 @@ const ASKED: &[(&[&str], Numbers, Flags, Option<&str>, Option<&str>)] = &[
         None,
     ),
     (
-        &["f77run", "--stages", "-", "--check"],
+        &["f77run", "--explain", "-", "--check"],
         NONE_GIVEN,
-        (true, false, false, true),
+        (true, false, true, false),
         None,
         Some("-"),
     ),
@@ -286,20 +286,6 @@ const ASKED: &[(&[&str], Numbers, Flags, Option<&str>, Option<&str>)] = &[
         NO_FLAG,
         Some("K3"),
         None,
-    ),
-    (
-        &["f77run", "a.f", "--rule", "F2"],
-        NONE_GIVEN,
-        NO_FLAG,
-        Some("F2"),
-        Some("a.f"),
-    ),
-    (
-        &["f77run", "--rule", "F2", "a.f"],
-        NONE_GIVEN,
-        NO_FLAG,
-        Some("F2"),
-        Some("a.f"),
     ),
     // any text is a name, and so is none
     (
@@ -354,7 +340,7 @@ fn words_ask_for(rt: HostRuntime) {
 }
 
 // Words, and what is tried in parallel by them, or what is wrong.
-const TRIED: &[(&[&str], Result<Speculation, OptionsFault>)] = &[
+const TRIED: &[(&[&str], Result<Speculation, OptionsFault<'static>>)] = &[
     (&["f77run", "a.f"], Ok(Speculation::Adaptive)),
     (
         &["f77run", "--speculate", "adaptive"],
@@ -367,29 +353,47 @@ const TRIED: &[(&[&str], Result<Speculation, OptionsFault>)] = &[
     ),
     (
         &["f77run", "--speculate", "Never"],
-        Err(OptionsFault::NoSuchSpeculation),
-    ),
-    (
-        &["f77run", "--speculate="],
-        Err(OptionsFault::NoSuchSpeculation),
+        Err(OptionsFault::NoSuchSpeculation { value: "Never" }),
     ),
     (
         &["f77run", "--speculate", "a.f", "--workers", "2"],
-        Err(OptionsFault::NoSuchSpeculation),
+        Err(OptionsFault::NoSuchSpeculation { value: "a.f" }),
     ),
     // what is told behind all words comes last, and more than one file before it
     (
         &["f77run", "--speculate", "on", "a.f", "b.f"],
-        Err(OptionsFault::TooManyFiles),
+        Err(OptionsFault::TooManyFiles {
+            first: "a.f",
+            second: "b.f",
+        }),
     ),
     (
         &["f77run", "--speculate=on", "--turns=0"],
-        Err(OptionsFault::BadNumber),
+        Err(OptionsFault::BadNumber {
+            option: "--turns",
+            value: "0",
+            wanted: "a number from 1 to 1000000000000",
+        }),
     ),
-    (&["f77run", "--speculate"], Err(OptionsFault::NoValue)),
+    (
+        &["f77run", "--speculate"],
+        Err(OptionsFault::NoValue {
+            option: "--speculate",
+            wanted: "adaptive, always or never",
+        }),
+    ),
     (
         &["f77run", "--speculate=always", "--speculate=always"],
-        Err(OptionsFault::GivenTwice),
+        Err(OptionsFault::GivenTwice {
+            option: "--speculate",
+        }),
+    ),
+    (
+        &["f77run", "--stages", "--check"],
+        Err(OptionsFault::NoEffect {
+            idle: Setting::Stages,
+            mode: Mode::Check,
+        }),
     ),
 ];
 

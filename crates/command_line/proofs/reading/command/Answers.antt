@@ -3,7 +3,7 @@ use Rattle.clap.specs.Words.{App, app_of, with_rule}
 use Rattle.clap.specs.Simple.{app_of_fields}
 use Rattle.std.proofs.lemmas.Result.{IfOk-weaker}
 use Rattle.command_line.specs.Command.{versioned}
-use Rattle.command_line.proofs.options.command.Goals as goal
+use Rattle.command_line.proofs.reading.command.Goals as goal
 
 pub returns : goal.returns
 returns c =
