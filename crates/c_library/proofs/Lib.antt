@@ -1,0 +1,3 @@
+pub mod Begun
+mod Examples
+pub mod Limited
