@@ -328,8 +328,8 @@ fn tell<S: Sink>(
 // Writes why no source is run, or the text that is asked for, and answers the exit status.
 #[tactic(auto, using(crate::proofs::Told::told_text))]
 fn tell_no_run<O: Write + Drop, S: Sink>(no_run: NoRun<'_>, out: O, err: &mut S) -> u8
-    ensures status { IsStatusOf no_run result }
-    ensures line { IfSome (line_of_none no_run result)
+    ensures status { IsStatusOf no_run.entry result }
+    ensures line { IfSome (line_of_none no_run.entry result)
         (λ line. IsTold line (S.told err.old) (S.told err.new)) }
 {
     match no_run {
@@ -363,7 +363,6 @@ fn tell_fault<S: Sink>(fault: OptionsFault<'_>, err: &mut S) {
 }
 
 // Writes that no rule and no fault has a name.
-#[tactic(auto, using(crate::proofs::Told::told_no_rule))]
 fn tell_no_rule<S: Sink>(name: &str, err: &mut S)
     ensures { IsTold (no_rule_line name.now) (S.told err.old) (S.told err.new) }
 {
