@@ -84,10 +84,10 @@ pub fn see_alone<R: Abort + Threads + Wait + Sync>(
 pub const SOURCE: &str =
     "      INTEGER A(8),K(8)\n      DATA K/3,1,4,8,5,2,7,6/\n      DO 10 I=1,8\n   10 A(K(I))=I\n      END\n";
 
-/// The cells behind each block of two trips.
+/// The cells in front of the stage, where I has its first value, and behind each block of two trips.
 pub const STATES: &[State] = &[
     State {
-        cells: &[0, 0, 0, 0, 0, 0, 0, 0, 0, 3, 1, 4, 8, 5, 2, 7, 6],
+        cells: &[1, 0, 0, 0, 0, 0, 0, 0, 0, 3, 1, 4, 8, 5, 2, 7, 6],
         turns: 0,
     },
     State {

@@ -184,7 +184,7 @@ fn refused_blocks_are_lost(rt: HostRuntime) {
 /// Each element from two before, in six blocks of one trip. The third block exposes what the first one writes. I has cell 0, A 1 to 8.
 const TWO_BEFORE: &[State] = &[
     State {
-        cells: &[0, 0, 0, 0, 0, 0, 0, 0, 0],
+        cells: &[3, 0, 0, 0, 0, 0, 0, 0, 0],
         turns: 0,
     },
     State {
