@@ -15,7 +15,7 @@ use whole_runs::{Advance, Remaining};
 pub struct Staged<'w, F, W: Watcher> {
     /// What is called.
     pub call: F,
-    /// Who is told of a fault that ends the program.
+    /// Who is told of DO statements without trips, and of a fault that ends the program.
     pub watcher: &'w W,
 }
 
@@ -41,6 +41,10 @@ impl<
         turns: &mut u64,
     ) -> Advance {
         (self.call)(program, repeated, repeat, remaining, cells, turns)
+    }
+
+    fn without_trips(&self, line: u32) {
+        self.watcher.reached(line, 0);
     }
 
     fn faulted(&self, program: &Program, fault: Fault, cells: &Whole) {

@@ -45,6 +45,9 @@ pub trait QuietLoops {
             (cells.new ≡ cells.old) × (turns.new ≡ turns.old) }
         ensures len { length cells.new ≡ length cells.old };
 
+    /// Takes note of a DO statement whose range writes nothing and that has no trips, where it is executed. It changes nothing.
+    fn without_trips(&self, line: u32) {}
+
     /// Takes note of a fault that ended the program. It is called once, behind the fault, with the cells as that left them, and changes
     /// nothing: the run ends as it would without it.
     fn faulted(&self, program: &Program, fault: Fault, cells: &Whole) {}

@@ -24,12 +24,12 @@ struct Row {
 }
 
 const ROWS: &[Row] = &[
-    // No trip, of which nothing is told.
+    // No trip.
     Row {
         source: "      DO 10 I=5,1\n   10 J=1\n      END\n",
         block: 2,
         entered: 0,
-        told: "  TURNS IN COMMITTED BLOCKS 0 OF 1\n",
+        told: "  LOOP LINE 1 REACHED 1 TRIPS 0 INORDER 0 STAGES 0 RUN 0 COMMITTED 0 DROPPED 0 LOST 0 CUT DEPENDENCE 0 EXIT 0 TURNS 0 LOSS 0\n  TURNS IN COMMITTED BLOCKS 0 OF 1\n",
     },
     // Two blocks of 120,000 turns.
     Row {
