@@ -1,12 +1,9 @@
 //! Tests of running that can't be asked of the program as it is built, by `tests/run` and
 //! `run_programs`: where records go; plans; the codes that are kept of statements; what a fault in
-//! a list leaves; consecutive members of a list; whole runs in order, and by plans; loops by
-//! stages, step by step, and what is told of them; which plan and file a command line names; and
-//! the program over readers and writers that fail.
+//! a list leaves; consecutive members of a list; whole runs in order, and by plans; and loops by
+//! stages, step by step, and what is told of them.
 #![tactic(auto)]
 
-#[cfg(test)]
-mod command;
 #[cfg(test)]
 mod kept;
 #[cfg(test)]
