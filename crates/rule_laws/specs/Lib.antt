@@ -1,0 +1,6 @@
+pub mod Units
+pub mod Lawful
+pub mod References
+pub mod Evaluated
+pub mod Sized
+pub mod Read
