@@ -1,0 +1,45 @@
+-- What breaks a rule K at a statement behind others (ANSI X3.9-1978, 3.4, 4.1.2, 5.4.2 and chapter 15). Of several things the
+-- first is told, in the order in which the rule's own definition has them.
+use Rattle.std.specs.Prelude.{ℕ, ◌++◌, Bool, List, [], option_map, Option, Some, None}
+use Rattle.std.specs.List.{find}
+use Rattle.meaning.specs.declared.refusal.Rule.{Rule}
+use Rattle.meaning.specs.declared.refusal.Rule.TheVariants.{K1, K3, K8, K13}
+use Rattle.meaning.specs.LabelRules.{has_label}
+use Rattle.meaning.specs.NameRules.{is_real, is_real_use, is_unknown_function, names_defined, names_used}
+use Rattle.meaning.specs.Syntax.{ItemTree, ShapeTree}
+use Rattle.meaning.specs.Trees.{Nested, flatten}
+use Rattle.meaning.specs.Types.{has_implicit_none}
+use Rattle.meaning.specs.Uses.{Roles, is_defining, roles_of}
+use Rattle.name_uses.specs.UsesIn.{reads_in, uses_in}
+use Rattle.culprits.specs.Counts.{miscounted_in}
+use Rattle.culprits.specs.Placing.{at_line}
+use Rattle.culprits.specs.Told.{Told, repeated, real, unknown}
+
+-- K1: the label of the statement, and the first statement before it that has it
+abbrev pub repeated_in : List ItemTree → Option ℕ → Option Told
+repeated_in before None = None
+repeated_in before (Some s) = option_map (λ y. repeated s y.line) (find (has_label s) before)
+
+-- K3: the names that a statement defines, and then those that it uses as what is no function
+abbrev pub names_in : Roles → Bool → ShapeTree → List (List ℕ)
+names_in r defines s = names_defined r defines s ++ names_used (is_real_use r) (uses_in r defines s)
+
+-- the first that is REAL, or without a type under IMPLICIT NONE
+abbrev pub real_in : Roles → Bool → Bool → ShapeTree → Option Told
+real_in r without_letters defines s = option_map (λ n. real n without_letters) (find (is_real r) (names_in r defines s))
+
+-- K13: the first reference to a function that isn't in the table
+abbrev pub unknown_in : Roles → Bool → ShapeTree → Option Told
+unknown_in r defines s = option_map (λ u. unknown u.name) (find (is_unknown_function r) (reads_in r defines s))
+
+-- ---- all of them: what breaks a rule at a statement of a program unit, of which these come before it; of the other rules nothing is
+-- told
+abbrev pub culprit_in : Rule → List ItemTree → List ItemTree → ItemTree → Option Told
+culprit_in K1 all before x = repeated_in before x.label
+culprit_in K3 all before x = real_in (roles_of all) (has_implicit_none all) (is_defining (roles_of all) before x) x.shape
+culprit_in K8 all before x = miscounted_in (roles_of all) (is_defining (roles_of all) before x) x.shape
+culprit_in K13 all before x = unknown_in (roles_of all) (is_defining (roles_of all) before x) x.shape
+culprit_in rule all before x = None
+
+abbrev pub culprit_at : Rule → ℕ → Nested → Option Told
+culprit_at rule line t = at_line (culprit_in rule (flatten t)) line [] (flatten t)

@@ -1,0 +1,7 @@
+pub mod Told
+pub mod Finding
+pub mod Placing
+pub mod Counts
+pub mod Culprits
+pub mod Witness
+pub mod Texts

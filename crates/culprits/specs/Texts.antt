@@ -1,0 +1,36 @@
+-- What is told of a broken rule, as text.
+use Rattle.std.specs.Prelude.{ℕ, ◌++◌, Bool, true, false, List, codes, ◌==◌, if◌then◌else◌, Option, Some, None}
+use Rattle.std.specs.Fmt.{decimal}
+use Rattle.culprits.specs.declared.culprit.Wanted.{Wanted}
+use Rattle.culprits.specs.declared.culprit.Wanted.TheVariants.{Subscripts, Arguments, ArgumentsOrMore}
+use Rattle.culprits.specs.Told.{Told, repeated, real, miscounted, unknown}
+
+-- why a name has no type of the profile (4.1.2; IMPLICIT NONE is own)
+abbrev pub untyped_text : Bool → List ℕ
+untyped_text true = codes " has no type, and IMPLICIT NONE wants one"
+untyped_text false = codes " is REAL, by its first letter"
+
+abbrev pub wanted_text : Wanted → List ℕ
+wanted_text (Subscripts n) = decimal n ++ (if n == 1 then codes " subscript" else codes " subscripts")
+wanted_text (Arguments n) = decimal n ++ (if n == 1 then codes " argument" else codes " arguments")
+wanted_text (ArgumentsOrMore n) = decimal n ++ codes " arguments or more"
+
+abbrev pub given_text : Option ℕ → List ℕ
+given_text None = codes "none"
+given_text (Some n) = decimal n
+
+abbrev pub miscounted_text : List ℕ → Wanted → Option ℕ → List ℕ
+miscounted_text name wanted given = name ++ codes " wants " ++ wanted_text wanted ++ codes " and has " ++ given_text given
+
+abbrev pub told_text : Told → List ℕ
+told_text (repeated label line) = codes "label " ++ decimal label ++ codes " stands at line " ++ decimal line ++ codes " too"
+told_text (real name without_letters) = name ++ untyped_text without_letters
+told_text (miscounted name wanted given) = miscounted_text name wanted given
+told_text (unknown name) = name ++ codes " is neither an array nor a function"
+
+-- the name that it is about, if it is about one
+abbrev pub word_of : Told → Option (List ℕ)
+word_of (repeated label line) = None
+word_of (real name without_letters) = Some name
+word_of (miscounted name wanted given) = Some name
+word_of (unknown name) = Some name

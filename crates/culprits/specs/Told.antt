@@ -1,0 +1,26 @@
+-- What is told of a broken rule K: what breaks it.
+use Rattle.std.specs.Prelude.{ℕ, Bool, List, Option, option_map}
+use Rattle.culprits.specs.declared.culprit.Culprit.{Culprit}
+use Rattle.culprits.specs.declared.culprit.Culprit.TheVariants as culprits
+use Rattle.culprits.specs.declared.culprit.Wanted.{Wanted}
+
+pub data Told : Type 0 where
+  -- K1: a label, and the line of an earlier statement that has it
+  repeated : ℕ → ℕ → Told
+  -- K3: a name, and whether IMPLICIT NONE stands
+  real : List ℕ → Bool → Told
+  -- K8: a name, how many subscripts or arguments it wants, and how many it has, if it has parentheses
+  miscounted : List ℕ → Wanted → Option ℕ → Told
+  -- K13: the name of a function
+  unknown : List ℕ → Told
+
+-- what a value of the Rust type stands for
+abbrev pub told_at : Culprit → Told
+told_at (culprits.Repeated label earlier) = repeated label earlier
+told_at (culprits.Real name without_letters) = real name.now without_letters
+told_at (culprits.Miscounted name wanted given) = miscounted name.now wanted given
+told_at (culprits.Unknown name) = unknown name.now
+
+-- what is told, if anything is
+abbrev pub tell : Option Culprit → Option Told
+tell c = option_map told_at c

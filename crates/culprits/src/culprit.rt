@@ -1,0 +1,55 @@
+//! What breaks a rule.
+
+ghost use Rattle.std.specs.Prelude.{◌≡◌, option_map};
+
+/// How many subscripts or arguments a name wants.
+#[derive(Clone, Copy, Debug, PartialEq, Eq)]
+pub enum Wanted {
+    Subscripts(usize),
+    Arguments(usize),
+    /// So many arguments, or more.
+    ArgumentsOrMore(usize),
+}
+
+/// What breaks a rule K at a statement.
+#[derive(Clone, Copy)]
+pub enum Culprit<'a> {
+    /// K1: the statement's label, and the line of the first statement before it that has it (ANSI X3.9-1978, 3.4).
+    Repeated {
+        label: u32,
+        earlier: u32,
+    },
+    /// K3: a name of type REAL, or, where IMPLICIT NONE stands, one without a type (4.1.2).
+    Real {
+        name: &'a [u8],
+        without_letters: bool,
+    },
+    /// K8: a name that wants another number of subscripts or arguments than there are; none are given where it stands without
+    /// parentheses (5.4.2, 15.3 and 15.4).
+    Miscounted {
+        name: &'a [u8],
+        wanted: Wanted,
+        given: Option<usize>,
+    },
+    /// K13: a name that is referred to as a function and is none (15.2).
+    Unknown {
+        name: &'a [u8],
+    },
+}
+
+impl<'a> Culprit<'a> {
+    ghost use Rattle.culprits.specs.Told.{told_at};
+    ghost use Rattle.culprits.specs.Texts.{word_of};
+
+    /// The name that it is about, for `place_of`; none where it is about no name.
+    pub fn word(self) -> Option<&'a [u8]>
+        ensures { option_map (λ w. w.now) result ≡ word_of (told_at self.entry) }
+    {
+        match self {
+            Culprit::Repeated { .. } => None,
+            Culprit::Real { name, .. } => Some(name),
+            Culprit::Miscounted { name, .. } => Some(name),
+            Culprit::Unknown { name } => Some(name),
+        }
+    }
+}

@@ -1,0 +1,16 @@
+//! What breaks a rule K at a statement of a program unit (ANSI X3.9-1978, chapters 2 to 15), for whoever tells people of it.
+#![tactic(auto)]
+
+mod asked;
+mod counts;
+mod culprit;
+mod finding;
+mod labels;
+mod laws;
+mod names;
+mod text;
+
+pub use asked::culprit_of;
+pub use culprit::{Culprit, Wanted};
+pub use laws::tells_witnesses;
+pub use text::add_text;

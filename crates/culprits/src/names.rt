@@ -1,0 +1,234 @@
+//! Names of type REAL, and functions that aren't known (ANSI X3.9-1978, 4.1.2, 4.4 and 15.2).
+
+ghost use Rattle.std.specs.Prelude.{◌≡◌, ◌++◌, [], Some, option_map, if◌then◌else◌, IfOk};
+ghost use Rattle.std.specs.List.{find};
+ghost use Rattle.meaning.specs.NameRules.{function_names, is_real as is_real_by, is_real_use, is_unknown_function, names_defined, names_used};
+ghost use Rattle.meaning.specs.Scopes.{defined_by as definition_by};
+ghost use Rattle.meaning.specs.Syntax.{exprs_tree, shape_tree};
+ghost use Rattle.meaning.specs.Types.{has_implicit_none};
+ghost use Rattle.roles.specs.Functions.{definition_at};
+ghost use Rattle.roles.specs.Listed.{trees_at};
+ghost use Rattle.roles.specs.RolesAt.{roles_at};
+ghost use Rattle.name_uses.specs.NamesIn.{constant, declared, valued};
+ghost use Rattle.name_uses.specs.UsesAt.{uses_at};
+ghost use Rattle.culprits.specs.Culprits.{real_in, unknown_in};
+ghost use Rattle.culprits.specs.Finding.{dummy_names_in, name_if};
+ghost use Rattle.culprits.specs.Told.{tell};
+
+use crate::culprit::Culprit;
+use crate::finding::first_passing;
+use meaning::syntax::{Declarator, Expr, Exprs, NamedConstant, Shape};
+use name_uses::{Arguments, NameUse, Sought, is_function_use, reads_of, uses_of};
+use roles::{
+    Function, Roles, declarators_in, defined_by, is_implicit_none, is_intrinsic, is_other_name,
+    type_of_name,
+};
+use std::alloc::{AllocError, Global};
+
+/// Whether a name is that of data of type REAL.
+fn is_real(roles: &Roles, name: &[u8]) -> bool
+    ensures { result ≡ is_real_by (roles_at roles.now) name.now }
+{
+    type_of_name(roles, name).is_none()
+}
+
+/// The first of the constants that is.
+fn first_constant<'a>(roles: &Roles, constants: &'a [NamedConstant]) -> Option<&'a [u8]>
+    ensures { name_if result ≡ find (is_real_by (roles_at roles.now)) (constant constants.now) }
+{
+    for constant in constants {
+        if is_real(roles, &constant.name) {
+            return Some(constant.name.as_slice());
+        }
+    }
+    None
+}
+
+/// The first of the constants that a statement defines that is.
+fn first_valued<'a>(roles: &Roles, shape: &'a Shape) -> Option<&'a [u8]>
+    ensures { name_if result ≡ find (is_real_by (roles_at roles.now)) (valued (shape_tree shape.now)) }
+{
+    match shape {
+        Shape::Parameter(constants) => first_constant(roles, constants),
+        _ => None,
+    }
+}
+
+/// The first of the names in a type or DIMENSION statement that is.
+fn first_declared<'a>(roles: &Roles, declarators: &'a [Declarator]) -> Option<&'a [u8]>
+    ensures { name_if result ≡ find (is_real_by (roles_at roles.now)) (declared declarators.now) }
+{
+    for declarator in declarators {
+        if is_real(roles, &declarator.name) {
+            return Some(declarator.name.as_slice());
+        }
+    }
+    None
+}
+
+/// The first of the dummies that is.
+fn first_dummy<'a>(roles: &Roles, dummies: &'a Exprs) -> Option<&'a [u8]>
+    ensures { name_if result ≡ find (is_real_by (roles_at roles.now)) (dummy_names_in (exprs_tree dummies.now)) }
+{
+    match dummies {
+        Exprs::Empty => None,
+        Exprs::More(dummy, rest) => match dummy {
+            Expr::Name(name) => {
+                if is_real(roles, name) {
+                    Some(name.as_slice())
+                } else {
+                    first_dummy(roles, rest)
+                }
+            }
+            _ => first_dummy(roles, rest),
+        },
+    }
+}
+
+/// The first that is, of a statement function and its dummies.
+fn first_of_function<'a>(roles: &Roles, function: Function<'a>) -> Option<&'a [u8]>
+    ensures { name_if result ≡ find (is_real_by (roles_at roles.now)) (function_names (Some (definition_at function.entry))) }
+{
+    if is_real(roles, function.name) {
+        return Some(function.name);
+    }
+    match function.dummies {
+        Some(dummies) => first_dummy(roles, dummies),
+        None => None,
+    }
+}
+
+/// The first that is, of the statement function that a statement defines and its dummies.
+fn first_defined<'a>(roles: &Roles, defines: bool, shape: &'a Shape) -> Option<&'a [u8]>
+    ensures { name_if result ≡ find (is_real_by (roles_at roles.now)) (if defines then function_names (definition_by (roles_at roles.now).names.arrays (shape_tree shape.now)) else []) }
+{
+    if !defines {
+        return None;
+    }
+    match defined_by(&roles.ranks, shape) {
+        Some(function) => first_of_function(roles, function),
+        None => None,
+    }
+}
+
+/// The first of the names that a statement defines that is.
+
+fn first_given<'a>(roles: &Roles, defines: bool, shape: &'a Shape) -> Option<&'a [u8]>
+    ensures { name_if result ≡ find (is_real_by (roles_at roles.now)) (names_defined (roles_at roles.now) defines (shape_tree shape.now)) }
+{
+    if let Some(name) = first_valued(roles, shape) {
+        return Some(name);
+    }
+    if let Some(name) = first_declared(roles, declarators_in(shape)) {
+        return Some(name);
+    }
+    first_defined(roles, defines, shape)
+}
+
+/// A use of a variable, an array, a constant or a statement function of type REAL.
+#[derive(Clone, Copy)]
+struct Real<'a> {
+    roles: &'a Roles<'a>,
+}
+
+impl Sought for Real<'_> {
+    ghost is_use = { λ s u. is_real_use (roles_at s.roles.now) u };
+
+    fn is(&self, one: &NameUse) -> bool {
+        if !is_real(self.roles, one.name) {
+            return false;
+        }
+        match one.arguments {
+            Arguments::Bare => true,
+            Arguments::Without => !is_other_name(self.roles, one.name),
+            Arguments::With(_) => !is_other_name(self.roles, one.name),
+        }
+    }
+}
+
+/// The first of the names in these uses that is.
+#[tactic(auto, using(crate::proofs::Naming::used_first))]
+fn first_used<'a>(roles: &Roles, uses: &[NameUse<'a>]) -> Option<&'a [u8]>
+    ensures { name_if result ≡ find (is_real_by (roles_at roles.now)) (names_used (is_real_use (roles_at roles.now)) (uses_at uses.now)) }
+{
+    match first_passing(uses, &Real { roles }) {
+        Some(one) => Some(one.name),
+        None => None,
+    }
+}
+
+/// The first of the names that a statement defines and of these uses that is.
+fn first_real<'a>(
+    roles: &Roles,
+    defines: bool,
+    shape: &'a Shape,
+    uses: &[NameUse<'a>],
+) -> Option<&'a [u8]>
+    ensures { name_if result ≡ find (is_real_by (roles_at roles.now)) (names_defined (roles_at roles.now) defines (shape_tree shape.now) ++ names_used (is_real_use (roles_at roles.now)) (uses_at uses.now)) }
+{
+    match first_given(roles, defines, shape) {
+        Some(name) => Some(name),
+        None => first_used(roles, uses),
+    }
+}
+
+/// Whether one of the statements is IMPLICIT NONE.
+fn is_without_letters(roles: &Roles) -> bool
+    ensures { result ≡ has_implicit_none (trees_at roles.now.items.now) }
+{
+    for item in roles.items {
+        if is_implicit_none(&*item.form.shape) {
+            return true;
+        }
+    }
+    false
+}
+
+/// K3: the first name in a statement that is of type REAL; the statement defines a statement function or doesn't.
+pub fn real_name<'a>(
+    alloc: Global,
+    roles: &Roles,
+    defines: bool,
+    shape: &'a Shape,
+) -> Result<Option<Culprit<'a>>, AllocError>
+    ensures { IfOk result (λ c. tell c ≡ real_in (roles_at roles.now) (has_implicit_none (trees_at roles.now.items.now)) defines (shape_tree shape.now)) }
+{
+    let uses = uses_of(alloc, roles, defines, shape)?;
+    match first_real(roles, defines, shape, &uses) {
+        None => Ok(None),
+        Some(name) => Ok(Some(Culprit::Real {
+            name,
+            without_letters: is_without_letters(roles),
+        })),
+    }
+}
+
+/// A reference to a function that isn't known.
+#[derive(Clone, Copy)]
+struct Unknown<'a> {
+    roles: &'a Roles<'a>,
+}
+
+impl Sought for Unknown<'_> {
+    ghost is_use = { λ s u. is_unknown_function (roles_at s.roles.now) u };
+
+    fn is(&self, one: &NameUse) -> bool {
+        is_function_use(self.roles, one) && !is_intrinsic(one.name)
+    }
+}
+
+/// K13: the first function in a statement that isn't known.
+pub fn unknown_function<'a>(
+    alloc: Global,
+    roles: &Roles,
+    defines: bool,
+    shape: &'a Shape,
+) -> Result<Option<Culprit<'a>>, AllocError>
+    ensures { IfOk result (λ c. tell c ≡ unknown_in (roles_at roles.now) defines (shape_tree shape.now)) }
+{
+    let reads = reads_of(alloc, roles, defines, shape)?;
+    match first_passing(&reads, &Unknown { roles }) {
+        None => Ok(None),
+        Some(one) => Ok(Some(Culprit::Unknown { name: one.name })),
+    }
+}
