@@ -1,0 +1,5 @@
+pub mod Patterns
+pub mod Views
+pub mod Forms
+pub mod Rows
+pub mod Faults
