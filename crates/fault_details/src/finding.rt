@@ -7,53 +7,63 @@ use crate::detail::{Detail, Stop};
 use crate::evaluation::Scene;
 use crate::given::Given;
 use crate::statement::execute;
+use crate::steady::are_limits_steady;
 use expressions::Numbering;
 use meaning::ending::{Fault, FaultKind};
-use meaning::syntax::{Arm, Item, Member, Shape};
+use meaning::syntax::{Arm, Item, Loop, Member, Shape};
 use numbering::Program;
 
-// What a statement says, if it begins at a line.
-fn shape_at(item: &Item, line: u32) -> Option<&Shape> {
+// A statement: the DO statement or DO WHILE of a range, or another one.
+enum Found<'a> {
+    Head(&'a Loop),
+    Other(&'a Shape),
+}
+
+// A statement that is no DO statement, if it begins at a line.
+fn other_at(item: &Item, line: u32) -> Option<Found<'_>> {
     if item.line == line {
-        Some(&*item.form.shape)
+        Some(Found::Other(&item.form.shape))
     } else {
         None
     }
 }
 
-// What the statement of a member that begins at a line says.
+// The statement of a member that begins at a line.
 #[cycle(finding)]
-fn shape_in(member: &Member, line: u32) -> Option<&Shape> {
+fn found_in(member: &Member, line: u32) -> Option<Found<'_>> {
     match member {
-        Member::Plain(item) => shape_at(item, line),
-        Member::Loop(repeated) => match shape_at(&repeated.head, line) {
-            Some(shape) => Some(shape),
-            None => shape_among(&repeated.range, line),
-        },
-        Member::Block(block) => shape_in_arms(&block.arms, line),
+        Member::Plain(item) => other_at(item, line),
+        Member::Loop(repeated) => {
+            if repeated.head.line == line {
+                Some(Found::Head(repeated))
+            } else {
+                found_among(&repeated.range, line)
+            }
+        }
+        Member::Block(block) => found_in_arms(&block.arms, line),
     }
 }
 
-// What the statement of a list that begins at a line says.
+// The statement of a list that begins at a line.
 #[cycle(finding)]
-fn shape_among(members: &[Member], line: u32) -> Option<&Shape> {
+fn found_among(members: &[Member], line: u32) -> Option<Found<'_>> {
     for member in members {
-        if let Some(shape) = shape_in(member, line) {
-            return Some(shape);
+        if let Some(found) = found_in(member, line) {
+            return Some(found);
         }
     }
     None
 }
 
-// What the statement of arms that begins at a line says.
+// The statement of arms that begins at a line.
 #[cycle(finding)]
-fn shape_in_arms(arms: &[Arm], line: u32) -> Option<&Shape> {
+fn found_in_arms(arms: &[Arm], line: u32) -> Option<Found<'_>> {
     for arm in arms {
-        if let Some(shape) = shape_at(&arm.head, line) {
-            return Some(shape);
+        if let Some(found) = other_at(&arm.head, line) {
+            return Some(found);
         }
-        if let Some(shape) = shape_among(&arm.body, line) {
-            return Some(shape);
+        if let Some(found) = found_among(&arm.body, line) {
+            return Some(found);
         }
     }
     None
@@ -73,6 +83,20 @@ fn of_kind<'a>(kind: FaultKind, stop: Stop<'a>, program: &Program) -> Option<Det
     }
 }
 
+// What a statement says, where evaluating it now meets the fault that it met. F2 may be that of the addition to a DO variable, when the
+// range had set what the limits are made of.
+fn shape_of<'a>(found: Found<'a>, kind: FaultKind, program: &Program) -> Option<&'a Shape> {
+    match found {
+        Found::Head(repeated) => {
+            if kind == FaultKind::F2 && !are_limits_steady(repeated, program) {
+                return None;
+            }
+            Some(&repeated.head.form.shape)
+        }
+        Found::Other(shape) => Some(shape),
+    }
+}
+
 /// What a fault of a program was about, by the values of the cells as it left them. None where that can't be found by evaluating
 /// the statement once more: within a statement function or an implied DO, where a value was changed since, or where the fault is
 /// none of an expression.
@@ -86,7 +110,8 @@ pub fn detail_of<'a>(program: &'a Program, fault: Fault, cells: &'a [i32]) -> Op
         dummies: None,
         arguments: Given::none(),
     };
-    let shape = shape_among(&program.tree().body, fault.line)?;
+    let found = found_among(&program.tree().body, fault.line)?;
+    let shape = shape_of(found, fault.kind, program)?;
     match execute(shape, &scene) {
         Ok(()) => None,
         Err(stop) => of_kind(fault.kind, stop, program),

@@ -11,6 +11,7 @@ mod finding;
 mod given;
 mod output;
 mod statement;
+mod steady;
 mod subscripts;
 mod text;
 
