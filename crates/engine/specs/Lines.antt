@@ -1,11 +1,10 @@
 -- The lines on standard error.
-use Rattle.std.specs.Prelude.{◌≡◌, ◌⊎◌, ℕ, Bool, true, false, List, [], ◌∷◌, ◌++◌, Option, None, Some, codes, decimal, map, ◌==◌, if◌then◌else◌}
+use Rattle.std.specs.Prelude.{ℕ, Bool, true, false, List, [], ◌∷◌, ◌++◌, Option, None, Some, codes, decimal, map, ◌==◌, if◌then◌else◌}
 use Rattle.meaning.specs.declared.ending.Ending.{Ending}
 use Rattle.meaning.specs.declared.ending.Ending.TheVariants as endings
 use Rattle.meaning.specs.declared.ending.Report.{Report}
 use Rattle.meaning.specs.Names.{fault_name, rule_name}
-use Rattle.meaning.specs.Promise.{Told, Took, IsBroken}
-use Rattle.engine.specs.Explained.{shown}
+use Rattle.messages.specs.Shown.{shown}
 use Rattle.engine.specs.declared.running.NoRun.{NoRun}
 use Rattle.engine.specs.declared.running.NoRun.TheVariants as no_runs
 
@@ -56,8 +55,3 @@ line_of_none (no_runs.NoSuchRule name) status = Some (no_rule_line name.now)
 line_of_none (no_runs.Faulty fault) status = None
 line_of_none no_runs.Memory status = Some (line_of endings.Memory)
 line_of_none no_runs.FileRefused status = Some (codes "FILE REFUSED\n")
-
--- a sink took all of the bytes, or a beginning of them and then refused; one that had refused took none
-pub record IsTold (bytes : List ℕ) (old new : Told) : Type 0 where
-  pub tried : old.refused ≡ false → Took old new bytes ⊎ IsBroken bytes old new
-  pub over : old.refused ≡ true → Took old new []

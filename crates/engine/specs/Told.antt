@@ -1,6 +1,5 @@
 -- What is told of a run, or of a check, on standard error.
-use Rattle.std.specs.Prelude.{◌≡◌, ◌⊎◌, ℕ, Bool, true, false, ◌&&◌, not, List, [], ◌++◌, Option, Ok, Err, codes}
-use Rattle.std.specs.List.{flat_map}
+use Rattle.std.specs.Prelude.{◌≡◌, ◌⊎◌, ℕ, Bool, false, ◌&&◌, not, List, [], ◌∷◌, ◌++◌, Option, Some, Ok, Err, codes}
 use Rattle.meaning.specs.declared.ending.Ending.{Ending}
 use Rattle.meaning.specs.declared.ending.Ending.TheVariants as endings
 use Rattle.meaning.specs.declared.ending.Report.{Report}
@@ -15,19 +14,20 @@ use Rattle.further_rules.specs.Further.{AreFurther}
 use Rattle.loop_reports.specs.declared.row.Row.{Row}
 use Rattle.loop_reports.specs.Lines.{loop_lines}
 use Rattle.command_line.specs.declared.asked.Options.{Options}
-use Rattle.engine.specs.declared.explaining.Matter.{Matter}
-use Rattle.engine.specs.Explained.{IsDetail, IsMatter, explanation}
-use Rattle.engine.specs.Lines.{IsTold, line_at, lines_of}
+use Rattle.messages.specs.declared.explaining.Matter.{Matter}
+use Rattle.messages.specs.declared.hinting.Cause.TheVariants as causes
+use Rattle.messages.specs.Explained.{IsMatter, IsRuleMatter}
+use Rattle.messages.specs.Named.{file_named}
+use Rattle.messages.specs.Hinted.{IsHinted, cause_of}
+use Rattle.messages.specs.Shown.{Given, IsTold}
+use Rattle.engine.specs.Explained.{Explains, IsExplained}
+use Rattle.engine.specs.Lines.{line_at, lines_of}
 
 -- where a growth was refused for what was to be told
 abbrev pub not_told : List ℕ
 not_told = codes "  NOT TOLD\n"
 
 -- ---- what is wanted
-
-abbrev pub given : Bool → List ℕ → List ℕ
-given true lines = lines
-given false lines = []
 
 -- stages are told of a run, but for one whose records were refused
 abbrev pub is_staged : Options → Ending → Bool
@@ -39,21 +39,25 @@ abbrev pub is_further : Options → Ending → Bool
 is_further asked (endings.Refused rule line) = asked.check
 is_further asked ending = false
 
--- where they are wanted, lines of which that holds
-abbrev pub Adds : Bool → (List ℕ → Type 0) → Told → Told → Type 0
-Adds wanted P old new = (lines : List ℕ) × P lines × IsTold (given wanted lines) old new
-
 -- ---- further rules
 
--- a pair that is told behind the least one
-abbrev pub also_line : Broken → List ℕ
-also_line b = line_at (codes "  ALSO ") (rule_name b.rule) b.line
+-- what is told of a pair behind the least one
+abbrev pub IsPair : Bool → List ℕ → List ℕ → Broken → List ℕ → Type 0
+IsPair explain file source b lines =
+    (matter : Matter) × IsRuleMatter b.rule b.line matter
+    × ((more : List ℕ) × (hint : List ℕ) × Given explain (IsExplained file source matter) more
+    × Given explain (IsHinted source (Some (causes.Rule b.rule b.line))) hint
+    × (lines ≡ line_at (codes "  ALSO ") (rule_name b.rule) b.line ++ more ++ hint))
 
-abbrev pub also_lines : List Broken → List ℕ
-also_lines bs = flat_map also_line bs
+-- one behind the other
+abbrev pub ArePairs : Bool → List ℕ → List ℕ → List Broken → List ℕ → Type 0
+ArePairs explain file source [] lines = lines ≡ []
+ArePairs explain file source (b ∷ bs) lines =
+    (first : List ℕ) × (behind : List ℕ) × IsPair explain file source b first × ArePairs explain file source bs behind × (lines ≡ first ++ behind)
 
-abbrev pub AreAlso : List ℕ → List ℕ → Type 0
-AreAlso source lines = (lines ≡ not_told) ⊎ ((pairs : List Broken) × AreFurther source pairs × (lines ≡ also_lines pairs))
+abbrev pub AreAlso : Bool → List ℕ → List ℕ → List ℕ → Type 0
+AreAlso explain file source lines =
+    (lines ≡ not_told) ⊎ ((pairs : List Broken) × AreFurther source pairs × ArePairs explain file source pairs lines)
 
 -- ---- stages
 
@@ -66,22 +70,18 @@ abbrev pub AreStages : List ℕ → Option ℕ → List ℕ → Type 0
 AreStages source turns lines =
     (lines ≡ not_told) ⊎ ((names : List Named) × IsNamedBy source names × ((rows : List (ℕ × Row)) × (lines ≡ loop_lines names rows turns)))
 
--- ---- what there is to explain
-
-abbrev pub ExplainsBy : Bool → List ℕ → Option Matter → Told → Told → Type 0
-ExplainsBy wanted source matter old new =
-    (detail : List ℕ) × IsDetail detail × IsTold (explanation wanted source matter detail) old new
-
 -- ---- all of it
 
 -- the ending and the turns, what became of DO statements by stages, what there is to explain, and further broken rules
 pub record AreTold (report : Report) (asked : Options) (source : List ℕ) (old new : Told) : Type 0 where
   pub stages : List ℕ
   pub matter : Option Matter
-  pub detail : List ℕ
+  pub explained : List ℕ
+  pub hint : List ℕ
   pub further : List ℕ
-  pub are_stages : AreStages source report.turns stages
+  pub are_stages : Given (is_staged asked report.ending) (AreStages source report.turns) stages
   pub is_matter : IsMatter report.ending matter
-  pub is_detail : IsDetail detail
-  pub are_further : AreAlso source further
-  pub told : IsTold (lines_of asked.count report ++ given (is_staged asked report.ending) stages ++ explanation asked.explain source matter detail ++ given (is_further asked report.ending) further) old new
+  pub explains : Given asked.explain (Explains (file_named asked.file) source matter) explained
+  pub hinted : Given asked.explain (IsHinted source (cause_of report.ending)) hint
+  pub are_further : Given (is_further asked report.ending) (AreAlso asked.explain (file_named asked.file) source) further
+  pub told : IsTold (lines_of asked.count report ++ stages ++ explained ++ hint ++ further) old new

@@ -3,9 +3,9 @@
 //! doesn't.
 #![tactic(auto)]
 
-mod explaining;
 mod lines;
 mod notes;
+mod remembering;
 mod running;
 mod telling;
 

@@ -1,12 +1,14 @@
 //! The lines on standard error: of endings, of the turns that a run used, and of what kept a source from being run.
 
 ghost use Rattle.std.specs.Prelude.{codes, ◌++◌, ◌≡◌};
-ghost use Rattle.engine.specs.Lines.{IsTold, behind_stop, line_at, line_of, turns_line};
+ghost use Rattle.messages.specs.Shown.{IsTold};
+ghost use Rattle.engine.specs.Lines.{behind_stop, line_at, line_of, turns_line};
 ghost use Rattle.engine.specs.Status.{status_of};
 
 use itoa::Buffer;
 use meaning::ending::Ending;
-use record_sinks::{Sink, put_all};
+use messages::{put, put_bytes};
+use record_sinks::Sink;
 
 /// Writes the line of an ending, if it has one, and answers the exit status. A line that can't be written changes
 /// nothing.
@@ -53,13 +55,6 @@ pub fn tell_turns<S: Sink>(count: bool, turns: Option<u64>, err: &mut S)
     }
 }
 
-/// Writes a text, unless a write was refused.
-pub fn put<S: Sink>(text: &str, err: &mut S)
-    ensures { IsTold text.now (S.told err.old) (S.told err.new) }
-{
-    put_bytes(text.as_bytes(), err);
-}
-
 // Writes the line of a STOP statement: STOP, and what it tells if that isn't empty.
 #[tactic(auto, using(crate::proofs::Told::told_stop, crate::proofs::Told::told_silent_stop))]
 fn put_stop<S: Sink>(message: &[u8], err: &mut S)
@@ -84,13 +79,4 @@ pub fn put_at<S: Sink>(word: &str, name: &str, line: u32, err: &mut S)
     put(" LINE ", err);
     put(Buffer::new().format(line), err);
     put("\n", err);
-}
-
-/// Writes bytes, unless a write was refused.
-pub fn put_bytes<S: Sink>(bytes: &[u8], err: &mut S)
-    ensures { IsTold bytes.now (S.told err.old) (S.told err.new) }
-{
-    if !err.refused() {
-        let _ = put_all(err, bytes);
-    }
 }

@@ -10,6 +10,7 @@ use programs::Program;
 use std::alloc::{AllocError, Global};
 use std::cell::Cell;
 use std::collections::BTreeMap;
+use std::io;
 
 /// What is noted of a run. What no flag asks for is noted nowhere, and takes no memory.
 #[derive(Drop)]
@@ -19,6 +20,7 @@ pub struct Notes {
     explain: bool,
     loops: Loops,
     detail: Cell<Result<Vec<u8>, AllocError>>,
+    refusal: Cell<Option<io::Error>>,
 }
 
 /// What was noted. The `AllocError` stands where a growth was refused for it.
@@ -39,7 +41,18 @@ impl Notes {
             explain: asked.explain,
             loops: Loops::new(alloc, asked.stages),
             detail: Cell::new(Ok(Vec::new(alloc))),
+            refusal: Cell::new(None),
         }
+    }
+
+    /// Notes why a write was refused, if one was.
+    pub fn note_refusal(&self, refusal: Option<io::Error>) {
+        self.refusal.set(refusal);
+    }
+
+    /// Why a write was refused, if one was.
+    pub fn refusal(&self) -> Option<io::Error> {
+        self.refusal.get()
     }
 
     /// What was noted.
@@ -50,6 +63,7 @@ impl Notes {
             explain: _,
             loops,
             detail,
+            refusal: _,
         } = self;
         Noted {
             rows: loops.into_rows(),

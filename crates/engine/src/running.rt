@@ -2,15 +2,16 @@
 
 ghost use Rattle.std.specs.Prelude.{◌≡◌, ◌⊎◌, IfOk, IfSome};
 ghost use Rattle.engine.specs.declared.running.NoRun.TheVariants.{Memory};
-ghost use Rattle.engine.specs.Lines.{IsTold, line_of_none, no_rule_line};
+ghost use Rattle.messages.specs.Shown.{IsTold};
+ghost use Rattle.engine.specs.Lines.{line_of_none, no_rule_line};
 ghost use Rattle.engine.specs.Source.{SpellsAs};
 ghost use Rattle.engine.specs.Told.{AreTold};
 ghost use Rattle.engine.specs.Status.{IsCheck, IsNamedBy, IsStatusOf, status_of, no_run_for};
 ghost use Rattle.meaning.specs.Answers.{program_of};
 
-use crate::explaining::{Texts, matter_of, put_shown};
-use crate::lines::{put, tell_ending, tell_turns};
+use crate::lines::{tell_ending, tell_turns};
 use crate::notes::{Noted, Notes};
+use crate::remembering::Remembering;
 use crate::telling::{is_further, is_staged, tell_further, tell_matter, tell_stages};
 use command_line::asked::{Options, OptionsFault, Speculation};
 use command_line::help::{HELP, NAMES, VERSION};
@@ -20,6 +21,7 @@ use executor::{Open, Out, Sink, Watched};
 use in_order::program_in;
 use meaning::ending::{Ending, Report};
 use meaning::refusal::Refusal;
+use messages::{Texts, cause_of, file_name, matter_of, put, put_shown, tell_hint};
 use rule_texts::{FaultText, RuleText, fault_named, rule_named};
 use std::alloc::{AllocError, AllocFailed, Global};
 use std::env::Env;
@@ -155,7 +157,7 @@ fn by_options<R: Files + AllocGlobal + Threads + Wait + Sync, I: Read, O: Write 
         Some(name) => tell_no_run(rule_asked(name), out, err),
         None => match source_of(rt, asked.file, input) {
             Ok(source) => by_source(rt, asked, &source, out, err),
-            Err(error) => tell_no_run(unread(&error), out, err),
+            Err(error) => tell_unread(asked, &error, out, err),
         },
     }
 }
@@ -170,7 +172,14 @@ fn by_source<R: AllocGlobal + Threads + Wait + Sync, O: Write + Drop, S: Sink>(
 ) -> u8 {
     let notes = Notes::new(rt.alloc(), asked);
     let report = report_of(rt, asked, source, &notes, out);
-    tell(rt.alloc(), report, asked, source, notes.into_noted(), err)
+    let refusal = notes.refusal();
+    let status = tell(rt.alloc(), report, asked, source, notes.into_noted(), err);
+    if asked.explain {
+        if let Some(error) = refusal {
+            tell_error("<stdout>", &error, err);
+        }
+    }
+    status
 }
 
 // What comes of a source: of its check, where that is asked for, and else of its run.
@@ -250,6 +259,28 @@ fn unread<'a>(error: &io::Error) -> NoRun<'a> {
     }
 }
 
+// Writes that a source couldn't be read, and with --explain which one, and what the system said. Answers the exit status.
+fn tell_unread<O: Write + Drop, S: Sink>(
+    asked: &Options<'_>,
+    error: &io::Error,
+    out: O,
+    err: &mut S,
+) -> u8 {
+    let status = tell_no_run(unread(error), out, err);
+    if asked.explain {
+        tell_error(file_name(asked.file), error, err);
+    }
+    status
+}
+
+// Writes what the system said of a file.
+fn tell_error<S: Sink>(file: &str, error: &io::Error, err: &mut S) {
+    put_shown(file.as_bytes(), err);
+    let mut texts = Texts { sink: err };
+    let _ = write!(texts, ": {error}");
+    put("\n", texts.sink);
+}
+
 // The bytes of the source; a minus sign in place of a file is standard input.
 fn source_of<R: Files + AllocGlobal, I: Read>(
     rt: &R,
@@ -281,7 +312,7 @@ fn run_whole<R: AllocGlobal + Threads + Wait + Sync, O: Write + Drop>(
 ) -> Report {
     let alloc = rt.alloc();
     let plan = &asked.plan;
-    let mut sink = Out::new(out);
+    let mut sink = Out::new(Remembering { out, error: None });
     let report = match asked.speculate {
         Speculation::Adaptive => run_adaptive(rt, alloc, source, plan, &mut sink, &Open, notes),
         Speculation::Always => run_watched(rt, alloc, source, plan, &mut sink, &Open, notes),
@@ -290,7 +321,11 @@ fn run_whole<R: AllocGlobal + Threads + Wait + Sync, O: Write + Drop>(
             run_by(alloc, &quiet_loops, source, plan.turns(), &mut sink)
         }
     };
-    match sink.into_inner().flush() {
+    let mut writer = sink.into_inner();
+    let flushed = writer.flush();
+    notes.note_refusal(writer.error);
+    drop(writer);
+    match flushed {
         Ok(()) => report,
         Err(_) => Report {
             ending: Ending::WriteRefused,
@@ -315,13 +350,16 @@ fn tell<S: Sink>(
     let Report { ending, turns } = report;
     let Noted { rows, detail } = noted;
     let matter = matter_of(&ending);
+    let cause = cause_of(&ending);
     let is_staged = is_staged(asked, &ending);
     let is_further = is_further(asked, &ending);
     let status = tell_ending(ending, err);
     tell_turns(asked.count, turns, err);
     tell_stages(is_staged, alloc, source, rows, turns, err);
-    tell_matter(asked.explain, source, matter, detail, err);
-    tell_further(is_further, alloc, source, err);
+    let file = file_name(asked.file);
+    tell_matter(asked.explain, file, source, matter, detail, err);
+    tell_hint(asked.explain, alloc, source, cause, err);
+    tell_further(is_further, asked.explain, alloc, file, source, err);
     status
 }
 

@@ -2,12 +2,11 @@
 
 ghost use Rattle.std.specs.Prelude.{◌≡◌, IfOk, true};
 ghost use Rattle.cell_names.specs.Cells.{are_named};
-ghost use Rattle.engine.specs.Explained.{IsDetail, explanation};
-ghost use Rattle.engine.specs.Lines.{IsTold};
-ghost use Rattle.engine.specs.Told.{Adds, AreAlso, AreStages, ExplainsBy, IsNamedBy, also_lines, is_further, is_staged, not_told};
+ghost use Rattle.messages.specs.Shown.{Adds, IsTold};
+ghost use Rattle.engine.specs.Explained.{Explains, IsExplained};
+ghost use Rattle.engine.specs.Told.{AreAlso, ArePairs, AreStages, IsNamedBy, IsPair, is_further, is_staged, not_told};
 
-use crate::explaining::{Matter, put_line, put_matter};
-use crate::lines::{put, put_at, put_bytes};
+use crate::lines::put_at;
 use cell_names::{Named, names_of};
 use command_line::asked::Options;
 use further_rules::further_pairs;
@@ -15,6 +14,9 @@ use in_order::program_in;
 use loop_reports::{Row, told_loops};
 use meaning::ending::Ending;
 use meaning::refusal::{Broken, Refusal};
+use messages::{
+    Cause, Matter, about_of, matter_of_rule, put, put_about, put_bytes, put_line, tell_hint,
+};
 use record_sinks::Sink;
 use std::alloc::{AllocError, Global};
 use std::collections::BTreeMap;
@@ -105,62 +107,113 @@ fn names_in(alloc: Global, source: &[u8]) -> Result<Vec<Named>, AllocError>
 /// Writes what there is to explain, if that is wanted.
 pub fn tell_matter<S: Sink>(
     is_wanted: bool,
+    file: &str,
     source: &[u8],
     matter: Option<Matter>,
     detail: Result<Vec<u8>, AllocError>,
     err: &mut S,
 )
-    ensures { ExplainsBy is_wanted source.now matter (S.told err.old) (S.told err.new) }
+    ensures { Adds is_wanted (Explains file.now source.now matter) (S.told err.old) (S.told err.new) }
 {
     if is_wanted {
         if let Some(matter) = matter {
-            put_matter(source, matter, err);
-            put_detail(detail, err);
+            put_matter(file, source, matter, detail, err);
             return;
         }
     }
     drop(detail);
 }
 
-// Writes what a fault was about, where it is known.
-fn put_detail<S: Sink>(detail: Result<Vec<u8>, AllocError>, err: &mut S)
-    ensures { Adds true IsDetail (S.told err.old) (S.told err.new) }
+// Writes what there is to explain, with what a fault was about, where that is known.
+fn put_matter<S: Sink>(
+    file: &str,
+    source: &[u8],
+    matter: Matter,
+    detail: Result<Vec<u8>, AllocError>,
+    err: &mut S,
+)
+    ensures { Adds true (IsExplained file.now source.now matter) (S.told err.old) (S.told err.new) }
 {
     match detail {
-        Ok(text) => {
-            if !text.is_empty() {
-                put_line(&text, err);
-            }
+        Ok(text) => put_about(file, source, matter, about_of(source, matter, &text), err),
+        Err(_) => {
+            put_about(file, source, matter, about_of(source, matter, &[]), err);
+            put_line(b"NOT TOLD", err);
         }
-        Err(_) => put_line(b"NOT TOLD", err),
     }
 }
 
-/// Writes the pairs that a source breaks besides the least one, if that is wanted.
-pub fn tell_further<S: Sink>(is_wanted: bool, alloc: Global, source: &[u8], err: &mut S)
-    ensures { Adds is_wanted (AreAlso source.now) (S.told err.old) (S.told err.new) }
+/// Writes the pairs that a source breaks besides the least one, if that is wanted, and explains each, if that is.
+pub fn tell_further<S: Sink>(
+    is_wanted: bool,
+    explain: bool,
+    alloc: Global,
+    file: &str,
+    source: &[u8],
+    err: &mut S,
+)
+    ensures { Adds is_wanted (AreAlso explain file.now source.now) (S.told err.old) (S.told err.new) }
 {
     if is_wanted {
-        put_further(alloc, source, err);
+        put_further(explain, alloc, file, source, err);
     }
 }
 
-// Writes a line for each pair that a source breaks besides the least one.
-fn put_further<S: Sink>(alloc: Global, source: &[u8], err: &mut S)
-    ensures { Adds true (AreAlso source.now) (S.told err.old) (S.told err.new) }
+// Writes each pair that a source breaks besides the least one.
+fn put_further<S: Sink>(explain: bool, alloc: Global, file: &str, source: &[u8], err: &mut S)
+    ensures { Adds true (AreAlso explain file.now source.now) (S.told err.old) (S.told err.new) }
 {
     match further_pairs(alloc, source) {
-        Ok(pairs) => put_pairs(&pairs, err),
+        Ok(pairs) => put_pairs(explain, alloc, file, source, &pairs, err),
         Err(_) => put_untold(err),
     }
 }
 
-// Writes a line for each pair.
-fn put_pairs<S: Sink>(pairs: &[Broken], err: &mut S)
-    ensures { IsTold (also_lines pairs.now) (S.told err.old) (S.told err.new) }
+// Writes each of some pairs.
+fn put_pairs<S: Sink>(
+    explain: bool,
+    alloc: Global,
+    file: &str,
+    source: &[u8],
+    pairs: &[Broken],
+    err: &mut S,
+)
+    ensures { Adds true (ArePairs explain file.now source.now pairs.now) (S.told err.old) (S.told err.new) }
 {
     for pair in pairs {
-        put_at("  ALSO ", pair.rule.name(), pair.line, err);
+        put_pair(explain, alloc, file, source, *pair, err);
+    }
+}
+
+// Writes a line for a pair, and what there is to explain of it, if that is wanted.
+fn put_pair<S: Sink>(
+    explain: bool,
+    alloc: Global,
+    file: &str,
+    source: &[u8],
+    pair: Broken,
+    err: &mut S,
+)
+    ensures { Adds true (IsPair explain file.now source.now pair) (S.told err.old) (S.told err.new) }
+{
+    put_at("  ALSO ", pair.rule.name(), pair.line, err);
+    put_explained(
+        explain,
+        file,
+        source,
+        matter_of_rule(pair.rule, pair.line),
+        err,
+    );
+    let cause = Some(Cause::Rule(pair.rule, pair.line));
+    tell_hint(explain, alloc, source, cause, err);
+}
+
+// Writes what there is to explain of a rule, if that is wanted.
+fn put_explained<S: Sink>(is_wanted: bool, file: &str, source: &[u8], matter: Matter, err: &mut S)
+    ensures { Adds is_wanted (IsExplained file.now source.now matter) (S.told err.old) (S.told err.new) }
+{
+    if is_wanted {
+        put_about(file, source, matter, about_of(source, matter, &[]), err);
     }
 }
 

@@ -81,37 +81,38 @@ const NEXT_AND_STOP: &str =
 // A record, and a fault behind it.
 const DIVIDED: &str = "      I=1\n      PRINT '(I5)', I\n      J=I/(I-1)+1\n      END\n";
 
-// Words, a source, and how many bytes of what is written behind them there is room for, or with the flush behind them.
-const REFUSED: &[(&[&[u8]], &str, usize)] = &[
+const ALONE: &str = "WRITE REFUSED\n";
+
+const EXPLAINED: &str = "WRITE REFUSED\n<stdout>: broken pipe\n";
+
+// Words, a source, how many bytes of what is written there is room for, or with the flush behind them, and what is told.
+const REFUSED: &[(&[&[u8]], &str, usize, &str)] = &[
     // in the record, and at the flush behind it
-    (&[b"f77run"], ANSWER, 0),
-    (&[b"f77run"], ANSWER, 3),
-    (&[b"f77run"], ANSWER, 7),
+    (&[b"f77run"], ANSWER, 0, ALONE),
+    (&[b"f77run"], ANSWER, 3, ALONE),
+    (&[b"f77run"], ANSWER, 7, ALONE),
     // at the flush behind a STOP statement
-    (&[b"f77run"], NEXT_AND_STOP, 5),
-    // nothing is told behind a write that is refused
-    (&[b"f77run", b"--explain"], DIVIDED, 3),
-    (&[b"f77run", b"--stages"], ANSWER, 3),
+    (&[b"f77run"], NEXT_AND_STOP, 5, ALONE),
+    // of a write that is refused only why is told
+    (&[b"f77run", b"--explain"], DIVIDED, 3, EXPLAINED),
+    (&[b"f77run", b"--stages"], ANSWER, 3, ALONE),
     // in a text that is asked for, and at the flush behind it
-    (&[b"f77run", b"--help"], "", 3),
-    (&[b"f77run", b"--version"], "", 12),
-    (&[b"f77run", b"--version"], "", 13),
-    (&[b"f77run", b"--rule"], "", 3),
-    (&[b"f77run", b"--rule", b"K3"], "", 3),
-    (&[b"f77run", b"--rule", b"N2"], "", 135),
-    (&[b"f77run", b"--rule", b"N2"], "", 136),
+    (&[b"f77run", b"--help"], "", 3, ALONE),
+    (&[b"f77run", b"--version"], "", 12, ALONE),
+    (&[b"f77run", b"--version"], "", 13, ALONE),
+    (&[b"f77run", b"--rule"], "", 3, ALONE),
+    (&[b"f77run", b"--rule", b"K3"], "", 3, ALONE),
+    (&[b"f77run", b"--rule", b"N2"], "", 135, ALONE),
+    (&[b"f77run", b"--rule", b"N2"], "", 136, ALONE),
 ];
 
 #[test]
 fn writes_that_are_refused(rt: HostRuntime) {
-    for &(words, source, room) in REFUSED {
+    for &(words, source, room, told) in REFUSED {
         let mut err = Vec::new(rt.alloc());
         let mut input = source.as_bytes();
         let status = engine(&rt, &Words { words }, &mut input, Narrow { room }, &mut err);
-        assert!(rt;
-            status == 5 && err.as_slice() == b"WRITE REFUSED\n".as_slice(),
-            "{room}"
-        );
+        assert!(rt; status == 5 && err.as_slice() == told.as_bytes(), "{room}");
     }
 }
 

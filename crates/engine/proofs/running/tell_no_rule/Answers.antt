@@ -1,7 +1,6 @@
 use Rattle.std.proofs.Common.{subst}
 use Rattle.std.specs.Prelude.{map}
-use Rattle.engine.specs.Explained.{shown}
-use Rattle.engine.specs.Lines.{IsTold}
+use Rattle.messages.specs.Shown.{IsTold, shown}
 use Rattle.engine.proofs.Told.{told_no_rule}
 use Rattle.engine.proofs.running.tell_no_rule.Goals as goal
 

@@ -1,5 +1,5 @@
 use Rattle.std.proofs.Common.{inl, refl, subst}
-use Rattle.engine.specs.Lines.{IsTold}
+use Rattle.messages.specs.Shown.{IsTold}
 use Rattle.engine.specs.Told.{not_told}
 use Rattle.engine.proofs.telling.put_stages.Goals as goal
 

@@ -1,6 +1,7 @@
-use Rattle.std.proofs.Common.{inl, refl, sym, subst}
-use Rattle.engine.specs.Told.{Adds, AreStages, not_told}
-use Rattle.engine.proofs.Told.{told_none}
+use Rattle.std.proofs.Common.{[], refl, sym, subst}
+use Rattle.messages.proofs.Told.{told_none}
+use Rattle.messages.specs.Shown.{Adds}
+use Rattle.engine.specs.Told.{AreStages}
 use Rattle.engine.proofs.telling.tell_stages.Goals as goal
 
 pub returns-then-is_wanted : goal.returns-then-is_wanted
@@ -9,4 +10,4 @@ returns-then-is_wanted g c =
 
 pub returns-else-is_wanted : goal.returns-else-is_wanted
 returns-else-is_wanted g c =
-    subst (λ b. Adds b (AreStages c.args.source.now c.args.turns) (g.S.Sink.told c.args.err.now) (g.S.Sink.told c.args.err.now)) (sym c.if-is_wanted.false) (not_told, inl refl, told_none _)
+    subst (λ b. Adds b (AreStages c.args.source.now c.args.turns) (g.S.Sink.told c.args.err.now) (g.S.Sink.told c.args.err.now)) (sym c.if-is_wanted.false) ([], refl, told_none _)

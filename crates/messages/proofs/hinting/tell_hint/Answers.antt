@@ -1,0 +1,13 @@
+use Rattle.std.proofs.Common.{[], refl, sym, subst}
+use Rattle.messages.proofs.Told.{told_none}
+use Rattle.messages.specs.Hinted.{IsHinted}
+use Rattle.messages.specs.Shown.{Adds}
+use Rattle.messages.proofs.hinting.tell_hint.Goals as goal
+
+pub returns-then-is_wanted : goal.returns-then-is_wanted
+returns-then-is_wanted g c =
+    subst (λ b. Adds b (IsHinted c.args.source.now c.args.cause) (g.S.Sink.told c.args.err.now) (g.S.Sink.told c.put_hinted.new.err)) (sym c.if-is_wanted.true) c.put_hinted.ensures
+
+pub returns-else-is_wanted : goal.returns-else-is_wanted
+returns-else-is_wanted g c =
+    subst (λ b. Adds b (IsHinted c.args.source.now c.args.cause) (g.S.Sink.told c.args.err.now) (g.S.Sink.told c.args.err.now)) (sym c.if-is_wanted.false) ([], refl, told_none _)
