@@ -1,0 +1,5 @@
+//! Tests of what is told of a broken rule K, and where, from the source to the text.
+#![tactic(auto)]
+
+#[cfg(test)]
+mod told;
