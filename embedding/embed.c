@@ -1,7 +1,7 @@
 /* Runs a FORTRAN 77 program from a file by the library, and says how it ended
  * as f77run does:
  *
- *     bench/make-library lib
+ *     tools/make-library lib
  *     cc -I include embedding/embed.c lib/libf77run.a -o embed
  *     ./embed examples/powers.f
  */

@@ -1,7 +1,7 @@
 #!/usr/bin/env python3
 """Runs FORTRAN 77 programs by the library, in this process:
 
-    bench/make-library lib
+    tools/make-library lib
     F77RUN_LIBRARY=lib/libf77run.so python3 embedding/embed.py examples/powers.f
 
 As a module it has run(source), which gives the report and the bytes that were
