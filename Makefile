@@ -8,6 +8,8 @@ PREFIX = /usr/local
 ZSH_FUNCTIONS = $(PREFIX)/share/zsh/site-functions
 
 program = crates/driver/out/driver
+# All but the link by its old name.
+documents = $(filter-out docs/LANGUAGE.md,$(wildcard docs/*.md))
 # The libraries for C, where they were made.
 libraries = $(wildcard crates/c_library/out/libf77run.a crates/c_library/out/libf77run.so)
 
@@ -35,7 +37,7 @@ install: all
 	install -D -m 644 completions/_f77run "$(zsh_folder)/_f77run"
 	install -D -m 644 completions/f77run.fish "$(fish_folder)/f77run.fish"
 	install -D -m 644 -t "$(doc_folder)" README.md CHANGELOG.md CONTRIBUTING.md
-	install -D -m 644 -t "$(doc_folder)/docs" docs/*.md
+	install -D -m 644 -t "$(doc_folder)/docs" $(documents)
 	install -D -m 644 -t "$(doc_folder)/examples" examples/*
 ifneq ($(libraries),)
 	install -D -m 644 -t "$(lib_folder)" $(libraries)
