@@ -1,5 +1,5 @@
 -- Statement functions found in a body, one member more.
-use Rattle.std.proofs.Common.{◌≡◌, ℕ, zero, suc, ◌+◌, ◌<◌, ◌≤◌, Bool, true, false, List, [], ◌∷◌, ◌++◌, length, get_or, drop, append_assoc, Option, Some, None, unwrap_or, Result, Ok, Err, refl, sym, ap, ap₂, subst, ◌∙◌, arith, length-append, inl, inr}
+use Rattle.std.proofs.Common.{◌≡◌, ℕ, zero, suc, ◌+◌, ◌<◌, ◌≤◌, Bool, true, false, List, [], ◌∷◌, ◌++◌, length, get_or, drop, append_assoc, append-nil, Option, Some, None, unwrap_or, Result, Ok, Err, refl, sym, ap, ap₂, subst, ◌∙◌, arith, length-append, inl, inr}
 use Rattle.std.specs.Prelude.{if◌then◌else◌, ◌⊎◌, IfOk, is_some, slice_get}
 use Rattle.std.specs.Map.{lookup}
 use Rattle.std.proofs.Math.Logic.{⊎_elim}
@@ -10,14 +10,17 @@ use Rattle.std.proofs.lemmas.List.{drop_more}
 use Rattle.std.proofs.lemmas.Slice.Eq.{bytes_eq-Decides}
 use Rattle.indexmap.specs.IndexMap.{IndexMap}
 use Rattle.meaning.specs.declared.syntax.Item.{Item}
-use Rattle.meaning.specs.declared.syntax.Member.{Member, Plain}
+use Rattle.meaning.specs.declared.syntax.Block.{Block'}
+use Rattle.meaning.specs.declared.syntax.Member.{Member, Plain, Loop', Block}
 use Rattle.meaning.specs.Scopes.{Definition, defined_before, defined_by, definition_if, definitions_of, is_specification, listed}
 use Rattle.meaning.specs.Syntax.{ItemTree, ShapeTree, assignment, definition, exprs, shape_tree}
-use Rattle.meaning.specs.Trees.{flat, item_tree, members_tree}
+use Rattle.meaning.specs.Trees.{Members, flat, item_tree, member_before, members_tree}
+use Rattle.meaning.proofs.Ranges.{left_more}
+use Rattle.rule_laws.specs.Read.{HeadsExecute}
 use Rattle.meaning.specs.Values.{Arrays}
 use Rattle.name_maps.specs.Keeping.{kept_at}
 use Rattle.numbering.specs.declared.parts.FunctionAt.{FunctionAt}
-use Rattle.appearances.specs.FunctionsFound.{AreFound, Finding, Found, IsFoundAt, IsNone, IsOne, PassesItem, PassesMember, defined_in}
+use Rattle.appearances.specs.FunctionsFound.{AreFound, Finding, IsExecutable, IsFoundAt, IsNone, IsOne, PassesItem, PassesMember, defined_in}
 use Rattle.numbering.specs.Kept.{shown_at, shown_by}
 
 first_is : (arrays : Arrays) (x : ItemTree) (xs : List ItemTree) → definitions_of arrays (x ∷ xs) ≡ defined_before (defined_by arrays x.shape) (is_specification x.shape) (definitions_of arrays xs)
@@ -110,7 +113,8 @@ module _ (arrays : Arrays) (members : List Member) (i : ℕ) (one : Member) (x :
 
 -- a statement that is a member
 pub plain_passes : {S E : Type 0} (arrays : Arrays) (m new : IndexMap (Vec ℕ) FunctionAt S) (at member : ℕ) (one : Member) (x : Item) → one ≡ Plain x → (r : Result (Option ℕ) E) → IfOk r (PassesItem arrays m new at member x) → IfOk r (PassesMember arrays m new at member one)
-plain_passes arrays m new at member one x is (Ok None) h = h
+plain_passes arrays m new at member one x is (Ok None) h =
+    (h.0, λ y there. let same : x ≡ y = cc in subst (IsExecutable arrays m new at member) same h.1)
 plain_passes arrays m new at member one x is (Ok (Some next)) h = (x, is, h)
 plain_passes arrays m new at member one x is (Err e) h = h
 
@@ -135,22 +139,16 @@ few_more arrays i one m new at next le told =
 
 -- ---- all of them
 
-nothing_left : {A : Type 0} (xs ys all : List A) → xs ++ ys ≡ all → length xs ≡ length all → xs ≡ all
-nothing_left [] [] all are many = are
-nothing_left [] (y ∷ ys) all are many = absurd (positive (length ys) (many ∙ ap length (sym are)))
-  where
-    positive : (k : ℕ) → 0 ≡ suc k → ⊥
-    positive k h = omega arith
-nothing_left (x ∷ xs) ys all are many =
-    ap (λ zs. x ∷ zs) (nothing_left xs ys (xs ++ ys) refl (shorter (length xs) (length (xs ++ ys)) (many ∙ ap length (sym are)))) ∙ are
-  where
-    shorter : (a b : ℕ) → suc a ≡ suc b → a ≡ b
-    shorter a b h = omega arith
+pub all_found : {S : Type 0} (all later : List Definition) (members : List Member) (m : IndexMap (Vec ℕ) FunctionAt S) (at : ℕ) → later ≡ [] → Finding all later members m at → AreFound all members m
+all_found all later members m at none f =
+    subst (λ ds. AreFound ds members m) (sym (append-nil f.found) ∙ ap (λ ds. f.found ++ ds) (sym none) ∙ f.are) f.kept
 
-pub all_found : {S : Type 0} (all : List Definition) (members : List Member) (m : IndexMap (Vec ℕ) FunctionAt S) (at : ℕ) → at ≡ length all → Found all members m at → AreFound all members m
-all_found all members m at many f =
-    let g = f.finding in
-    subst (λ ds. AreFound ds members m) (nothing_left g.found f.rest all g.are (g.many ∙ many)) g.kept
+no_definitions : (arrays : Arrays) → definitions_of arrays [] ≡ []
+unfolding definitions_of
+no_definitions arrays = refl
+
+pub none_left : (arrays : Arrays) (members : List Member) → members ≡ [] → defined_in arrays members ≡ []
+none_left arrays members none = ap (defined_in arrays) none ∙ no_definitions arrays
 
 pub none_found : {S : Type 0} (arrays : Arrays) (members : List Member) (m : IndexMap (Vec ℕ) FunctionAt S) → m.entries ≡ [] → Finding (defined_in arrays members) (defined_in arrays members) members m 0
 none_found arrays members m empty =
@@ -158,3 +156,32 @@ none_found arrays members m empty =
   where
     nothing_kept : (n : List ℕ) → kept_at m n ≡ None
     nothing_kept n = ap (lookup (λ (k : Vec ℕ). bytes_eq n k.items)) empty
+
+-- ---- behind the first executable statement
+
+module _ (arrays : Arrays) where
+  behind_one : (m : Member) (ms : Members) → HeadsExecute arrays (member_before m ms) → HeadsExecute arrays ms
+  behind_one (Plain x) ms h = h
+  behind_one (Loop' head shape range) ms h = h.1
+  behind_one (Block (Block' shape arms end)) ms h = h.1
+
+  heads_behind : (members : List Member) (i : ℕ) → HeadsExecute arrays (members_tree members) → HeadsExecute arrays (members_tree (drop i members))
+  heads_behind [] zero h = h
+  heads_behind [] (suc i) h = h
+  heads_behind (m ∷ members) zero h = h
+  heads_behind (m ∷ members) (suc i) h = heads_behind members i (behind_one m (members_tree members) h)
+
+  module _ {S : Type 0} (m new : IndexMap (Vec ℕ) FunctionAt S) (at member : ℕ) where
+    ended_by : (one : Member) (ms : Members) → PassesMember arrays m new at member one None → HeadsExecute arrays (member_before one ms) → definitions_of arrays (flat (member_before one ms)) ≡ []
+    ended_by (Plain x) ms told h =
+        let e = told.1 x refl in
+        first_is arrays (item_tree x) (flat ms) ∙ ap₂ (λ o b. defined_before o b (definitions_of arrays (flat ms))) (sym e.none) e.executed
+    ended_by (Loop' head shape range) ms told h = h.0
+    ended_by (Block (Block' shape arms end)) ms told h = h.0
+
+    -- none stands there
+    pub ended : (members : List Member) (i : ℕ) (one : Member) → i < length members → one ≡ get_or members i one → PassesMember arrays m new at member one None → HeadsExecute arrays (members_tree members) → defined_in arrays (drop i members) ≡ []
+    ended members i one lt is told h =
+        let rest = members_tree (drop (i + 1) members) in
+        let here = left_more (λ x. x) members i one lt is in
+        ap (λ x. definitions_of arrays (flat x)) here ∙ ended_by one rest told (subst (HeadsExecute arrays) here (heads_behind members i h))

@@ -36,10 +36,6 @@ pub record Finding {S : Type 0} (all rest : List Definition) (members : List Mem
   pub many : length found ≡ at
   pub kept : AreFound found members m
 
-pub record Found {S : Type 0} (all : List Definition) (members : List Member) (m : IndexMap (Vec ℕ) FunctionAt S) (at : ℕ) : Type 0 where
-  pub rest : List Definition
-  pub finding : Finding all rest members m at
-
 abbrev pub defined_in : Arrays → List Member → List Definition
 defined_in arrays members = definitions_of arrays (flat (members_tree members))
 
@@ -60,12 +56,17 @@ module _ {S : Type 0} (arrays : Arrays) (m new : IndexMap (Vec ℕ) FunctionAt S
     pub more : next ≡ at + 1
     pub added : (n : List ℕ) → kept_at new n ≡ option_or (kept_at m n) (if bytes_eq n definition.name then Some (record { at = at; member = member }) else None)
 
+  -- an executable statement
+  pub record IsExecutable (x : Item) : Type 0 where
+    pub none : None ≡ defined_by arrays (shape_tree x.form.shape.value)
+    pub executed : is_specification (shape_tree x.form.shape.value) ≡ false
+
   abbrev pub PassesItem : Item → Option ℕ → Type 0
-  PassesItem x None = new ≡ m
+  PassesItem x None = (new ≡ m) × IsExecutable x
   PassesItem x (Some next) = IsNone x next ⊎ IsOne x next
 
   abbrev pub PassesMember : Member → Option ℕ → Type 0
-  PassesMember one None = new ≡ m
+  PassesMember one None = (new ≡ m) × ((x : Item) → one ≡ Plain x → IsExecutable x)
   PassesMember one (Some next) = (x : Item) × (one ≡ Plain x) × (IsNone x next ⊎ IsOne x next)
 
 -- ---- in a program unit of which this is known
@@ -75,9 +76,6 @@ Passes r m new at member x = PassesItem (roles_at r).names.arrays m new at membe
 
 abbrev pub PassesOne : {S : Type 0} → Roles → IndexMap (Vec ℕ) FunctionAt S → IndexMap (Vec ℕ) FunctionAt S → ℕ → ℕ → Member → Option ℕ → Type 0
 PassesOne r m new at member one = PassesMember (roles_at r).names.arrays m new at member one
-
-abbrev pub FoundIn : {S : Type 0} → Roles → List Member → IndexMap (Vec ℕ) FunctionAt S → ℕ → Type 0
-FoundIn r members m at = Found (defined_in (roles_at r).names.arrays members) members m at
 
 abbrev pub AreFoundIn : {S : Type 0} → Roles → List Member → IndexMap (Vec ℕ) FunctionAt S → Type 0
 AreFoundIn r members m = AreFound (defined_in (roles_at r).names.arrays members) members m

@@ -1,9 +1,10 @@
 //! Where statement functions are defined (ANSI X3.9-1978, 15.4).
 
 ghost use Rattle.std.specs.Prelude.{◌≡◌, ◌<◌, ◌-◌, ◌^◌, [], IfOk};
-ghost use Rattle.meaning.specs.Trees.{flat, members_tree};
-ghost use Rattle.roles.specs.Listed.{trees_at};
-ghost use Rattle.appearances.specs.FunctionsFound.{AreFoundIn, FoundIn, Passes, PassesOne};
+ghost use Rattle.meaning.specs.Trees.{members_tree};
+ghost use Rattle.roles.specs.RolesAt.{roles_at};
+ghost use Rattle.rule_laws.specs.Read.{HeadsExecute};
+ghost use Rattle.appearances.specs.FunctionsFound.{AreFoundIn, Passes, PassesOne};
 
 use indexmap::IndexMap;
 use meaning::syntax::{Item, Member};
@@ -60,43 +61,37 @@ fn pass_member(
     }
 }
 
-/// Keeps where the statement functions are defined that stand before all other statements but specifications, and tells how
-/// many there are.
+/// Keeps where the statement functions are defined: all stand before the first executable statement.
 fn find_functions(
     functions: &mut IndexMap<Vec<u8>, FunctionAt>,
     alloc: Global,
     roles: &Roles,
     body: &[Member],
-) -> Result<usize, AllocError>
-    requires { functions.old.entries ≡ [] }
-    ensures { IfOk result (FoundIn roles.now body.now functions.new) }
+) -> Result<(), AllocError>
+    requires none { functions.old.entries ≡ [] }
+    requires executing { HeadsExecute (roles_at roles.now).names.arrays (members_tree body.now) }
+    ensures { IfOk result (λ _. AreFoundIn roles.now body.now functions.new) }
 {
     let mut at: usize = 0;
     for (member, one) in body.iter().enumerate() {
         match pass_member(functions, alloc, roles, one, at, member)? {
             Some(next) => at = next,
-            None => return Ok(at),
+            None => return Ok(()),
         }
     }
-    Ok(at)
+    Ok(())
 }
 
-/// Where the statement functions of a body are defined. The `AllocError` comes where one stands in a range or an arm, too. No
-/// source text leads there: statement functions stand before all executable statements, and each range and arm stands behind a DO
-/// or block IF statement, which is one.
+/// Where the statement functions of a body are defined, none of which stands in a range or an arm, or behind one.
 pub fn functions_in(
     alloc: Global,
     roles: &Roles,
     body: &[Member],
 ) -> Result<IndexMap<Vec<u8>, FunctionAt>, AllocError>
-    requires { flat (members_tree body.now) ≡ trees_at roles.now.items.now }
+    requires { HeadsExecute (roles_at roles.now).names.arrays (members_tree body.now) }
     ensures { IfOk result (AreFoundIn roles.now body.now) }
 {
     let mut functions = IndexMap::new(alloc);
-    let found = find_functions(&mut functions, alloc, roles, body)?;
-    if found == roles.functions.len() {
-        Ok(functions)
-    } else {
-        Err(AllocError)
-    }
+    find_functions(&mut functions, alloc, roles, body)?;
+    Ok(functions)
 }

@@ -33,7 +33,8 @@ use Rattle.numbering.specs.declared.parts.Storage.{Storage}
 use Rattle.checker.specs.declared.rules.Names.{Names}
 use Rattle.appearances.specs.Appearing.{variables_at}
 use Rattle.checker.specs.Built.{AreNames, count_at}
-use Rattle.numbering.specs.Checked.{count_in, items_in, names_in}
+use Rattle.numbering.specs.Checked.{count_in, items_in, names_in, tree_of}
+use Rattle.rule_laws.specs.Sized.{AreStartsNamed}
 use Rattle.checker.specs.Entries.{Placed, Said, described, first_of, names_given, place_from, placed, said, stored}
 use Rattle.checker.specs.Given.{first_said, firsts_in, number_given, starts_by}
 use Rattle.numbering.specs.Kept.{IsStored, IsTyped, StartsWithByte, array_of, by_first, storage_kept, type_if, value_kept}
@@ -42,7 +43,7 @@ use Rattle.numbering.specs.Starts.{map_of, start_in}
 use Rattle.numbering.specs.Whereabouts.{Whereabouts, where_in}
 use Rattle.checker.proofs.Absent.{bounded, no_array, unknown, untyped}
 use Rattle.checker.proofs.CellsOf.{first_cells, first_leads, no_first}
-use Rattle.checker.proofs.Starting.{all_placed, all_shown, given_to, has_cells, known_value, many_by, nothing_shown, number_if, shown, value_by}
+use Rattle.checker.proofs.Starting.{all_placed, all_shown, given_nothing, given_to, known_value, many_by, none_for, not_first, nothing_shown, number_if, shown, value_by}
 
 -- ---- what is said of a name, by its first cell and by whether statements give it something
 
@@ -128,7 +129,7 @@ pub record Naming (t : Tree) (k : Names) : Type 0 where
   pub many : length k.starts.items ≡ count_in t
   pub started : (n : List ℕ) (ss : List ℤ) → map_of t k.starts.items n ss ≡ start_in t n ss
 
-module _ (t : Tree) (f : Facts) (r : Roles) (k : Names) (items : trees_at r.items.now ≡ items_in t) (constants : (n : List ℕ) → constant_in f n ≡ (names_in t).known n) (arrays : (n : List ℕ) → arrays_in f n ≡ arrays_of (items_in t) n) (starts : starts_in f ≡ given_by (roles_of (items_in t)).names (starts_from (roles_of (items_in t)) [] (items_in t))) (names : AreNames f r k) where
+module _ (t : Tree) (f : Facts) (r : Roles) (k : Names) (items : trees_at r.items.now ≡ items_in t) (constants : (n : List ℕ) → constant_in f n ≡ (names_in t).known n) (arrays : (n : List ℕ) → arrays_in f n ≡ arrays_of (items_in t) n) (starts : starts_in f ≡ given_by (roles_of (items_in t)).names (starts_from (roles_of (items_in t)) [] (items_in t))) (given : AreStartsNamed (tree_of t)) (names : AreNames f r k) where
   abbrev all : List ItemTree
   all = items_in t
 
@@ -164,12 +165,11 @@ module _ (t : Tree) (f : Facts) (r : Roles) (k : Names) (items : trees_at r.item
 
   -- a name without cells was given nothing
   nothing_given : (n : List ℕ) → first_at n ≡ None → (i : ℕ) → number_given (starts_in f n i) ≡ pos 0
-  nothing_given n none i = by (kept_at f.starts n) refl
-    where
-      by : (o : Option (Vec (Option Value))) → kept_at f.starts n ≡ o → number_given (slot_if o i) ≡ pos 0
-      by None is = refl
-      by (Some w) is =
-          absurd (true≢false (sym (has_cells k.entries f.starts.entries names.started.placed n (ap is_some is)) ∙ ap is_some (first_kept n ∙ none)))
+  nothing_given n none i =
+      let rs = roles_of all in
+      let ss = starts_from rs [] all in
+      let other = not_first (arrays_of all) n vs (sym (firsts n) ∙ none) in
+      ap (λ g. number_given (g n i)) starts ∙ ap number_given (given_nothing rs.names n ss i (none_for n vs ss other given))
 
   abbrev cells : List ℤ
   cells = starts_by f (variables_at r)

@@ -5,3 +5,4 @@ pub mod Starting
 pub mod Ruled
 pub mod Building
 pub mod Agreeing
+pub mod Room

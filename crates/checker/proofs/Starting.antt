@@ -1,10 +1,8 @@
 -- The map that the values of the cells stand for is the one that a program starts with.
 use Rattle.std.proofs.Common.{◌≡◌, ℕ, ◌+◌, ◌<◌, ℤ, pos, Bool, true, false, ◌&&◌, List, [], ◌∷◌, ◌++◌, length, get_or, cond, Option, Some, None, option_map, unwrap_or, refl, sym, ap, ap₂, subst, ◌∙◌, arith}
-use Rattle.std.specs.Prelude.{◌==◌, if◌then◌else◌, is_some}
+use Rattle.std.specs.Prelude.{◌==◌, ◌||◌, if◌then◌else◌}
 use Rattle.std.specs.Cmp.Lexicographic.{pointwise}
-use Rattle.std.specs.Global.{Vec}
-use Rattle.std.specs.List.{fold}
-use Rattle.std.specs.Map.{lookup}
+use Rattle.std.specs.List.{AllByRecursion, fold, list_any}
 use Rattle.std.specs.Ordering.{int_eq}
 use Rattle.std.specs.Str.{bytes_eq}
 use Rattle.std.proofs.Math.Path.{fun_ext}
@@ -14,9 +12,8 @@ use Rattle.std.proofs.lemmas.List.FromFn.{get_or-map-range_with_len, length-map-
 use Rattle.std.proofs.lemmas.Option.{unwrap_or-slice_get}
 use Rattle.std.specs.Cmp.Rules.{signed_items}
 use Rattle.std.proofs.lemmas.Slice.Eq.{bytes_eq-Decides}
-use Rattle.indexmap.specs.IndexMap.{IndexMap}
 use Rattle.meaning.specs.declared.ending.Value.{Value}
-use Rattle.meaning.specs.Arrays.{cells_of, place}
+use Rattle.meaning.specs.Arrays.{cells_of, place, size}
 use Rattle.meaning.specs.Initial.{Start, same_target, starts_from, starts_at, starts_or_none, sets_at, target}
 use Rattle.meaning.specs.Maps.{Map, put, start}
 use Rattle.meaning.specs.NumberRules.{known_behind_all}
@@ -24,18 +21,17 @@ use Rattle.meaning.specs.Stores.{known, overlay}
 use Rattle.meaning.specs.Syntax.{ItemTree}
 use Rattle.meaning.specs.Typing.{Names}
 use Rattle.meaning.specs.Uses.{Roles}
-use Rattle.meaning.specs.Values.{as_integer, dimensions_in}
+use Rattle.meaning.specs.Values.{Arrays, as_integer, dimensions_in}
 use Rattle.array_store.specs.Whole.{world_of}
-use Rattle.data_rules.specs.DataSets.{HasPlace, given_behind, nothing, place_at, place_of}
+use Rattle.data_rules.specs.DataSets.{HasPlace, given_behind, given_by, nothing, place_at, place_of}
 use Rattle.data_rules.specs.DataStages.{Found, with_found}
 use Rattle.data_rules.proofs.DataPairing.{Each, IfEach, sets_placed}
 use Rattle.data_rules.proofs.DataStarting.{same_place}
 use Rattle.k_rules.specs.declared.verdict.Facts.{Facts}
 use Rattle.k_rules.specs.Judged.{arrays_in, starts_in}
-use Rattle.numbering.specs.declared.parts.Entry.{Entry}
 use Rattle.numbering.specs.Numbered.{named}
 use Rattle.checker.specs.Entries.{cells_at, first_of}
-use Rattle.checker.specs.Given.{HasCells, firsts_in, number_given, starts_by, values_of}
+use Rattle.checker.specs.Given.{number_given, starts_by, values_of}
 
 abbrev Placed : Names → Start → Type 0
 Placed ns s = HasPlace ns s.target
@@ -175,12 +171,36 @@ pub known_value : (values : List ℤ) (c : ℕ) → known (world_of values) c �
 unfolding known overlay
 known_value values c = unwrap_or-slice_get values c (pos 0)
 
--- ---- names that were given values have cells
+-- ---- names that were given nothing
 
-pub has_cells : {S : Type 0} (m : IndexMap (Vec ℕ) Entry S) (es : List (Vec ℕ × Vec (Option Value))) → HasCells m es → (n : List ℕ) → is_some (lookup (λ k. bytes_eq n k.items) es) ≡ true → is_some (firsts_in m n) ≡ true
-has_cells m [] h n there = absurd (false≢true there)
-has_cells m (e ∷ es) h n there = by_test (bytes_eq n e.0.items) refl there (λ k. has_cells m es h.1 n k)
+apart_by : (ns : Names) (n : List ℕ) (ss : List Start) (found : Found) (i : ℕ) → AllByRecursion (λ s. bytes_eq n s.target.name ≡ false) ss → given_behind ns ss found n i ≡ found n i
+apart_by ns n [] found i h = refl
+apart_by ns n (s ∷ ss) found i h =
+    apart_by ns n ss (with_found s.target.name (place_of ns s) s.value found) i h.1
+    ∙ ap (λ b. if b && (place_of ns s == i) then Some s.value else found n i) h.0
+
+-- a name that no start is for
+pub given_nothing : (ns : Names) (n : List ℕ) (ss : List Start) (i : ℕ) → AllByRecursion (λ s. bytes_eq n s.target.name ≡ false) ss → given_by ns ss n i ≡ None
+given_nothing ns n ss i h = apart_by ns n ss nothing i h
+
+-- a name that isn't among those that starts are for
+pub none_for : (n : List ℕ) (vs : List (List ℕ)) (ss : List Start) → list_any (bytes_eq n) vs ≡ false → AllByRecursion (λ s. list_any (bytes_eq s.target.name) vs ≡ true) ss → AllByRecursion (λ s. bytes_eq n s.target.name ≡ false) ss
+none_for n vs [] other h = tt
+none_for n vs (s ∷ ss) other h = (by (bytes_eq n s.target.name) refl, none_for n vs ss other h.1)
   where
-    by_test : (b : Bool) → bytes_eq n e.0.items ≡ b → is_some (cond b (Some e.1) (lookup (λ k. bytes_eq n k.items) es)) ≡ true → (is_some (lookup (λ k. bytes_eq n k.items) es) ≡ true → is_some (firsts_in m n) ≡ true) → is_some (firsts_in m n) ≡ true
-    by_test true same there rest = ap (λ p. is_some (firsts_in m p)) ((bytes_eq-Decides n e.0.items).0 same) ∙ h.0
-    by_test false other there rest = rest there
+    by : (b : Bool) → bytes_eq n s.target.name ≡ b → bytes_eq n s.target.name ≡ false
+    by true same =
+        absurd (false≢true (sym other ∙ ap (λ p. list_any (bytes_eq p) vs) ((bytes_eq-Decides n s.target.name).0 same) ∙ h.0))
+    by false apart = apart
+
+pub not_first : (arrays : Arrays) (n : List ℕ) (vs : List (List ℕ)) → first_of (named arrays vs) n ≡ None → list_any (bytes_eq n) vs ≡ false
+not_first arrays n [] is = refl
+not_first arrays n (x ∷ vs) is = by (bytes_eq n x) is (not_first arrays n vs)
+  where
+    by : (b : Bool) → (if b then Some 0 else option_map (λ c. size (dimensions_in (arrays x)) + c) (first_of (named arrays vs) n)) ≡ None → (first_of (named arrays vs) n ≡ None → list_any (bytes_eq n) vs ≡ false) → (b || list_any (bytes_eq n) vs) ≡ false
+    by true h rest = absurd cc
+    by false h rest = rest (none_behind (first_of (named arrays vs) n) h)
+      where
+        none_behind : (o : Option ℕ) → option_map (λ c. size (dimensions_in (arrays x)) + c) o ≡ None → o ≡ None
+        none_behind None k = refl
+        none_behind (Some c) k = absurd cc

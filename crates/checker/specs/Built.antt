@@ -23,7 +23,7 @@ use Rattle.std.specs.Global.{Vec}
 use Rattle.indexmap.specs.IndexMap.{IndexMap}
 use Rattle.numbering.specs.declared.parts.Entry.{Entry}
 use Rattle.checker.specs.Entries.{AreSaid}
-use Rattle.checker.specs.Given.{HasCells, starts_by}
+use Rattle.checker.specs.Given.{starts_by}
 use Rattle.appearances.specs.Appearing.{variables_at}
 use Rattle.numbering.specs.Numbered.{named}
 
@@ -34,7 +34,6 @@ count_at f r = cells_of (named (arrays_in f) (variables_at r))
 pub record AreStarted {S : Type 0} (f : Facts) (r : Roles) (names : List (List ℕ)) (m : IndexMap (Vec ℕ) Entry S) (starts : Vec ℤ) : Type 0 where
   pub said : AreSaid f r names m
   pub given : starts.items ≡ starts_by f names
-  pub placed : HasCells m f.starts.entries
   pub few : cells_of (named (arrays_in f) names) < 2 ^ 64
 
 -- what is kept of names

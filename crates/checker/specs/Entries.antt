@@ -1,13 +1,13 @@
 -- What entries say of names, and what they say when names are put behind others.
-use Rattle.std.specs.Prelude.{◌≡◌, ℕ, ◌+◌, List, [], ◌∷◌, ◌++◌, map, flat_map, Option, Some, None, option_map, if◌then◌else◌}
+use Rattle.std.specs.Prelude.{◌≡◌, ◌<◌, ◌≤◌, ◌^◌, ℕ, ◌+◌, List, [], ◌∷◌, ◌++◌, map, flat_map, Option, Some, None, option_map, if◌then◌else◌}
 use Rattle.std.specs.Global.{Vec}
-use Rattle.std.specs.List.{list_any}
+use Rattle.std.specs.List.{AllByRecursion, list_any}
 use Rattle.std.specs.Option.{option_or}
 use Rattle.std.specs.Str.{bytes_eq}
 use Rattle.indexmap.specs.IndexMap.{IndexMap}
 use Rattle.meaning.specs.declared.ending.Value.{Value}
 use Rattle.meaning.specs.declared.syntax.DataType.{DataType}
-use Rattle.meaning.specs.Arrays.{Dimension, Named, size}
+use Rattle.meaning.specs.Arrays.{Dimension, Named, cells_of, extent, size}
 use Rattle.meaning.specs.Scopes.{declarators_in, constants_in}
 use Rattle.meaning.specs.declared.syntax.Declarator.{Declarator}
 use Rattle.meaning.specs.declared.syntax.Item.{Item}
@@ -102,6 +102,16 @@ dimensions_at f n = dimensions_in (arrays_in f n)
 
 abbrev pub cells_at : Facts → List ℕ → ℕ
 cells_at f n = size (dimensions_at f n)
+
+-- extents of 1 or more, and elements that can be counted
+pub record AreCountable (ds : List Dimension) : Type 0 where
+  pub filled : AllByRecursion (λ d. 1 ≤ extent d) ds
+  pub few : size ds < 2 ^ 64
+
+-- so it is with the dimensions of each name, and the cells of these names can be counted
+pub record HaveRoom (f : Facts) (names : List (List ℕ)) : Type 0 where
+  pub arrays : (n : List ℕ) → AreCountable (dimensions_at f n)
+  pub few : cells_of (named (arrays_in f) names) < 2 ^ 64
 
 -- names with their dimensions, as keys
 abbrev pub named_by : Facts → List (Vec ℕ) → List Named

@@ -22,10 +22,6 @@ first_said (Some s) = first_placed s.storage
 abbrev pub firsts_in : {S : Type 0} → IndexMap (Vec ℕ) Entry S → List ℕ → Option ℕ
 firsts_in m n = first_said (said_at m n)
 
--- each name that was given values has cells
-abbrev pub HasCells : {S : Type 0} → IndexMap (Vec ℕ) Entry S → List (Vec ℕ × Vec (Option Value)) → Type 0
-HasCells m es = AllByRecursion (λ e. is_some (firsts_in m e.0.items) ≡ true) es
-
 -- the number of a place that was given this
 abbrev pub number_given : Option Value → ℤ
 number_given None = pos 0

@@ -4,6 +4,7 @@ ghost use Rattle.std.specs.Prelude.{◌≡◌, IfOk};
 ghost use Rattle.meaning.specs.Reports.{Gives};
 ghost use Rattle.meaning.specs.Rules.{checked};
 ghost use Rattle.meaning.specs.Trees.{nested};
+ghost use Rattle.rule_laws.specs.Units.{IsSpelled};
 
 use crate::rules::{Kept, Names, kept_of};
 use meaning::refusal::Refusal;
@@ -14,9 +15,9 @@ use std::alloc::Global;
 
 /// Checks a program unit by the rules on labels, names, constants, arrays, DO variables, units, formats, DATA and statement
 /// functions: the program, whose statements are the unit's, or the least broken rule of the least line. `Memory` where a growth
-/// was refused; also for trees that no source text has, where a statement function stands in a range or an arm and no DO or block
-/// IF statement before it.
+/// was refused, or `k_rules::judge` says so by itself.
 pub fn check(alloc: Global, tree: Tree) -> Result<Program, Refusal>
+    requires { IsSpelled (nested tree) }
     ensures exact { Gives (λ p. nested p) result (checked (nested tree)) }
     ensures tree { IfOk result (λ p. p ≡ tree) }
 {

@@ -1,13 +1,13 @@
 //! What is kept of names (ANSI X3.9-1978, 2.12, 4.1.2, 5.4 and 8.6).
 
-ghost use Rattle.std.specs.Prelude.{◌≡◌, ◌≤◌, ◌+◌, ◌*◌, ◌∷◌, [], length, map, IfOk, IsOk, OnOk};
+ghost use Rattle.std.specs.Prelude.{◌≡◌, ◌≤◌, ◌<◌, ◌+◌, ◌^◌, ◌∷◌, [], length, map, IfOk, IsOk, OnOk};
 ghost use Rattle.meaning.specs.Arrays.{cells_of, size};
 ghost use Rattle.meaning.specs.Scopes.{constants_in};
 ghost use Rattle.meaning.specs.Syntax.{constant_tree, shape_tree};
 ghost use Rattle.expressions.specs.Dimensions.{dimension};
 ghost use Rattle.name_maps.specs.NameSets.{texts};
 ghost use Rattle.k_rules.specs.Judged.{constant_in};
-ghost use Rattle.checker.specs.Entries.{AddsOne, AddsCells, AreSaid, AreStored, Tells, given_in, cells_at, declared, defined, dimensions_at, given, named_by, said};
+ghost use Rattle.checker.specs.Entries.{AddsOne, AddsCells, AreCountable, AreSaid, AreStored, HaveRoom, Tells, given_in, cells_at, declared, defined, dimensions_at, given, named_by, said};
 
 use expressions::{Dimension, Dimensions};
 use indexmap::IndexMap;
@@ -40,38 +40,16 @@ fn dimensions_named(alloc: Global, facts: &Facts, name: &[u8]) -> Result<Dimensi
     }
 }
 
-/// A sum. The `AllocError` comes where it is 2^64 or more. No number of cells gets there: in a program unit that keeps the rules
-/// all arrays have 16,777,216 elements at most together, and beside these each variable has one cell, and its name stands in the
-/// unit's tree.
-pub(crate) fn plus(a: usize, b: usize) -> Result<usize, AllocError>
-    ensures { IfOk result (λ k. k ≡ a + b) }
-{
-    match a.checked_add(b) {
-        Some(sum) => Ok(sum),
-        None => Err(AllocError),
-    }
-}
-
-/// A product. The `AllocError` comes where it is 2^64 or more.
-fn times(a: usize, b: usize) -> Result<usize, AllocError>
-    ensures { IfOk result (λ k. k ≡ a * b) }
-{
-    match a.checked_mul(b) {
-        Some(product) => Ok(product),
-        None => Err(AllocError),
-    }
-}
-
-/// How many cells dimensions take. The `AllocError` comes where there are 2^64 or more; in a program unit that keeps the rules no
-/// extent is below 1, and there are 16,777,216 at most.
-pub(crate) fn cells_in(dimensions: &[Dimension]) -> Result<usize, AllocError>
-    ensures { IfOk result (λ k. k ≡ size (map dimension dimensions.now)) }
+/// How many cells dimensions take.
+pub(crate) fn cells_in(dimensions: &[Dimension]) -> usize
+    requires { AreCountable (map dimension dimensions.now) }
+    ensures { result ≡ size (map dimension dimensions.now) }
 {
     let mut found: usize = 1;
     for one in dimensions {
-        found = times(found, one.extent() as usize)?;
+        found *= one.extent() as usize;
     }
-    Ok(found)
+    found
 }
 
 /// Keeps what is so of a name, unless something is kept of it.
@@ -107,13 +85,15 @@ fn add_stored(
     facts: &Facts,
     name: &[u8],
 ) -> Result<(), AllocError>
+    requires countable { AreCountable (dimensions_at facts.now name.now) }
+    requires room { storing.old.next + cells_at facts.now name.now < 2 ^ 64 }
     ensures next { OnOk result (storing.new.next ≡ storing.old.next + cells_at facts.now name.now) }
     ensures entries { OnOk result (AddsCells facts.now roles.now name.now storing.old storing.new) }
 {
     let dimensions = dimensions_named(alloc, facts, name)?;
     let first = storing.next;
-    let cells = cells_in(&dimensions)?;
-    let next = plus(first, cells)?;
+    let cells = cells_in(&dimensions);
+    let next = first + cells;
     let entry = Entry {
         value: constant_named(facts, name),
         data_type: type_of_name(roles, name),
@@ -131,6 +111,7 @@ fn store_names(
     facts: &Facts,
     names: &[Vec<u8>],
 ) -> Result<Storing, AllocError>
+    requires { HaveRoom facts.now (texts names.now) }
     ensures next { IfOk result (λ s. s.next ≡ cells_of (named_by facts.now names.now)) }
     ensures entries { IfOk result (λ s. AreStored facts.now roles.now names.now s.entries) }
 {
@@ -243,6 +224,7 @@ pub(crate) fn entries_of(
     facts: &Facts,
     names: &[Vec<u8>],
 ) -> Result<Storing, AllocError>
+    requires { HaveRoom facts.now (texts names.now) }
     ensures next { IfOk result (λ s. s.next ≡ cells_of (named_by facts.now names.now)) }
     ensures entries { IfOk result (λ s. AreSaid facts.now roles.now (texts names.now) s.entries) }
 {

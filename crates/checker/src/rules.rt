@@ -7,6 +7,9 @@ ghost use Rattle.meaning.specs.Trees.{nested};
 ghost use Rattle.numbering.specs.Agreed.{IsNumbered};
 ghost use Rattle.roles.specs.Listed.{trees_at};
 ghost use Rattle.name_maps.specs.NameSets.{texts};
+ghost use Rattle.rule_laws.specs.Units.{IsSpelled};
+ghost use Rattle.appearances.specs.Appearing.{variables_at};
+ghost use Rattle.checker.specs.Entries.{HaveRoom};
 ghost use Rattle.checker.specs.Built.{AreNames, AreStarted, IsJudged, parts_by};
 ghost use Rattle.numbering.specs.Checked.{items_in};
 
@@ -48,10 +51,11 @@ fn entries_with_starts(
     facts: &Facts,
     names: &[Vec<u8>],
 ) -> Result<(IndexMap<Vec<u8>, Entry>, Vec<i32>), AllocError>
+    requires { HaveRoom facts.now (texts names.now) }
     ensures { IfOk result (λ k. AreStarted facts.now roles.now (texts names.now) k.0 k.1) }
 {
     let Storing { entries, next } = entries_of(alloc, roles, facts, names)?;
-    match starts_of(alloc, &entries, facts, names, next) {
+    match starts_of(alloc, facts, names, next) {
         Ok(starts) => Ok((entries, starts)),
         Err(AllocError) => {
             drop(entries);
@@ -62,6 +66,7 @@ fn entries_with_starts(
 
 /// What is kept of the names of a program unit, and the values that the cells start with.
 fn names_of(alloc: Global, roles: &Roles, facts: &Facts) -> Result<Names, AllocError>
+    requires { HaveRoom facts.now (variables_at roles.now) }
     ensures { IfOk result (AreNames facts.now roles.now) }
 {
     let letters = letter_types_of(alloc, roles)?;
@@ -76,6 +81,7 @@ fn names_of(alloc: Global, roles: &Roles, facts: &Facts) -> Result<Names, AllocE
 
 /// What is kept of a program unit that breaks no rule, by what its statements say of names.
 fn kept_in(alloc: Global, tree: &Tree, facts: &Facts, roles: &Roles) -> Result<Kept, AllocError>
+    requires spelled { IsSpelled (nested tree.now) }
     requires judged { IsJudged tree.now facts.now }
     requires listed { trees_at roles.now.items.now ≡ items_in tree.now }
     ensures { IfOk result (λ k. IsNumbered (parts_by tree.now facts.now.formats k)) }
@@ -99,7 +105,8 @@ fn kept_in(alloc: Global, tree: &Tree, facts: &Facts, roles: &Roles) -> Result<K
 
 /// What is kept of a program unit that breaks no rule.
 fn kept_by(alloc: Global, tree: &Tree, facts: &Facts) -> Result<Kept, AllocError>
-    requires { IsJudged tree.now facts.now }
+    requires spelled { IsSpelled (nested tree.now) }
+    requires judged { IsJudged tree.now facts.now }
     ensures { IfOk result (λ k. IsNumbered (parts_by tree.now facts.now.formats k)) }
 {
     let items = items_of(alloc, tree)?;
@@ -110,8 +117,9 @@ fn kept_by(alloc: Global, tree: &Tree, facts: &Facts) -> Result<Kept, AllocError
 }
 
 /// What is kept of a program unit, with its formats, or the least broken rule of the least line. `Memory` where a growth was
-/// refused.
+/// refused, or `k_rules::judge` says so by itself.
 pub(crate) fn kept_of(alloc: Global, tree: &Tree) -> Result<(Kept, Formats), Refusal>
+    requires { IsSpelled (nested tree.now) }
     ensures exact { Gives (λ _. nested tree.now) result (checked (nested tree.now)) }
     ensures numbered { IfOk result (λ k. IsNumbered (parts_by tree.now k.1 k.0)) }
 {

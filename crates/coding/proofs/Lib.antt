@@ -7,3 +7,5 @@ pub mod Ordered
 pub mod Adding
 pub mod Lowered
 pub mod Turned
+pub mod Filled
+pub mod Arrays

@@ -1,8 +1,16 @@
 //! Codes of the expressions and the limits in a program's statements (ANSI X3.9-1978, 6.1, 10.1 and 15.4).
 
-ghost use Rattle.std.specs.Prelude.{◌≡◌, IfOk, option_map};
+ghost use Rattle.std.specs.Prelude.{◌≡◌, ◌≢◌, Err, IfOk, Ok, [], option_map};
+ghost use Rattle.std.specs.List.{AllByRecursion};
 ghost use Rattle.meaning.specs.Syntax.{expr_tree, limits_tree};
-ghost use Rattle.programs.specs.Codes.{AreLimits, IsCell, IsCode, IsCodeIf};
+ghost use Rattle.meaning.specs.Typing.{option_list};
+ghost use Rattle.numbering.specs.Checked.{numbers_in};
+ghost use Rattle.code_laws.specs.declared.no_code.NoCode.TheVariants.{Unruly};
+ghost use Rattle.compiler.specs.Ruly.{IsRuly};
+ghost use Rattle.programs.specs.Codes.{AreLimits, IsCell, IsCode, IsCodeIf, setting_in};
+ghost use Rattle.rule_laws.specs.Evaluated.{in_limits};
+ghost use Rattle.rule_laws.specs.References.{HasCell};
+ghost use Rattle.ruly_laws.specs.Statements.{IsLoopCodable};
 
 use code_laws::NoCode;
 use compiler::{Frame, Scene, code_of, is_logical};
@@ -11,10 +19,27 @@ use meaning::syntax::{Expr, Exprs, Limits};
 use numbering::Program;
 use postfix::Code;
 use programs::Repeat;
-use std::alloc::Global;
+use std::alloc::{AllocError, Global};
+
+/// A code, unless a growth was refused.
+pub(crate) fn made(code: Result<Code, NoCode>) -> Result<Code, AllocError>
+    requires { code ≢ Err Unruly }
+    ensures { IfOk result (λ c. code ≡ Ok c) }
+{
+    match code {
+        Ok(code) => Ok(code),
+        Err(NoCode::Memory) => Err(AllocError),
+        Err(NoCode::Unruly) => unreachable!(),
+    }
+}
 
 /// The code of an expression in a statement.
-pub(crate) fn code_in(alloc: Global, expression: &Expr, program: &Program) -> Result<Code, NoCode>
+pub(crate) fn code_in(
+    alloc: Global,
+    expression: &Expr,
+    program: &Program,
+) -> Result<Code, AllocError>
+    requires { IsRuly (setting_in program.now) (expr_tree expression.now) }
     ensures { IfOk result (IsCode program.now (expr_tree expression.now)) }
 {
     let callable = program.functions();
@@ -29,7 +54,7 @@ pub(crate) fn code_in(alloc: Global, expression: &Expr, program: &Program) -> Re
         cells: program.starts().len(),
     };
     let logical = is_logical(expression, frame, program);
-    code_of(alloc, expression, logical, scene, program)
+    made(code_of(alloc, expression, logical, scene, program))
 }
 
 /// The code of an expression that may be missing.
@@ -37,25 +62,28 @@ pub(crate) fn code_if(
     alloc: Global,
     expression: &Option<Expr>,
     program: &Program,
-) -> Result<Option<Code>, NoCode>
+) -> Result<Option<Code>, AllocError>
+    requires { AllByRecursion (IsRuly (setting_in program.now))
+        (option_list (option_map expr_tree expression.now)) }
     ensures { IfOk result (IsCodeIf program.now (option_map expr_tree expression.now)) }
 {
     match expression {
         Some(expression) => match code_in(alloc, expression, program) {
             Ok(code) => Ok(Some(code)),
-            Err(reason) => Err(reason),
+            Err(AllocError) => Err(AllocError),
         },
         None => Ok(None),
     }
 }
 
 /// The cell of a variable.
-pub(crate) fn cell_of(name: &[u8], program: &Program) -> Result<usize, NoCode>
-    ensures { IfOk result (IsCell program.now name.now) }
+pub(crate) fn cell_of(name: &[u8], program: &Program) -> usize
+    requires { HasCell (numbers_in program.now) name.now [] }
+    ensures { IsCell program.now name.now result }
 {
     match program.find(name).cell() {
-        Some(cell) => Ok(cell.0),
-        None => Err(NoCode::Unruly),
+        Some(cell) => cell.0,
+        None => unreachable!(),
     }
 }
 
@@ -65,7 +93,8 @@ fn limits_in(
     variable: usize,
     limits: &Limits,
     program: &Program,
-) -> Result<Repeat, NoCode>
+) -> Result<Repeat, AllocError>
+    requires { AllByRecursion (IsRuly (setting_in program.now)) (in_limits (limits_tree limits.now)) }
     ensures limits { IfOk result (AreLimits program.now (limits_tree limits.now)) }
     ensures variable { IfOk result (λ r. r.variable ≡ variable) }
 {
@@ -78,15 +107,15 @@ fn limits_in(
                 last,
                 step,
             }),
-            Err(reason) => {
+            Err(AllocError) => {
                 drop(first);
                 drop(last);
-                Err(reason)
+                Err(AllocError)
             }
         },
-        Err(reason) => {
+        Err(AllocError) => {
             drop(first);
-            Err(reason)
+            Err(AllocError)
         }
     }
 }
@@ -97,10 +126,11 @@ pub(crate) fn repeat_in(
     variable: &[u8],
     limits: &Limits,
     program: &Program,
-) -> Result<Repeat, NoCode>
+) -> Result<Repeat, AllocError>
+    requires { IsLoopCodable (setting_in program.now) variable.now (limits_tree limits.now) }
     ensures variable { IfOk result (λ r. IsCell program.now variable.now r.variable) }
     ensures limits { IfOk result (AreLimits program.now (limits_tree limits.now)) }
 {
-    let cell = cell_of(variable, program)?;
+    let cell = cell_of(variable, program);
     limits_in(alloc, cell, limits, program)
 }

@@ -1,19 +1,26 @@
 //! The codes of a program's statement functions (ANSI X3.9-1978, 15.4).
 
-ghost use Rattle.std.specs.Prelude.{IfOk};
+ghost use Rattle.std.specs.Prelude.{◌≡◌, ◌≤◌, IfOk, [], length, option_map};
+ghost use Rattle.meaning.specs.Syntax.{expr_tree, shape_tree};
+ghost use Rattle.numbering.specs.Checked.{items_in, names_in, tree_of};
+ghost use Rattle.roles.specs.Listed.{trees_at};
+ghost use Rattle.compiler.specs.Ruly.{IsRuly};
 ghost use Rattle.programs.specs.Kept.{AreFunctions};
-ghost use Rattle.coding.specs.Functions.{AreFirst, IsBodyCode};
+ghost use Rattle.ruly_laws.specs.Statements.{AreFunctionsCodable};
+ghost use Rattle.coding.specs.Functions.{AddsOwn, AreFirst, IsBodyCode, name_shown, setting_within};
 
-use code_laws::NoCode;
+use crate::codes::made;
 use compiler::{Scene, code_of};
 use expressions::{Function, Numbering};
 use meaning::syntax::{Item, Shape};
 use numbering::Program;
 use postfix::Code;
-use std::alloc::Global;
+use std::alloc::{AllocError, Global};
 
 // The name that a statement may define a statement function by.
-fn name_in(shape: &Shape) -> Option<&[u8]> {
+fn name_in(shape: &Shape) -> Option<&[u8]>
+    ensures { option_map (λ n. n.now) result ≡ name_shown (shape_tree shape.now) }
+{
     match shape {
         Shape::Assignment {
             name,
@@ -26,7 +33,12 @@ fn name_in(shape: &Shape) -> Option<&[u8]> {
 }
 
 // The code of a statement function's expression. Of which kind its value is depends on its arguments, so the code doesn't tell.
-fn function_code(alloc: Global, function: Function<'_>, program: &Program) -> Result<Code, NoCode>
+fn function_code(
+    alloc: Global,
+    function: Function<'_>,
+    program: &Program,
+) -> Result<Code, AllocError>
+    requires { IsRuly (setting_within program.now function) (expr_tree function.body.now) }
     ensures { IfOk result (IsBodyCode program.now function.entry) }
 {
     let scene = Scene {
@@ -34,7 +46,7 @@ fn function_code(alloc: Global, function: Function<'_>, program: &Program) -> Re
         callable: function.at,
         cells: program.starts().len(),
     };
-    code_of(alloc, function.body, false, scene, program)
+    made(code_of(alloc, function.body, false, scene, program))
 }
 
 // Puts the code of a statement function behind those of all before it; of another one none.
@@ -43,9 +55,12 @@ fn add_function(
     codes: &mut Vec<Code>,
     name: &[u8],
     program: &Program,
-) -> Result<(), NoCode>
+) -> Result<(), AllocError>
+    requires codable { AreFunctionsCodable (tree_of program.now) }
     requires first { AreFirst program.now codes.old.items }
     ensures first { IfOk result (λ _. AreFirst program.now codes.new.items) }
+    ensures own { IfOk result (λ _. AddsOwn program.now name.now
+        (length codes.old.items) (length codes.new.items)) }
 {
     match program.function(name) {
         Some(function) => {
@@ -64,9 +79,13 @@ fn add_functions(
     codes: &mut Vec<Code>,
     items: &[&Item],
     program: &Program,
-) -> Result<(), NoCode>
-    requires first { AreFirst program.now codes.old.items }
+) -> Result<(), AllocError>
+    requires codable { AreFunctionsCodable (tree_of program.now) }
+    requires none { codes.old.items ≡ [] }
+    requires all { trees_at items.now ≡ items_in program.now }
     ensures first { IfOk result (λ _. AreFirst program.now codes.new.items) }
+    ensures all { IfOk result (λ _.
+        length (names_in program.now).definitions ≤ length codes.new.items) }
 {
     for item in items {
         match name_in(&*item.form.shape) {
@@ -82,21 +101,17 @@ pub(crate) fn functions_of(
     alloc: Global,
     items: &[&Item],
     program: &Program,
-) -> Result<Vec<Code>, NoCode>
+) -> Result<Vec<Code>, AllocError>
+    requires codable { AreFunctionsCodable (tree_of program.now) }
+    requires all { trees_at items.now ≡ items_in program.now }
     ensures { IfOk result (λ codes. AreFunctions program.now codes.items) }
 {
     let mut codes = Vec::new(alloc);
     match add_functions(alloc, &mut codes, items, program) {
-        Ok(()) => {
-            if codes.len() < program.functions() {
-                drop(codes);
-                return Err(NoCode::Unruly);
-            }
-            Ok(codes)
-        }
-        Err(reason) => {
+        Ok(()) => Ok(codes),
+        Err(AllocError) => {
             drop(codes);
-            Err(reason)
+            Err(AllocError)
         }
     }
 }

@@ -1,12 +1,14 @@
 //! The codes of output lists (ANSI X3.9-1978, 12.8.2).
 
-ghost use Rattle.std.specs.Prelude.{◌≡◌, IfOk, Some, [], ◌∷◌};
+ghost use Rattle.std.specs.Prelude.{◌≡◌, IfOk, IsSome, Some, [], ◌∷◌};
+ghost use Rattle.meaning.specs.declared.syntax.Tree.{Tree};
 ghost use Rattle.meaning.specs.Syntax.{ExprTree, expr_tree, limits_tree, list_item_tree, list_items_tree, loop_item, value_item};
+ghost use Rattle.programs.specs.Codes.{setting_in};
 ghost use Rattle.programs.specs.Items.{AreItems, IsItem, IsWholeArray, StandsFor, is_logical_type};
+ghost use Rattle.ruly_laws.specs.Statements.{AreItemsCodable, IsItemCodable, IsLoopCodable, IsValueCodable};
 ghost use Rattle.coding.specs.Lists.{AreEach, codes_in};
 
 use crate::codes::{code_in, repeat_in};
-use code_laws::NoCode;
 use expressions::{Cells, Numbering};
 use meaning::syntax::{DataType, Expr, Limits, ListItem, ListItems};
 use numbering::Program;
@@ -24,24 +26,20 @@ fn is_logical(data_type: Option<DataType>) -> bool
     }
 }
 
-// A whole array by its cells.
-fn whole_array(cells: Cells<'_>, program: &Program) -> Result<WholeArray, NoCode>
-    ensures { (e : ExprTree) → StandsFor program.now e (Some cells.entry) →
-        IfOk result (IsWholeArray program.now e) }
+// A whole array by its cells, which stand one behind the other.
+fn whole_array(cells: Cells<'_>) -> WholeArray
+    requires { IsSome cells.place.cell }
+    ensures { (t : Tree) (e : ExprTree) → StandsFor t e (Some cells.entry) →
+        IsWholeArray t e result }
 {
     let place = cells.place;
     match place.first() {
-        Some(first) => {
-            if place.stride() != 1 {
-                return Err(NoCode::Unruly);
-            }
-            Ok(WholeArray {
-                first,
-                size: place.size(),
-                is_logical: is_logical(cells.data_type),
-            })
-        }
-        None => Err(NoCode::Unruly),
+        Some(first) => WholeArray {
+            first,
+            size: place.size(),
+            is_logical: is_logical(cells.data_type),
+        },
+        None => unreachable!(),
     }
 }
 
@@ -56,11 +54,12 @@ fn array_in<'a>(item: &Expr, program: &'a Program) -> Option<Cells<'a>>
 }
 
 // The code of an item that is no implied DO.
-fn value_code(alloc: Global, item: &Expr, program: &Program) -> Result<ListCode, NoCode>
+fn value_code(alloc: Global, item: &Expr, program: &Program) -> Result<ListCode, AllocError>
+    requires { IsValueCodable (setting_in program.now) (expr_tree item.now) }
     ensures { IfOk result (IsItem program.now (value_item (expr_tree item.now))) }
 {
     match array_in(item, program) {
-        Some(cells) => Ok(ListCode::Array(whole_array(cells, program)?)),
+        Some(cells) => Ok(ListCode::Array(whole_array(cells))),
         None => Ok(ListCode::Value(code_in(alloc, item, program)?)),
     }
 }
@@ -73,23 +72,26 @@ fn loop_code(
     variable: &[u8],
     limits: &Limits,
     program: &Program,
-) -> Result<ListCode, NoCode>
+) -> Result<ListCode, AllocError>
+    requires counted { IsLoopCodable (setting_in program.now) variable.now (limits_tree limits.now) }
+    requires items { AreItemsCodable (setting_in program.now) (list_items_tree items.now) }
     ensures { IfOk result (IsItem program.now
         (loop_item (list_items_tree items.now) variable.now (limits_tree limits.now))) }
 {
     let repeat = repeat_in(alloc, variable, limits, program)?;
     match list_code(alloc, items, program) {
         Ok(codes) => Ok(ListCode::Loop(Box::new(alloc, codes)?, repeat)),
-        Err(reason) => {
+        Err(AllocError) => {
             drop(repeat);
-            Err(reason)
+            Err(AllocError)
         }
     }
 }
 
 // The code of an item.
 #[cycle(listed)]
-fn item_code(alloc: Global, item: &ListItem, program: &Program) -> Result<ListCode, NoCode>
+fn item_code(alloc: Global, item: &ListItem, program: &Program) -> Result<ListCode, AllocError>
+    requires { IsItemCodable (setting_in program.now) (list_item_tree item.now) }
     ensures { IfOk result (IsItem program.now (list_item_tree item.now)) }
 {
     match item {
@@ -109,8 +111,9 @@ fn add_codes(
     codes: &mut Vec<ListCode>,
     items: &ListItems,
     program: &Program,
-) -> Result<(), NoCode>
+) -> Result<(), AllocError>
     requires none { codes.old.items ≡ [] }
+    requires codable { AreItemsCodable (setting_in program.now) (list_items_tree items.now) }
     ensures { IfOk result (λ _. AreEach program.now (list_items_tree items.now) codes.new.items) }
 {
     let mut rest = items;
@@ -151,7 +154,8 @@ pub(crate) fn list_code(
     alloc: Global,
     items: &ListItems,
     program: &Program,
-) -> Result<ListCodes, NoCode>
+) -> Result<ListCodes, AllocError>
+    requires { AreItemsCodable (setting_in program.now) (list_items_tree items.now) }
     ensures { IfOk result (AreItems program.now (list_items_tree items.now)) }
 {
     let mut codes = Vec::new(alloc);
@@ -159,11 +163,11 @@ pub(crate) fn list_code(
         Ok(()) => {
             let list = list_of(alloc, &mut codes);
             drop(codes);
-            Ok(list?)
+            list
         }
-        Err(reason) => {
+        Err(AllocError) => {
             drop(codes);
-            Err(reason)
+            Err(AllocError)
         }
     }
 }

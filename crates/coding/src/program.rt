@@ -1,17 +1,22 @@
 //! From a program that keeps the rules to one with what its statements need.
 
-ghost use Rattle.std.specs.Prelude.{◌≡◌, IfOk};
+ghost use Rattle.std.specs.Prelude.{◌≡◌, ◌^◌, IfOk};
+ghost use Rattle.std.specs.List.{AllByRecursion};
 ghost use Rattle.meaning.specs.Trees.{Members};
 ghost use Rattle.landmarks.specs.Lists.{IsListIn};
 ghost use Rattle.roles.specs.Listed.{trees_at};
-ghost use Rattle.numbering.specs.Checked.{items_in};
+ghost use Rattle.numbering.specs.Checked.{items_in, tree_of};
 ghost use Rattle.programs.specs.Kept.{AreFunctions, AreKept, HasNoOther};
+ghost use Rattle.programs.specs.Codes.{setting_in};
 ghost use Rattle.programs.specs.Listed.{HasOrders};
+ghost use Rattle.rule_laws.specs.Lawful.{IsAccepted};
+ghost use Rattle.rule_laws.specs.Units.{IsSpelled};
+ghost use Rattle.ruly_laws.specs.Statements.{AreCodable, AreFunctionsCodable, IsCodable};
+ghost use Rattle.coding.specs.Lines.{Climb, lines_of};
 
 use crate::functions::functions_of;
 use crate::lists::lists_of;
 use crate::statement::action_of;
-use code_laws::NoCode;
 use meaning::syntax::Item;
 use numbering::Program;
 use postfix::Code;
@@ -20,7 +25,10 @@ use roles::items_of;
 use std::alloc::{AllocError, Global};
 
 // What statements need.
-fn actions_of(alloc: Global, items: &[&Item], program: &Program) -> Result<Actions, NoCode>
+fn actions_of(alloc: Global, items: &[&Item], program: &Program) -> Result<Actions, AllocError>
+    requires codable { AllByRecursion (λ x. IsCodable (setting_in program.now) x.shape)
+        (trees_at items.now) }
+    requires lines { Climb 0 (2 ^ 16) (lines_of (trees_at items.now)) }
     ensures kept { IfOk result (λ a. AreKept program.now a (trees_at items.now)) }
     ensures others { IfOk result (λ a. HasNoOther a (trees_at items.now)) }
 {
@@ -28,16 +36,16 @@ fn actions_of(alloc: Global, items: &[&Item], program: &Program) -> Result<Actio
     for item in items {
         let action = match action_of(alloc, &*item.form.shape, program) {
             Ok(action) => action,
-            Err(reason) => {
+            Err(AllocError) => {
                 drop(actions);
-                return Err(reason);
+                return Err(AllocError);
             }
         };
         match actions.add(item.line, action) {
             Ok(()) => {}
-            Err(reason) => {
+            Err(AllocError) => {
                 drop(actions);
-                return Err(reason);
+                return Err(AllocError);
             }
         }
     }
@@ -58,8 +66,9 @@ fn with_lists(
     actions: Actions,
     functions: Vec<Code>,
     program: &Program,
-) -> Result<Kept, NoCode>
-    requires { AreKept program.now actions (items_in program.now) }
+) -> Result<Kept, AllocError>
+    requires kept { AreKept program.now actions (items_in program.now) }
+    requires lines { Climb 0 (2 ^ 16) (lines_of (items_in program.now)) }
     ensures actions { IfOk result (λ k. k.actions ≡ actions) }
     ensures functions { IfOk result (λ k. k.functions ≡ functions) }
     ensures lists { IfOk result (λ k. (ms : Members) → IsListIn program.now ms →
@@ -71,16 +80,19 @@ fn with_lists(
             functions,
             lists,
         }),
-        Err(reason) => {
+        Err(AllocError) => {
             drop(actions);
             drop(functions);
-            Err(reason)
+            Err(AllocError)
         }
     }
 }
 
 // What its statements need, the codes of its statement functions, and the orders of its lists.
-fn kept_of(alloc: Global, program: &Program) -> Result<Kept, NoCode>
+fn kept_of(alloc: Global, program: &Program) -> Result<Kept, AllocError>
+    requires statements { AreCodable (tree_of program.now) }
+    requires functions { AreFunctionsCodable (tree_of program.now) }
+    requires lines { Climb 0 (2 ^ 16) (lines_of (items_in program.now)) }
     ensures actions { IfOk result (λ k. AreKept program.now k.actions (items_in program.now)) }
     ensures others { IfOk result (λ k. HasNoOther k.actions (items_in program.now)) }
     ensures functions { IfOk result (λ k. AreFunctions program.now k.functions.items) }
@@ -91,17 +103,18 @@ fn kept_of(alloc: Global, program: &Program) -> Result<Kept, NoCode>
     let functions = functions_of(alloc, items.as_slice(), program)?;
     match actions_of(alloc, items.as_slice(), program) {
         Ok(actions) => with_lists(alloc, actions, functions, program),
-        Err(reason) => {
+        Err(AllocError) => {
             drop(functions);
-            Err(reason)
+            Err(AllocError)
         }
     }
 }
 
 /// Makes what the statements of a program that keeps the rules need, and the orders of its lists: the program with it. `AllocError`
-/// where a growth was refused; also for trees that no source text has: where a statement function stands in a range or an arm, where
-/// lines of statements don't ascend, where an expression needs room for more than 1,024 numbers.
+/// where a growth was refused.
 pub fn coded(alloc: Global, unit: Program) -> Result<programs::Program, AllocError>
+    requires spelled { IsSpelled (tree_of unit) }
+    requires accepted { IsAccepted (tree_of unit) }
     ensures { IfOk result (λ p. p ≡ unit) }
 {
     match kept_of(alloc, &unit) {
@@ -112,7 +125,7 @@ pub fn coded(alloc: Global, unit: Program) -> Result<programs::Program, AllocErr
                 lists,
             },
         ) => Ok(programs::Program::new(unit, actions, functions, lists)),
-        Err(_) => {
+        Err(AllocError) => {
             drop(unit);
             Err(AllocError)
         }

@@ -1,44 +1,44 @@
 //! What single statements need (ANSI X3.9-1978, 10.1, chapter 11 and 12.8).
 
-ghost use Rattle.std.specs.Prelude.{◌≡◌, ℕ, Bool, List, Option, IfOk, Some, map};
+ghost use Rattle.std.specs.Prelude.{◌≡◌, ℕ, Bool, IsTrue, List, Option, IfOk, Some, map};
 ghost use Rattle.meaning.specs.declared.syntax.Tree.{Tree};
 ghost use Rattle.meaning.specs.Characters.{number_of};
 ghost use Rattle.meaning.specs.Syntax.{arithmetic_if, assignment, doing, going, expr_tree, exprs_tree, limits_tree, list_items_tree, logical_if, shape_tree, computed_going};
+ghost use Rattle.std.specs.List.{AllByRecursion};
+ghost use Rattle.compiler.specs.Ruly.{IsRuly, IsRulyPlace};
 ghost use Rattle.numbering.specs.Told.{IsArrayIn};
 ghost use Rattle.programs.specs.Acts.{Acts};
-ghost use Rattle.coding.specs.Parts.{AssignsTo, TestsBy, WhilesBy, WritesList};
-ghost use Rattle.programs.specs.Codes.{IsTarget};
+ghost use Rattle.coding.specs.Parts.{AssignsTo, TestsBy, WhilesBy, WritesList, goes_or_passes, is_single};
+ghost use Rattle.programs.specs.Codes.{IsTarget, setting_in};
+ghost use Rattle.ruly_laws.specs.Statements.{AreItemsCodable, IsCodable, IsLoopCodable, IsSmallLabel};
 
-use crate::codes::{cell_of, code_in, repeat_in};
+use crate::codes::{cell_of, code_in, made, repeat_in};
 use crate::items::list_code;
 use crate::stopping::stop_action;
-use code_laws::NoCode;
 use compiler::{Scene, place_of};
 use expressions::{Cells, Numbering};
 use meaning::number::number;
 use meaning::syntax::{Expr, Exprs, Limits, ListItems, Shape};
 use numbering::Program;
 use programs::{Action, Target};
-use std::alloc::Global;
+use std::alloc::{AllocError, Global};
 
 // The label that digits spell.
-fn target(digits: &[u8]) -> Result<u32, NoCode>
-    ensures { IfOk result (λ label. number_of digits.now ≡ label) }
+fn target(digits: &[u8]) -> u32
+    requires { IsSmallLabel digits.now }
+    ensures { number_of digits.now ≡ result }
 {
-    let label = number(digits);
-    if label > 0xffff_ffff {
-        return Err(NoCode::Unruly);
-    }
-    Ok(label as u32)
+    number(digits) as u32
 }
 
 // The labels that digits spell, first to last.
-fn targets(alloc: Global, labels: &[Vec<u8>]) -> Result<Vec<u32>, NoCode>
+fn targets(alloc: Global, labels: &[Vec<u8>]) -> Result<Vec<u32>, AllocError>
+    requires { AllByRecursion IsSmallLabel (map (λ l. l.items) labels.now) }
     ensures { IfOk result (λ found. map number_of (map (λ l. l.items) labels.now) ≡ found.items) }
 {
     let mut found = Vec::new(alloc);
     for label in labels {
-        found.push(target(label)?)?;
+        found.push(target(label))?;
     }
     Ok(found)
 }
@@ -50,8 +50,9 @@ fn element_in(
     cells: Cells<'_>,
     subscripts: &Exprs,
     program: &Program,
-) -> Result<Target, NoCode>
+) -> Result<Target, AllocError>
     requires array { IsArrayIn program.now name.now (Some cells) }
+    requires codable { IsRulyPlace (setting_in program.now) name.now (exprs_tree subscripts.now) }
     ensures { IfOk result (IsTarget program.now name.now (exprs_tree subscripts.now)) }
 {
     let scene = Scene {
@@ -59,10 +60,8 @@ fn element_in(
         callable: program.functions(),
         cells: program.starts().len(),
     };
-    match place_of(alloc, name, cells.place, subscripts, scene, program) {
-        Ok(code) => Ok(Target::Element(code)),
-        Err(reason) => Err(reason),
-    }
+    let code = place_of(alloc, name, cells.place, subscripts, scene, program);
+    Ok(Target::Element(made(code)?))
 }
 
 // An assignment to this place.
@@ -71,14 +70,15 @@ fn assigned(
     target: Target,
     value: &Expr,
     program: &Program,
-) -> Result<Action, NoCode>
+) -> Result<Action, AllocError>
+    requires { IsRuly (setting_in program.now) (expr_tree value.now) }
     ensures { IfOk result (λ a. AssignsTo program.now target (expr_tree value.now) a) }
 {
     match code_in(alloc, value, program) {
         Ok(code) => Ok(Action::Assign(target, code)),
-        Err(reason) => {
+        Err(AllocError) => {
             drop(target);
-            Err(reason)
+            Err(AllocError)
         }
     }
 }
@@ -90,14 +90,16 @@ fn assignment_action(
     subscripts: &Exprs,
     value: &Expr,
     program: &Program,
-) -> Result<Action, NoCode>
+) -> Result<Action, AllocError>
+    requires { IsCodable (setting_in program.now)
+        (assignment name.now (exprs_tree subscripts.now) (expr_tree value.now)) }
     ensures { IfOk result (λ a. Acts program.now a
         (assignment name.now (exprs_tree subscripts.now) (expr_tree value.now))) }
 {
     match subscripts {
         Exprs::Empty => assigned(
             alloc,
-            Target::Variable(cell_of(name, program)?),
+            Target::Variable(cell_of(name, program)),
             value,
             program,
         ),
@@ -117,14 +119,16 @@ fn computed_action(
     labels: &[Vec<u8>],
     value: &Expr,
     program: &Program,
-) -> Result<Action, NoCode>
+) -> Result<Action, AllocError>
+    requires labels { AllByRecursion IsSmallLabel (map (λ l. l.items) labels.now) }
+    requires value { IsRuly (setting_in program.now) (expr_tree value.now) }
     ensures { (comma : Bool) → IfOk result (λ a. Acts program.now a
         (computed_going (map (λ l. l.items) labels.now) comma (expr_tree value.now))) }
 {
     let found = targets(alloc, labels)?;
     match code_in(alloc, value, program) {
         Ok(code) => Ok(Action::ComputedGoTo(found, code)),
-        Err(reason) => Err(reason),
+        Err(AllocError) => Err(AllocError),
     }
 }
 
@@ -136,36 +140,40 @@ fn arithmetic_action(
     zero: &[u8],
     positive: &[u8],
     program: &Program,
-) -> Result<Action, NoCode>
+) -> Result<Action, AllocError>
+    requires { IsCodable (setting_in program.now)
+        (arithmetic_if (expr_tree value.now) negative.now zero.now positive.now) }
     ensures { IfOk result (λ a. Acts program.now a
         (arithmetic_if (expr_tree value.now) negative.now zero.now positive.now)) }
 {
-    let below = target(negative)?;
-    let at_zero = target(zero)?;
-    let above = target(positive)?;
+    let below = target(negative);
+    let at_zero = target(zero);
+    let above = target(positive);
     match code_in(alloc, value, program) {
         Ok(code) => Ok(Action::ArithmeticIf(code, below, at_zero, above)),
-        Err(reason) => Err(reason),
+        Err(AllocError) => Err(AllocError),
     }
 }
 
 // A condition of a block IF.
-fn test_action(alloc: Global, condition: &Expr, program: &Program) -> Result<Action, NoCode>
+fn test_action(alloc: Global, condition: &Expr, program: &Program) -> Result<Action, AllocError>
+    requires { IsRuly (setting_in program.now) (expr_tree condition.now) }
     ensures { IfOk result (λ a. TestsBy program.now (expr_tree condition.now) a) }
 {
     match code_in(alloc, condition, program) {
         Ok(code) => Ok(Action::Test(code)),
-        Err(reason) => Err(reason),
+        Err(AllocError) => Err(AllocError),
     }
 }
 
 // A DO WHILE statement.
-fn while_action(alloc: Global, condition: &Expr, program: &Program) -> Result<Action, NoCode>
+fn while_action(alloc: Global, condition: &Expr, program: &Program) -> Result<Action, AllocError>
+    requires { IsRuly (setting_in program.now) (expr_tree condition.now) }
     ensures { IfOk result (λ a. WhilesBy program.now (expr_tree condition.now) a) }
 {
     match code_in(alloc, condition, program) {
         Ok(code) => Ok(Action::While(code)),
-        Err(reason) => Err(reason),
+        Err(AllocError) => Err(AllocError),
     }
 }
 
@@ -175,61 +183,36 @@ fn repeat_action(
     variable: &[u8],
     limits: &Limits,
     program: &Program,
-) -> Result<Action, NoCode>
+) -> Result<Action, AllocError>
+    requires { IsLoopCodable (setting_in program.now) variable.now (limits_tree limits.now) }
     ensures { (label : Option (List ℕ)) (comma : Bool) → IfOk result (λ a. Acts program.now a
         (doing label comma variable.now (limits_tree limits.now))) }
 {
     match repeat_in(alloc, variable, limits, program) {
         Ok(repeat) => Ok(Action::Repeat(repeat)),
-        Err(reason) => Err(reason),
+        Err(AllocError) => Err(AllocError),
     }
 }
 
 // A WRITE or PRINT statement with this list.
-fn output_action(alloc: Global, list: &ListItems, program: &Program) -> Result<Action, NoCode>
+fn output_action(alloc: Global, list: &ListItems, program: &Program) -> Result<Action, AllocError>
+    requires { AreItemsCodable (setting_in program.now) (list_items_tree list.now) }
     ensures { IfOk result (λ a. WritesList program.now (list_items_tree list.now) a) }
 {
     match list_code(alloc, list, program) {
         Ok(codes) => Ok(Action::Output(codes)),
-        Err(reason) => Err(reason),
+        Err(AllocError) => Err(AllocError),
     }
 }
 
-// What a GO TO needs.
-fn going_action(label: &[u8]) -> Result<Action, NoCode>
-    ensures { (t : Tree) → IfOk result (λ a. Acts t a (going label.now)) }
-{
-    Ok(Action::GoTo(target(label)?))
-}
-
-// What a statement needs that is passed over. Another one has nothing here.
-fn idle_action(shape: &Shape) -> Result<Action, NoCode>
-    ensures { (t : Tree) → IfOk result (λ a. Acts t a (shape_tree shape.now)) }
-{
-    match shape {
-        Shape::Program(_) => Ok(Action::Pass),
-        Shape::Implicit(_) => Ok(Action::Pass),
-        Shape::ImplicitNone => Ok(Action::Pass),
-        Shape::Parameter(_) => Ok(Action::Pass),
-        Shape::Integer(_) => Ok(Action::Pass),
-        Shape::Logical(_) => Ok(Action::Pass),
-        Shape::Dimension(_) => Ok(Action::Pass),
-        Shape::Data(_) => Ok(Action::Pass),
-        Shape::Format(_) => Ok(Action::Pass),
-        Shape::Definition(_, _) => Ok(Action::Pass),
-        Shape::Else => Ok(Action::Pass),
-        Shape::EndIf => Ok(Action::Pass),
-        Shape::End => Ok(Action::Pass),
-        _ => Err(NoCode::Unruly),
-    }
-}
-
-// What a statement needs that goes to a label, or is passed over. Another one has nothing here.
-fn transfer_action(alloc: Global, shape: &Shape, program: &Program) -> Result<Action, NoCode>
+// What a statement needs that goes to a label, or is passed over.
+fn transfer_action(alloc: Global, shape: &Shape, program: &Program) -> Result<Action, AllocError>
+    requires kind { IsTrue (goes_or_passes (shape_tree shape.now)) }
+    requires codable { IsCodable (setting_in program.now) (shape_tree shape.now) }
     ensures { IfOk result (λ a. Acts program.now a (shape_tree shape.now)) }
 {
     match shape {
-        Shape::GoTo(label) => going_action(label),
+        Shape::GoTo(label) => Ok(Action::GoTo(target(label))),
         Shape::ComputedGoTo {
             labels,
             comma: _,
@@ -241,12 +224,14 @@ fn transfer_action(alloc: Global, shape: &Shape, program: &Program) -> Result<Ac
             zero,
             positive,
         } => arithmetic_action(alloc, value, negative, zero, positive, program),
-        _ => idle_action(shape),
+        _ => Ok(Action::Pass),
     }
 }
 
 // What a statement needs that is no logical IF.
-fn simple_action(alloc: Global, shape: &Shape, program: &Program) -> Result<Action, NoCode>
+fn simple_action(alloc: Global, shape: &Shape, program: &Program) -> Result<Action, AllocError>
+    requires kind { IsTrue (is_single (shape_tree shape.now)) }
+    requires codable { IsCodable (setting_in program.now) (shape_tree shape.now) }
     ensures { IfOk result (λ a. Acts program.now a (shape_tree shape.now)) }
 {
     match shape {
@@ -279,22 +264,29 @@ fn conditional_action(
     condition: &Expr,
     statement: &Shape,
     program: &Program,
-) -> Result<Action, NoCode>
+) -> Result<Action, AllocError>
+    requires { IsCodable (setting_in program.now)
+        (logical_if (expr_tree condition.now) (shape_tree statement.now)) }
     ensures { IfOk result (λ a. Acts program.now a
         (logical_if (expr_tree condition.now) (shape_tree statement.now))) }
 {
     let code = code_in(alloc, condition, program)?;
     match simple_action(alloc, statement, program) {
         Ok(action) => Ok(Action::If(code, Box::new(alloc, action)?)),
-        Err(reason) => {
+        Err(AllocError) => {
             drop(code);
-            Err(reason)
+            Err(AllocError)
         }
     }
 }
 
-/// What a statement needs. A statement that the rules of the language don't leave has nothing (`NoCode`).
-pub(crate) fn action_of(alloc: Global, shape: &Shape, program: &Program) -> Result<Action, NoCode>
+/// What a statement needs.
+pub(crate) fn action_of(
+    alloc: Global,
+    shape: &Shape,
+    program: &Program,
+) -> Result<Action, AllocError>
+    requires { IsCodable (setting_in program.now) (shape_tree shape.now) }
     ensures { IfOk result (λ a. Acts program.now a (shape_tree shape.now)) }
 {
     match shape {

@@ -7,7 +7,6 @@ ghost use Rattle.meaning.specs.Formats.{undoubled};
 ghost use Rattle.meaning.specs.Syntax.{stop_tree, stopping};
 ghost use Rattle.programs.specs.Acts.{Acts};
 
-use code_laws::NoCode;
 use meaning::ending::StopMessage;
 use meaning::syntax::StopText;
 use programs::Action;
@@ -47,7 +46,7 @@ fn told(alloc: Global, text: &StopText) -> Result<Vec<u8>, AllocError>
 }
 
 /// What a STOP statement needs: what it tells.
-pub(crate) fn stop_action(alloc: Global, text: &StopText) -> Result<Action, NoCode>
+pub(crate) fn stop_action(alloc: Global, text: &StopText) -> Result<Action, AllocError>
     ensures { (t : Tree) → IfOk result (λ a. Acts t a (stopping (stop_tree text.now))) }
 {
     Ok(Action::Stop(StopMessage::new(told(alloc, text)?)))

@@ -55,7 +55,7 @@ module _ (g : Glossary) (f : Frame) where
   of_element_call letters es b none h = λ vs k m. element_call_kind (scope vs) m letters es b none (h vs k m)
 
   pub of_intrinsic : (letters : List ℕ) (es : ExprsTree) → IsCallable g f.callable letters None → IsCallKind g f letters es false
-  of_intrinsic letters es none = λ vs k m. intrinsic_call_kind (scope vs) m letters es none
+  of_intrinsic letters es none = λ vs k m. intrinsic_call_kind (scope vs) m letters es none.0
 
   pub keeps_none : (kept : Kept) → KeepsKinds g f no_exprs kept kept
   keeps_none kept = λ vs k m xs are. no_arguments (scope vs) m (take kept.count kept.kinds) xs are

@@ -23,7 +23,7 @@ abs_of_one =
     record {
       some = refl;
       defined = λ at d lt found named. absurd (omega arith);
-      intrinsic = λ f is stands. let same : absolute ≡ f = cc in subst (λ g. takes g 1 ≡ true) same refl;
+      intrinsic = λ others f is. let same : absolute ≡ f = cc in subst (λ g. takes g 1 ≡ true) same refl;
     }
 
 -- ABS(1)+2147483647
@@ -41,7 +41,7 @@ too_great lt = omega (arith, lt)
 -- MOD(1)
 mod_of_one : IsCall alone (codes "MOD") 1 → ⊥
 unfolding calls_by
-mod_of_one call = absurd (let false_is_true : takes remainder 1 ≡ true = call.intrinsic remainder refl refl in cc)
+mod_of_one call = absurd (let false_is_true : takes remainder 1 ≡ true = call.intrinsic (λ at d lt. absurd (omega (arith, lt))) remainder refl in cc)
 
 -- where F(I)=I is a statement function
 abbrev identity : Definition
@@ -61,7 +61,7 @@ f_of_one =
     record {
       some = refl;
       defined = λ at d lt found named. only at d lt found;
-      intrinsic = λ f is stands. absurd cc;
+      intrinsic = λ others f is. absurd cc;
     }
 
 -- F, where it may not be called

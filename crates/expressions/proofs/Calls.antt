@@ -12,6 +12,7 @@ use Rattle.meaning.specs.Values.{Known, Valued, value}
 use Rattle.meaning.specs.Intrinsics.{intrinsic_named}
 use Rattle.meaning.specs.Scopes.{Definition, with_dummies, calls_by, intrinsic_call}
 use Rattle.expressions.specs.declared.numbering.Function.{Function}
+use Rattle.expressions.specs.Calls.{AreOthers, IsCallable}
 use Rattle.expressions.specs.Names.{definition_by, IsDefined, IsFunction}
 use Rattle.expressions.specs.Glossaries.{Glossary, before, in_front, scope_in, scope_by, room, heavy, weight}
 
@@ -107,12 +108,9 @@ pub its_call : (g : Glossary) (letters : List ℕ) (f : Function) → IsDefined 
 its_call g letters f defined n lt =
     its_function g letters (definition_by letters f) f.at defined.found ((bytes_eq-Decides letters letters).1 refl) defined.only n lt
 
--- none that may be called has the name
-pub no_call : (g : Glossary) (letters : List ℕ) → IsFunction g.definitions letters None → (n : ℕ) → calls_by g.types g.arrays g.known (before g.definitions n) letters ≡ intrinsic_call (intrinsic_named letters)
-no_call g letters none n = no_function g letters n (λ k d lt. none k d)
-
-pub later_call : (g : Glossary) (letters : List ℕ) (f : Function) → IsDefined g.definitions letters f → (n : ℕ) → n ≤ f.at → calls_by g.types g.arrays g.known (before g.definitions n) letters ≡ intrinsic_call (intrinsic_named letters)
-later_call g letters f defined n le = no_function g letters n (λ k d lt there. other k d lt there (bytes_eq letters d.name) refl)
+-- those in front of one with the name have others
+pub others_before : (g : Glossary) (letters : List ℕ) (f : Function) → IsDefined g.definitions letters f → (n : ℕ) → n ≤ f.at → AreOthers g.definitions n letters
+others_before g letters f defined n le = λ k d lt there. other k d lt there (bytes_eq letters d.name) refl
   where
     apart : (k at : ℕ) → k < n → n ≤ at → k ≡ at → ⊥
     apart k at lt le same = omega (arith, lt, le, same)
@@ -120,6 +118,10 @@ later_call g letters f defined n le = no_function g letters n (λ k d lt there. 
     other : (k : ℕ) (d : Definition) → k < n → slice_get g.definitions k ≡ Some d → (b : Bool) → bytes_eq letters d.name ≡ b → bytes_eq letters d.name ≡ false
     other k d lt there true is = absurd (apart k f.at lt le (defined.only k d there is))
     other k d lt there false is = is
+
+-- none that may be called has the name
+pub none_callable : (g : Glossary) (letters : List ℕ) (n : ℕ) → AreOthers g.definitions n letters → IsCallable g n letters None
+none_callable g letters n others = (no_function g letters n others, others)
 
 -- ---- what they take
 

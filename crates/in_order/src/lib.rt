@@ -5,4 +5,4 @@ mod run;
 mod source;
 
 pub use run::{run_by, run_in_order};
-pub use source::program_in;
+pub use source::{program_in, unit_in};

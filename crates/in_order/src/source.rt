@@ -3,16 +3,17 @@
 ghost use Rattle.std.specs.Prelude.{map};
 ghost use Rattle.meaning.specs.Reports.{Gives};
 ghost use Rattle.meaning.specs.Statements.{entry_of};
-ghost use Rattle.meaning.specs.Trees.{item_tree};
+ghost use Rattle.meaning.specs.Trees.{item_tree, nested};
 ghost use Rattle.meaning.specs.Answers.{member_of, members_of, program_of};
 ghost use Rattle.numbering.specs.Checked.{tree_of};
+ghost use Rattle.rule_laws.specs.Units.{unit_of};
 
 use checker::check;
 use coding::coded;
 use lexer::bare;
 use meaning::refusal::{Broken, Refusal, lesser};
 use meaning::statement::Statement;
-use meaning::syntax::Item;
+use meaning::syntax::{Item, Tree};
 use nesting::tree;
 use parser::form;
 use programs::Program;
@@ -66,15 +67,23 @@ fn members_in(alloc: Global, found: &[Statement]) -> Result<Vec<Item>, Refusal>
     }
 }
 
-/// The program that a source spells, or why it is refused: the least broken rule of the first phase that has one, or `Memory`
-/// where a growth was refused.
-#[tactic(auto, unfolding(meaning::specs::Answers::program_of))]
-pub fn program_in(alloc: Global, source: &[u8]) -> Result<Program, Refusal>
-    ensures { Gives tree_of result (program_of source.now) }
+/// The program unit that a source spells, whether or not it keeps the rules K, or why it spells none: the least broken rule of the
+/// first of the phases C, G and N that has one, or `Memory` where a growth was refused.
+pub fn unit_in(alloc: Global, source: &[u8]) -> Result<Tree, Refusal>
+    ensures { Gives nested result (unit_of source.now) }
 {
     let found = statements(alloc, source)?;
     let members = members_in(alloc, &found)?;
-    let unit = tree(alloc, members)?;
+    tree(alloc, members)
+}
+
+/// The program that a source spells, or why it is refused: the least broken rule of the first phase that has one, or `Memory`
+/// where a growth was refused.
+#[tactic(auto, using(crate::proofs::Units::passes, crate::proofs::Units::refuses))]
+pub fn program_in(alloc: Global, source: &[u8]) -> Result<Program, Refusal>
+    ensures { Gives tree_of result (program_of source.now) }
+{
+    let unit = unit_in(alloc, source)?;
     let program = check(alloc, unit)?;
     Ok(coded(alloc, program)?)
 }

@@ -1,13 +1,11 @@
 //! What statements need, by their lines.
 
-ghost use Rattle.std.specs.Prelude.{◌≡◌, ◌≢◌, ◌≤◌, ℕ, IfErr, IfOk, [], Some, length, slice_get};
+ghost use Rattle.std.specs.Prelude.{◌≡◌, ◌≢◌, ◌≤◌, ◌<◌, ◌+◌, ◌^◌, ℕ, IfOk, [], Some, length, slice_get};
 ghost use Rattle.std.specs.Option.{option_copied};
-ghost use Rattle.code_laws.specs.declared.no_code.NoCode.TheVariants.{Unruly};
-ghost use Rattle.programs.specs.Kept.{Adds, IsBarred, IsNowhere, StayIn, action_at, told_in};
+ghost use Rattle.programs.specs.Kept.{Adds, IsNowhere, StayIn, action_at, told_in};
 
 use crate::Action;
 use crate::action::silence;
-use code_laws::NoCode;
 use meaning::ending::StopMessage;
 use std::alloc::{AllocError, Global};
 
@@ -18,6 +16,7 @@ const NOWHERE: u32 = 0xffff_ffff;
 pub(crate) fn put_at(places: &mut Vec<u32>, line: u32, place: u32) -> Result<(), AllocError>
     requires free { length places.old.items ≤ line }
     ensures put { IfOk result (λ _. slice_get places.new.items line ≡ Some place) }
+    ensures long { IfOk result (λ _. length places.new.items ≡ line + 1) }
     ensures kept { IfOk result (λ _. StayIn places.old.items places.new.items) }
     ensures others { (other : ℕ) → other ≢ line → IfOk result (λ _.
         IsNowhere (slice_get places.old.items other) → IsNowhere (slice_get places.new.items other)) }
@@ -56,26 +55,24 @@ impl Actions {
         }
     }
 
-    /// Keeps what the statement at a line behind all others needs. `Unruly` where it isn't behind them, or there are 2,147,483,648
-    /// already.
-    pub fn add(&mut self, line: u32, action: Action) -> Result<(), NoCode>
+    /// Keeps what the statement at a line behind all others needs.
+    pub fn add(&mut self, line: u32, action: Action) -> Result<(), AllocError>
+        requires behind { length self.old.places.items ≤ line }
+        requires few { length self.old.actions.items < 2 ^ 31 }
         ensures ok { IfOk result (λ _. Adds self.old line action self.new) }
-        ensures err { IfErr result (λ e. e ≡ Unruly →
-            IsBarred line self.old.places.items (length self.old.actions.items)) }
+        ensures long { IfOk result (λ _. length self.new.places.items ≡ line + 1) }
+        ensures many { IfOk result (λ _.
+            length self.new.actions.items ≡ length self.old.actions.items + 1) }
     {
-        if self.places.len() > line as usize || self.actions.len() > 0x7fff_ffff {
-            drop(action);
-            return Err(NoCode::Unruly);
-        }
         let place = self.actions.len() as u32;
         match put_at(&mut self.places, line, place) {
             Ok(()) => {
                 self.actions.push(action)?;
                 Ok(())
             }
-            Err(_) => {
+            Err(AllocError) => {
                 drop(action);
-                Err(NoCode::Memory)
+                Err(AllocError)
             }
         }
     }

@@ -10,9 +10,9 @@ use Rattle.meaning.specs.Syntax.{ItemTree}
 use Rattle.meaning.specs.Typing.{option_list}
 use Rattle.meaning.specs.Uses.{Roles, dummies_named, is_before_executables, is_defining, is_one_of}
 use Rattle.meaning.specs.Values.{Arrays}
+use Rattle.expressions.specs.Calls.{AreOthers}
 use Rattle.roles.proofs.Staging.{behind_one, stands_before}
 use Rattle.rule_laws.specs.Lawful.{EachBehind, IsLawful}
-use Rattle.rule_laws.specs.References.{IsFree}
 use Rattle.rule_laws.proofs.Tests.{and_true, or_parts, or_true}
 
 -- ---- by their names
@@ -29,22 +29,22 @@ one_named (e ∷ ds) (suc at) d is own =
     ap (λ b. if b then Some e.dummies else dummies_named ds d.name) p.0 ∙ one_named ds at d is p.1
 
 -- a name that none has
-pub none_named : (ds : List Definition) (n : List ℕ) → IsFree ds (length ds) n → dummies_named ds n ≡ None
-none_named [] n free = refl
-none_named (d ∷ ds) n free = by (bytes_eq n d.name) refl (none_named ds n (λ at e lt is same. free (suc at) e (omega (arith, lt)) is same))
+pub none_named : (ds : List Definition) (n : List ℕ) → AreOthers ds (length ds) n → dummies_named ds n ≡ None
+none_named [] n others = refl
+none_named (d ∷ ds) n others = by (bytes_eq n d.name) refl (none_named ds n (λ at e lt is. others (suc at) e (omega (arith, lt)) is))
   where
     by : (b : Bool) → bytes_eq n d.name ≡ b → dummies_named ds n ≡ None → dummies_named (d ∷ ds) n ≡ None
-    by true same rest = absurd (free 0 d (omega arith) refl (sym ((bytes_eq-Decides n d.name).0 same)))
+    by true same rest = absurd (true≢false (sym same ∙ others 0 d (omega arith) refl))
     by false other rest = ap (λ b. if b then Some d.dummies else dummies_named ds n) other ∙ rest
 
 -- a name that none of the first so many has
-pub none_before : (ds : List Definition) (at : ℕ) (n : List ℕ) → IsFree ds at n → is_one_of (map (λ d. d.name) (take at ds)) n ≡ false
-none_before ds zero n free = refl
-none_before [] (suc at) n free = refl
-none_before (d ∷ ds) (suc at) n free = by (bytes_eq n d.name) refl (none_before ds at n (λ k e lt is same. free (suc k) e (omega (arith, lt)) is same))
+pub none_before : (ds : List Definition) (at : ℕ) (n : List ℕ) → AreOthers ds at n → is_one_of (map (λ d. d.name) (take at ds)) n ≡ false
+none_before ds zero n others = refl
+none_before [] (suc at) n others = refl
+none_before (d ∷ ds) (suc at) n others = by (bytes_eq n d.name) refl (none_before ds at n (λ k e lt is. others (suc k) e (omega (arith, lt)) is))
   where
     by : (b : Bool) → bytes_eq n d.name ≡ b → is_one_of (map (λ e. e.name) (take at ds)) n ≡ false → (bytes_eq n d.name || is_one_of (map (λ e. e.name) (take at ds)) n) ≡ false
-    by true same rest = absurd (free 0 d (omega arith) refl (sym ((bytes_eq-Decides n d.name).0 same)))
+    by true same rest = absurd (true≢false (sym same ∙ others 0 d (omega arith) refl))
     by false other rest = ap (λ b. b || is_one_of (map (λ e. e.name) (take at ds)) n) other ∙ rest
 
 -- ---- by the statements that define them

@@ -19,12 +19,13 @@ use Rattle.meaning.specs.Trees.{Nested, flatten}
 use Rattle.meaning.specs.Typing.{option_list}
 use Rattle.meaning.specs.Uses.{Parts, Roles, Use, count, dummies_named, is_array, is_constant, is_defining, is_function, is_one_of, is_other, parts_at, parts_of, roles_of, uses_at, uses_in}
 use Rattle.meaning.specs.Values.{Arrays}
+use Rattle.expressions.specs.Calls.{AreOthers}
 use Rattle.expressions.specs.Glossaries.{Glossary}
 use Rattle.numbering.specs.Checked.{glossary_of}
 use Rattle.numbering.specs.Numbered.{named_of, names_at, names_from}
 use Rattle.rule_laws.specs.Evaluated.{IsFit, IsReady, IsReadyFunction, IsTarget, IsTargetAs, evaluated, targets_of}
 use Rattle.rule_laws.specs.Lawful.{EachBehind, IsLawful}
-use Rattle.rule_laws.specs.References.{HasCell, IsFree, IsReference}
+use Rattle.rule_laws.specs.References.{HasCell, IsReference}
 use Rattle.rule_laws.proofs.Cells.{variable_cell}
 use Rattle.rule_laws.proofs.Definitions.{StandsAt, none_before, stands_at}
 use Rattle.rule_laws.proofs.Loops.{IsAmong, IsUnbroken, counters_among, counters_are_others, in_front, is_first, loops_unbroken, used}
@@ -218,12 +219,12 @@ module _ (all : List ItemTree) (lawful : EachBehind (IsLawful (roles_of all) all
         → IsReference g numbers at (record { name = n; arguments = o })
     body_use n None sound own later = tt
     body_use n (Some k) sound own later =
-        reference all lawful at n k (λ free. by (dummies_named defined n) refl free) (sound own)
+        reference all lawful at n k (λ others. by (dummies_named defined n) refl others) (sound own)
       where
-        by : (o : Option (List ExprTree)) → dummies_named defined n ≡ o → IsFree defined at n → dummies_named defined n ≡ None
-        by None is free = is
-        by (Some es) is free =
-            absurd (true≢false (sym (ap₂ (λ b c. b && not c) (ap is_some is) (reversed (take at defined) n (none_before defined at n free))) ∙ later))
+        by : (o : Option (List ExprTree)) → dummies_named defined n ≡ o → AreOthers defined at n → dummies_named defined n ≡ None
+        by None is others = is
+        by (Some es) is others =
+            absurd (true≢false (sym (ap₂ (λ b c. b && not c) (ap is_some is) (reversed (take at defined) n (none_before defined at n others))) ∙ later))
 
     body_uses : (us : List Use) → AllByRecursion (λ u. is_dummy d.dummies u.name ≡ false → IsSound r u) us → AllByRecursion (λ u. (is_some u.arguments && is_one_of (dummy_names d) u.name) ≡ false) us
         → AllByRecursion (λ u. (is_some u.arguments && (is_function r u.name && not (is_one_of (map (λ e. e.name) (reverse (take at defined))) u.name))) ≡ false) us → AllByRecursion (IsReference g numbers at) us

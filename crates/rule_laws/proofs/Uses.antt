@@ -9,10 +9,11 @@ use Rattle.meaning.specs.NameRules.{does_not_take, is_against_role, is_function_
 use Rattle.meaning.specs.Scopes.{Definition, arrays_of, definitions_of}
 use Rattle.meaning.specs.Syntax.{ItemTree}
 use Rattle.meaning.specs.Uses.{Roles, Use, dummies_named, is_array, is_constant, is_function, is_other, parts_at, roles_of, uses_at}
+use Rattle.expressions.specs.Calls.{AreOthers}
 use Rattle.numbering.specs.Checked.{glossary_of}
 use Rattle.numbering.specs.Numbered.{named_of}
 use Rattle.rule_laws.specs.Lawful.{EachBehind, IsLawful}
-use Rattle.rule_laws.specs.References.{HasElement, IsCalled, IsFree, IsIntrinsic, IsReference, IsReferenceAs}
+use Rattle.rule_laws.specs.References.{HasElement, IsCalled, IsIntrinsic, IsReference, IsReferenceAs}
 use Rattle.rule_laws.proofs.Cells.{array_cell}
 use Rattle.rule_laws.proofs.Definitions.{none_named, one_named, own_name, stands_at}
 use Rattle.rule_laws.proofs.Sizes.{arrays_sized}
@@ -76,7 +77,7 @@ module _ (all : List ItemTree) (lawful : EachBehind (IsLawful (roles_of all) all
       let many : length dims ≡ k = same_number (length dims) k (sym (ap (λ o. is_other_number (length_if o) (Some k)) is) ∙ fits) in
       (subst (λ m. 1 ≤ m) many (arrays_sized all lawful n dims is).dimensions.some, sym many, array_cell all lawful n dims is)
 
-  module _ (callable : ℕ) (n : List ℕ) (k : ℕ) (later : IsFree defined callable n → dummies_named defined n ≡ None) (sound : IsSound r (record { name = n; arguments = Some k })) (no_array : arrays_of all n ≡ None) where
+  module _ (callable : ℕ) (n : List ℕ) (k : ℕ) (later : AreOthers defined callable n → dummies_named defined n ≡ None) (sound : IsSound r (record { name = n; arguments = Some k })) (no_array : arrays_of all n ≡ None) where
     as_many : (at : ℕ) (d : Definition) → at < callable → slice_get defined at ≡ Some d → d.name ≡ n → length d.dummies ≡ k
     as_many at d lt is same =
         let its : dummies_named defined d.name ≡ Some d.dummies = one_named defined at d is (own_name r all (take at defined) d (stands_at r all lawful at d is)) in
@@ -84,17 +85,17 @@ module _ (all : List ItemTree) (lawful : EachBehind (IsLawful (roles_of all) all
         let counted = (or_parts (is_other_number (length_if (dummies_named defined n)) (Some k)) _ sound.function).0 in
         same_number (length d.dummies) k (sym (ap (λ o. is_other_number (length_if o) (Some k)) found) ∙ counted)
 
-    other : IsFree defined callable n → is_other r n ≡ true
-    other free =
-        all_other (is_constant r n) (is_array r n) (is_function r n) (none_beside (is_constant r n) (or_parts (is_constant r n && true) _ sound.role).0) (ap is_some no_array) (ap is_some (later free))
+    other : AreOthers defined callable n → is_other r n ≡ true
+    other others =
+        all_other (is_constant r n) (is_array r n) (is_function r n) (none_beside (is_constant r n) (or_parts (is_constant r n && true) _ sound.role).0) (ap is_some no_array) (ap is_some (later others))
 
-    is_known : IsFree defined callable n → is_none (intrinsic_named n) ≡ false
-    is_known free =
-        behind_true (is_function_use r (record { name = n; arguments = Some k })) (is_none (intrinsic_named n)) (ap (λ b. b && true) (other free)) sound.known
+    is_known : AreOthers defined callable n → is_none (intrinsic_named n) ≡ false
+    is_known others =
+        behind_true (is_function_use r (record { name = n; arguments = Some k })) (is_none (intrinsic_named n)) (ap (λ b. b && true) (other others)) sound.known
 
-    taken : IsFree defined callable n → does_not_take (intrinsic_named n) (Some k) ≡ false
-    taken free =
-        behind_true (is_other r n) (does_not_take (intrinsic_named n) (Some k)) (other free) (or_parts (is_other_number (length_if (dummies_named defined n)) (Some k)) _ sound.function).1
+    taken : AreOthers defined callable n → does_not_take (intrinsic_named n) (Some k) ≡ false
+    taken others =
+        behind_true (is_other r n) (does_not_take (intrinsic_named n) (Some k)) (other others) (or_parts (is_other_number (length_if (dummies_named defined n)) (Some k)) _ sound.function).1
 
     by_name : (o : Option Intrinsic) → intrinsic_named n ≡ o → is_none o ≡ false → does_not_take o (Some k) ≡ false → IsIntrinsic n k
     by_name None is some fits = absurd (true≢false some)
@@ -104,11 +105,11 @@ module _ (all : List ItemTree) (lawful : EachBehind (IsLawful (roles_of all) all
     called =
         record {
           defined = as_many;
-          intrinsic = λ free. by_name (intrinsic_named n) refl (is_known free) (taken free);
+          intrinsic = λ others. by_name (intrinsic_named n) refl (is_known others) (taken others);
         }
 
   -- a use with parentheses among the first so many statement functions
-  pub reference : (callable : ℕ) (n : List ℕ) (k : ℕ) → (IsFree defined callable n → dummies_named defined n ≡ None) → IsSound r (record { name = n; arguments = Some k }) → IsReference (glossary_of all) (cell_of (named_of all)) callable (record { name = n; arguments = Some k })
+  pub reference : (callable : ℕ) (n : List ℕ) (k : ℕ) → (AreOthers defined callable n → dummies_named defined n ≡ None) → IsSound r (record { name = n; arguments = Some k }) → IsReference (glossary_of all) (cell_of (named_of all)) callable (record { name = n; arguments = Some k })
   reference callable n k later sound = by (arrays_of all n) refl
     where
       by : (o : Option (List Dimension)) → arrays_of all n ≡ o → IsReferenceAs (glossary_of all) (cell_of (named_of all)) callable n k o
@@ -116,13 +117,13 @@ module _ (all : List ItemTree) (lawful : EachBehind (IsLawful (roles_of all) all
       by None none = called callable n k later sound none
 
   -- a use with parentheses or without
-  pub any_reference : (callable : ℕ) (n : List ℕ) (o : Option ℕ) → ((k : ℕ) → o ≡ Some k → IsFree defined callable n → dummies_named defined n ≡ None) → IsSound r (record { name = n; arguments = o }) → IsReference (glossary_of all) (cell_of (named_of all)) callable (record { name = n; arguments = o })
+  pub any_reference : (callable : ℕ) (n : List ℕ) (o : Option ℕ) → ((k : ℕ) → o ≡ Some k → AreOthers defined callable n → dummies_named defined n ≡ None) → IsSound r (record { name = n; arguments = o }) → IsReference (glossary_of all) (cell_of (named_of all)) callable (record { name = n; arguments = o })
   any_reference callable n None later sound = tt
   any_reference callable n (Some k) later sound = reference callable n k (later k refl) sound
 
   -- where all may be called
   in_statement : (u : Use) → IsSound r u → IsReference (glossary_of all) (cell_of (named_of all)) (length defined) u
-  in_statement u sound = any_reference (length defined) u.name u.arguments (λ k is free. none_named defined u.name free) sound
+  in_statement u sound = any_reference (length defined) u.name u.arguments (λ k is others. none_named defined u.name others) sound
 
   pub reads_refer : (before : List ItemTree) (x : ItemTree) → IsLawful r all before x → AllByRecursion (IsReference (glossary_of all) (cell_of (named_of all)) (length defined)) (parts_at r before x).reads
   reads_refer before x one =

@@ -5,6 +5,7 @@ use Rattle.meaning.specs.Intrinsics.{Intrinsic, intrinsic_named, takes}
 use Rattle.meaning.specs.Maps.{CellNumbers}
 use Rattle.meaning.specs.Scopes.{Definition}
 use Rattle.meaning.specs.Uses.{Use}
+use Rattle.expressions.specs.Calls.{AreOthers}
 use Rattle.expressions.specs.Glossaries.{Glossary}
 
 -- the name with these subscripts has a cell
@@ -17,10 +18,6 @@ pub record HasElement (numbers : CellNumbers) (n : List ℕ) : Type 0 where
   pub subscripts : List ℤ
   pub kept : HasCell numbers n subscripts
 
--- none of the first so many statement functions has the name
-abbrev pub IsFree : List Definition → ℕ → List ℕ → Type 0
-IsFree ds callable n = (at : ℕ) (d : Definition) → at < callable → slice_get ds at ≡ Some d → d.name ≡ n → ⊥
-
 -- an intrinsic function that takes so many arguments (15.3)
 pub record IsIntrinsic (n : List ℕ) (count : ℕ) : Type 0 where
   pub function : Intrinsic
@@ -31,7 +28,7 @@ pub record IsIntrinsic (n : List ℕ) (count : ℕ) : Type 0 where
 -- the name, an intrinsic one
 pub record IsCalled (ds : List Definition) (callable : ℕ) (n : List ℕ) (count : ℕ) : Type 0 where
   pub defined : (at : ℕ) (d : Definition) → at < callable → slice_get ds at ≡ Some d → d.name ≡ n → length d.dummies ≡ count
-  pub intrinsic : IsFree ds callable n → IsIntrinsic n count
+  pub intrinsic : AreOthers ds callable n → IsIntrinsic n count
 
 -- so many subscripts of an array that has a cell, or arguments
 abbrev pub IsReferenceAs : Glossary → CellNumbers → ℕ → List ℕ → ℕ → Option (List Dimension) → Type 0

@@ -14,6 +14,11 @@ unit_of source = statements_of source >>= λ entries. members_of entries >>= λ 
 abbrev pub Spells : List ℕ → Nested → Type 0
 Spells source t = unit_of source ≡ Ok t
 
+-- some source spells it
+pub record IsSpelled (t : Nested) : Type 0 where
+  pub source : List ℕ
+  pub spells : Spells source t
+
 -- the initial lines of its statements
 abbrev pub lines_in : Nested → List ℕ
 lines_in t = map (λ x. x.line) (flatten t)

@@ -7,7 +7,20 @@ use Rattle.meaning.specs.Values.{dimensions_in}
 use Rattle.k_rules.specs.Judged.{arrays_in}
 use Rattle.checker.specs.Entries.{AddsOne, said, stored}
 use Rattle.checker.proofs.Entering.{next_more, stored_more}
+use Rattle.checker.proofs.Room.{cells_count}
 use Rattle.checker.proofs.entries.store_names.Goals as goal
+
+pub add_stored-requires : goal.add_stored-requires
+add_stored-requires c =
+    let f = c.args.facts.now in
+    let names = c.args.names.now in
+    let i = c.loop-name.name-index in
+    let now = c.loop-name.storing.next in
+    let added = ap (λ n. now + size (dimensions_in (arrays_in f n))) c.deref.ensures.value in
+    record {
+      countable = c.requires.arrays c.deref.result.now;
+      room = cells_count f names (i + 1) _ c.requires (next_more f c.args.roles.now names i c.name-item.result c.loop-name-test.true c.name-item.is now _ c.loop-name.invariant.next added);
+    }
 
 pub loop-name-init : goal.loop-name-init
 loop-name-init c = record {

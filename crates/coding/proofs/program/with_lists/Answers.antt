@@ -8,5 +8,5 @@ use Rattle.coding.proofs.program.with_lists.Goals as goal
 pub returns-in-Ok-clause-lists : goal.returns-in-Ok-clause-lists
 returns-in-Ok-clause-lists c =
     let body = c.deref.ensures.value ∙ ap (λ (t : Tree). t.body.items) c.tree.ensures.tree in
-    has_orders c.args.program.now c.args.actions c.in-Ok.lists c.requires
+    has_orders c.args.program.now c.args.actions c.in-Ok.lists c.requires.kept
     (subst (λ xs. (r : Members) → IsOrHas (members_tree xs) r → HasPut c.args.actions c.in-Ok.lists r) body c.in-Ok.ensures)
