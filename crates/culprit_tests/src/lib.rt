@@ -2,4 +2,8 @@
 #![tactic(auto)]
 
 #[cfg(test)]
+mod asking;
+#[cfg(test)]
+mod lists;
+#[cfg(test)]
 mod told;

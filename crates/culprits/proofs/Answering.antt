@@ -4,7 +4,7 @@ use Rattle.std.specs.Prelude.{is_none, is_some, not}
 use Rattle.std.specs.List.{filter, find, list_any}
 use Rattle.std.proofs.lemmas.List.Folds.{list_any-append}
 use Rattle.meaning.specs.declared.refusal.Rule.{Rule}
-use Rattle.meaning.specs.declared.refusal.Rule.TheVariants.{K1, K3, K8, K13}
+use Rattle.meaning.specs.declared.refusal.Rule.TheVariants.{K1, K2, K3, K8, K9, K13}
 use Rattle.meaning.specs.LabelRules.{has_label, is_label_at, is_repeated}
 use Rattle.meaning.specs.NameRules.{does_not_take, has_misuse, has_real_name, is_misused_array, is_misused_function, is_other_number, is_real, is_real_use, is_unknown_function, length_if, names_defined, names_used}
 use Rattle.meaning.specs.Syntax.{ItemTree}
@@ -17,17 +17,24 @@ use Rattle.meaning.specs.Intrinsics.{Intrinsic, intrinsic_named}
 use Rattle.culprits.specs.declared.culprit.Wanted.{Wanted}
 use Rattle.culprits.specs.declared.culprit.Wanted.TheVariants.{Subscripts, Arguments}
 use Rattle.culprits.specs.Counts.{arguments_of, capped, miscounting, subscripts_of, wanted_by}
-use Rattle.culprits.specs.Culprits.{culprit_at, culprit_in, names_in, repeated_in}
-use Rattle.culprits.specs.Placing.{at_line}
-use Rattle.culprits.specs.Told.{Told, repeated, real, miscounted, unknown}
-use Rattle.culprits.specs.Witness.{IsAnswer, IsBy, IsMisused, breaks}
-use Rattle.culprits.proofs.Found.{any_found, found, none_found}
+use Rattle.culprits.specs.Culprits.{culprit_at, culprit_in, item_culprit_in, items_in, listed_in, names_in, repeated_in}
+use Rattle.culprits.specs.Placing.{at_line, seat_line}
+use Rattle.culprits.specs.Told.{Told, repeated, real, miscounted, unknown, listed}
+use Rattle.finding.specs.Answers.{IsAnswer as IsPartAnswer}
+use Rattle.culprits.specs.Witness.{IsAnswer, IsBy, IsItemBy, IsMisused, breaks, item_breaks}
+use Rattle.finding.proofs.Found.{any_found, found, none_found}
+use Rattle.list_culprits.specs.Seats.{Seat, seats_of}
+use Rattle.list_culprits.specs.Told.{Told as ListTold}
+use Rattle.list_culprits.specs.Loops.{looped_in}
+use Rattle.list_culprits.specs.Transfers.{missed_in}
+use Rattle.list_culprits.specs.Witness.{IsLoopedBy, IsMissedBy, is_loop_broken, is_transfer_broken, unit_of}
+use Rattle.list_culprits.proofs.Telling.{list_witnesses}
 use Rattle.culprits.proofs.Placed.{asked_none, asked_of}
 
 -- a statement breaks the rule, by what is told
 record IsBroken (rule : Rule) (all before : List ItemTree) (x : ItemTree) (k : Told) : Type 0 where
-  broken : breaks rule all before x ≡ true
-  by : IsBy rule all before x k
+  broken : item_breaks rule all before x ≡ true
+  by : IsItemBy rule all before x k
 
 -- ---- K1
 
@@ -41,7 +48,7 @@ module _ (all before : List ItemTree) (x : ItemTree) where
   repeat_found s (Some y) k has at is =
       let f = found (has_label s) before y at in
       let e : repeated s y.line ≡ k = cc in
-      let P : Told → Type 0 = λ t. IsBy K1 all before x t in
+      let P : Told → Type 0 = λ t. IsItemBy K1 all before x t in
       record {
         broken = ap (is_repeated before) has ∙ any_found (has_label s) before y at;
         by = subst P e (record { earlier = y; stands = f.stands; line_is = refl; earlier_has = labelled s y.label f.passes; has = has });
@@ -85,7 +92,7 @@ module _ (all before : List ItemTree) (x : ItemTree) where
       let ns = names_in r (is_defining r before x) x.shape in
       let f = found (is_real r) ns n at in
       let e : real n (has_implicit_none all) ≡ k = cc in
-      let P : Told → Type 0 = λ t. IsBy K3 all before x t in
+      let P : Told → Type 0 = λ t. IsItemBy K3 all before x t in
       record {
         broken = sym any_real ∙ any_found (is_real r) ns n at;
         by = subst P e (record { stands = f.stands; is_real_name = f.passes }, refl);
@@ -181,7 +188,7 @@ module _ (all before : List ItemTree) (x : ItemTree) where
       let r = roles_of all in
       let e : Some j ≡ Some k = is in
       let m = misuse_found (subscripts_of r) (is_misused_array r) (uses_at r before x) _ k refl (first ∙ e) in
-      let P : Told → Type 0 = λ t. IsBy K8 all before x t in
+      let P : Told → Type 0 = λ t. IsItemBy K8 all before x t in
       record {
         broken = ap (λ b. b || list_any (is_misused_function r) (parts_at r before x).reads) m.1;
         by = subst P m.0.told (inl m.0.by);
@@ -189,7 +196,7 @@ module _ (all before : List ItemTree) (x : ItemTree) where
   misuse_breaks None k first is =
       let r = roles_of all in
       let m = misuse_found (arguments_of r) (is_misused_function r) (parts_at r before x).reads _ k refl is in
-      let P : Told → Type 0 = λ t. IsBy K8 all before x t in
+      let P : Told → Type 0 = λ t. IsItemBy K8 all before x t in
       record {
         broken = ap (λ b. list_any (is_misused_array r) (uses_at r before x) || b) m.1 ∙ or_true (list_any (is_misused_array r) (uses_at r before x));
         by = subst P m.0.told (inr m.0.by);
@@ -211,7 +218,7 @@ module _ (all before : List ItemTree) (x : ItemTree) where
       let us = (parts_at (roles_of all) before x).reads in
       let f = found test us u at in
       let e : unknown u.name ≡ k = cc in
-      let P : Told → Type 0 = λ t. IsBy K13 all before x t in
+      let P : Told → Type 0 = λ t. IsItemBy K13 all before x t in
       record {
         broken = any_found test us u at;
         by = subst P e (record { reference = u; stands = f.stands; name_is = refl; is_unknown = f.passes });
@@ -224,33 +231,71 @@ module _ (all before : List ItemTree) (x : ItemTree) where
 
 -- ---- all of them
 
-told_breaks : (rule : Rule) (all before : List ItemTree) (x : ItemTree) (k : Told) → culprit_in rule all before x ≡ Some k → IsBroken rule all before x k
-told_breaks K1 all before x k is = repeat_told all before x x.label k refl is
-told_breaks K3 all before x k is = real_found all before x _ k refl is
-told_breaks K8 all before x k is = misuse_breaks all before x (arrays_told all before x) k refl is
-told_breaks K13 all before x k is = unknown_found all before x _ k refl is
-told_breaks rule all before x k is = absurd cc
+-- of a rule that a crate below tells of
+part_told : {K : Type 0} (f : K → Told) (by : K → Type 0) (b : Bool) (o : Option K) (k : Told) → IsPartAnswer by b o → option_map f o ≡ Some k → (b ≡ true) × ((j : K) × (f j ≡ k) × by j)
+part_told f by b None k answers is = absurd cc
+part_told f by b (Some j) k answers is = let e : f j ≡ k = cc in (answers.0, (j, e, answers.1))
 
-silent_keeps : (rule : Rule) (all before : List ItemTree) (x : ItemTree) → culprit_in rule all before x ≡ None → breaks rule all before x ≡ false
-silent_keeps K1 all before x is = repeat_kept all before x x.label refl is
-silent_keeps K3 all before x is = real_missing all before x _ refl is
-silent_keeps K8 all before x is = misuse_kept all before x (arrays_told all before x) refl is
-silent_keeps K13 all before x is = unknown_missing all before x _ refl is
-silent_keeps rule all before x is = refl
+part_silent : {K : Type 0} (f : K → Told) (by : K → Type 0) (b : Bool) (o : Option K) → IsPartAnswer by b o → option_map f o ≡ None → b ≡ false
+part_silent f by b None answers is = answers
+part_silent f by b (Some j) answers is = absurd cc
+
+item_told_breaks : (rule : Rule) (all before : List ItemTree) (x : ItemTree) (k : Told) → item_culprit_in rule all before x ≡ Some k → IsBroken rule all before x k
+item_told_breaks K1 all before x k is = repeat_told all before x x.label k refl is
+item_told_breaks K3 all before x k is = real_found all before x _ k refl is
+item_told_breaks K8 all before x k is = misuse_breaks all before x (arrays_told all before x) k refl is
+item_told_breaks K13 all before x k is = unknown_found all before x _ k refl is
+item_told_breaks rule all before x k is = absurd cc
+
+item_silent_keeps : (rule : Rule) (all before : List ItemTree) (x : ItemTree) → item_culprit_in rule all before x ≡ None → item_breaks rule all before x ≡ false
+item_silent_keeps K1 all before x is = repeat_kept all before x x.label refl is
+item_silent_keeps K3 all before x is = real_missing all before x _ refl is
+item_silent_keeps K8 all before x is = misuse_kept all before x (arrays_told all before x) refl is
+item_silent_keeps K13 all before x is = unknown_missing all before x _ refl is
+item_silent_keeps rule all before x is = refl
+
+-- a statement in its seat breaks the rule, by what is told
+record IsBrokenHere (rule : Rule) (t : Nested) (front : List Seat) (z : Seat) (k : Told) : Type 0 where
+  broken : breaks rule t (items_in front) z ≡ true
+  by : IsBy rule t (items_in front) z k
+
+module _ (t : Nested) (front : List Seat) (z : Seat) where
+  or_none : {A : Type 0} (o : Option A) → option_or o None ≡ o
+  or_none None = refl
+  or_none (Some a) = refl
+
+  told_breaks : (rule : Rule) (k : Told) → culprit_in rule t front z ≡ Some k → IsBrokenHere rule t front z k
+  told_breaks K2 k is =
+      let w = part_told listed (IsMissedBy (unit_of t) z) (is_transfer_broken t z) (missed_in (unit_of t) z) k (list_witnesses t z).missed is in
+      record { broken = w.0; by = subst (IsBy K2 t (items_in front) z) w.1.1 w.1.2 }
+  told_breaks K9 k is =
+      let w = part_told listed (IsLoopedBy (roles_of (flatten t)) z) (is_loop_broken t z) (looped_in (roles_of (flatten t)) z) k (list_witnesses t z).looped is in
+      record { broken = w.0; by = subst (IsBy K9 t (items_in front) z) w.1.1 w.1.2 }
+  told_breaks rule k is =
+      let b = item_told_breaks rule (flatten t) (items_in front) z.item k (sym (or_none (item_culprit_in rule (flatten t) (items_in front) z.item)) ∙ is) in
+      record { broken = b.broken; by = b.by }
+
+  silent_keeps : (rule : Rule) → culprit_in rule t front z ≡ None → breaks rule t (items_in front) z ≡ false
+  silent_keeps K2 is =
+      part_silent listed (IsMissedBy (unit_of t) z) (is_transfer_broken t z) (missed_in (unit_of t) z) (list_witnesses t z).missed is
+  silent_keeps K9 is =
+      part_silent listed (IsLoopedBy (roles_of (flatten t)) z) (is_loop_broken t z) (looped_in (roles_of (flatten t)) z) (list_witnesses t z).looped is
+  silent_keeps rule is =
+      item_silent_keeps rule (flatten t) (items_in front) z.item (sym (or_none (item_culprit_in rule (flatten t) (items_in front) z.item)) ∙ is)
 
 answer : (t : Nested) (rule : Rule) (line : ℕ) (c : Option Told) → culprit_at rule line t ≡ c → IsAnswer t rule line c
 answer t rule line (Some k) is =
-    let a = asked_of (culprit_in rule (flatten t)) line [] (flatten t) k is in
-    let b = told_breaks rule (flatten t) a.front a.statement k a.answer in
+    let a = asked_of seat_line (culprit_in rule t) line [] (seats_of t) k is in
+    let b = told_breaks t a.front a.one rule k a.answer in
     record {
-      before = a.front;
-      statement = a.statement;
+      front = a.front;
+      statement = a.one;
       placed = record { after = a.back; parts = a.parts; line_is = a.line_is; first = a.first };
       broken = b.broken;
       by = b.by;
     }
-answer t rule line None is = λ before x p covered.
-    silent_keeps rule (flatten t) before x (asked_none (culprit_in rule (flatten t)) line [] before x p.after p.line_is p.first (ap (at_line (culprit_in rule (flatten t)) line []) (sym p.parts) ∙ is))
+answer t rule line None is = λ front z p covered.
+    silent_keeps t front z rule (asked_none seat_line (culprit_in rule t) line [] front z p.after p.line_is p.first (ap (at_line seat_line (culprit_in rule t) line []) (sym p.parts) ∙ is))
 
 pub answered : (t : Nested) (rule : Rule) (line : ℕ) → IsAnswer t rule line (culprit_at rule line t)
 answered t rule line = answer t rule line (culprit_at rule line t) refl

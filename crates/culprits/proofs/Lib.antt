@@ -1,5 +1,5 @@
 pub mod Placing
 pub mod Placed
-pub mod Found
 pub mod Naming
 pub mod Answering
+pub mod Asking

@@ -1,9 +1,10 @@
 -- What breaks a rule K at a statement behind others (ANSI X3.9-1978, 3.4, 4.1.2, 5.4.2 and chapter 15). Of several things the
 -- first is told, in the order in which the rule's own definition has them.
-use Rattle.std.specs.Prelude.{ℕ, ◌++◌, Bool, List, [], option_map, Option, Some, None}
+use Rattle.std.specs.Prelude.{ℕ, ◌++◌, Bool, List, [], map, option_map, Option, Some, None}
 use Rattle.std.specs.List.{find}
+use Rattle.std.specs.Option.{option_or}
 use Rattle.meaning.specs.declared.refusal.Rule.{Rule}
-use Rattle.meaning.specs.declared.refusal.Rule.TheVariants.{K1, K3, K8, K13}
+use Rattle.meaning.specs.declared.refusal.Rule.TheVariants.{K1, K2, K3, K8, K9, K13}
 use Rattle.meaning.specs.LabelRules.{has_label}
 use Rattle.meaning.specs.NameRules.{is_real, is_real_use, is_unknown_function, names_defined, names_used}
 use Rattle.meaning.specs.Syntax.{ItemTree, ShapeTree}
@@ -12,8 +13,13 @@ use Rattle.meaning.specs.Types.{has_implicit_none}
 use Rattle.meaning.specs.Uses.{Roles, is_defining, roles_of}
 use Rattle.name_uses.specs.UsesIn.{reads_in, uses_in}
 use Rattle.culprits.specs.Counts.{miscounted_in}
-use Rattle.culprits.specs.Placing.{at_line}
-use Rattle.culprits.specs.Told.{Told, repeated, real, unknown}
+use Rattle.culprits.specs.Placing.{at_line, seat_line}
+use Rattle.culprits.specs.Told.{Told, repeated, real, unknown, listed}
+use Rattle.list_culprits.specs.Loops.{looped_in}
+use Rattle.list_culprits.specs.Seats.{Seat, seats_of}
+use Rattle.list_culprits.specs.Told.{Told as ListTold}
+use Rattle.list_culprits.specs.Transfers.{missed_in}
+use Rattle.list_culprits.specs.Witness.{unit_of}
 
 -- K1: the label of the statement, and the first statement before it that has it
 abbrev pub repeated_in : List ItemTree → Option ℕ → Option Told
@@ -32,14 +38,33 @@ real_in r without_letters defines s = option_map (λ n. real n without_letters) 
 abbrev pub unknown_in : Roles → Bool → ShapeTree → Option Told
 unknown_in r defines s = option_map (λ u. unknown u.name) (find (is_unknown_function r) (reads_in r defines s))
 
--- ---- all of them: what breaks a rule at a statement of a program unit, of which these come before it; of the other rules nothing is
--- told
-abbrev pub culprit_in : Rule → List ItemTree → List ItemTree → ItemTree → Option Told
-culprit_in K1 all before x = repeated_in before x.label
-culprit_in K3 all before x = real_in (roles_of all) (has_implicit_none all) (is_defining (roles_of all) before x) x.shape
-culprit_in K8 all before x = miscounted_in (roles_of all) (is_defining (roles_of all) before x) x.shape
-culprit_in K13 all before x = unknown_in (roles_of all) (is_defining (roles_of all) before x) x.shape
-culprit_in rule all before x = None
+-- ---- all of them
+
+-- what breaks a rule at a statement behind others; of the other rules nothing is told
+abbrev pub item_culprit_in : Rule → List ItemTree → List ItemTree → ItemTree → Option Told
+item_culprit_in K1 all before x = repeated_in before x.label
+item_culprit_in K3 all before x =
+    real_in (roles_of all) (has_implicit_none all) (is_defining (roles_of all) before x) x.shape
+item_culprit_in K8 all before x = miscounted_in (roles_of all) (is_defining (roles_of all) before x) x.shape
+item_culprit_in K13 all before x = unknown_in (roles_of all) (is_defining (roles_of all) before x) x.shape
+item_culprit_in rule all before x = None
+
+-- what breaks a rule on lists at a statement in its seat
+abbrev pub list_culprit_in : Rule → Nested → Seat → Option ListTold
+list_culprit_in K2 t z = missed_in (unit_of t) z
+list_culprit_in K9 t z = looped_in (roles_of (flatten t)) z
+list_culprit_in rule t z = None
+
+abbrev pub listed_in : Rule → Nested → Seat → Option Told
+listed_in rule t z = option_map listed (list_culprit_in rule t z)
+
+-- either, at a statement of a program unit in its seat, behind others
+abbrev pub items_in : List Seat → List ItemTree
+items_in zs = map (λ z. z.item) zs
+
+abbrev pub culprit_in : Rule → Nested → List Seat → Seat → Option Told
+culprit_in rule t front z =
+    option_or (item_culprit_in rule (flatten t) (items_in front) z.item) (listed_in rule t z)
 
 abbrev pub culprit_at : Rule → ℕ → Nested → Option Told
-culprit_at rule line t = at_line (culprit_in rule (flatten t)) line [] (flatten t)
+culprit_at rule line t = at_line seat_line (culprit_in rule t) line [] (seats_of t)

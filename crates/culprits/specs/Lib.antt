@@ -1,5 +1,4 @@
 pub mod Told
-pub mod Finding
 pub mod Placing
 pub mod Counts
 pub mod Culprits

@@ -3,6 +3,7 @@ use Rattle.std.specs.Prelude.{ℕ, Bool, List, Option, option_map}
 use Rattle.culprits.specs.declared.culprit.Culprit.{Culprit}
 use Rattle.culprits.specs.declared.culprit.Culprit.TheVariants as culprits
 use Rattle.culprits.specs.declared.culprit.Wanted.{Wanted}
+use Rattle.list_culprits.specs.Told.{Told as ListTold, told_at as list_told_at}
 
 pub data Told : Type 0 where
   -- K1: a label, and the line of an earlier statement that has it
@@ -13,6 +14,8 @@ pub data Told : Type 0 where
   miscounted : List ℕ → Wanted → Option ℕ → Told
   -- K13: the name of a function
   unknown : List ℕ → Told
+  -- K2 and K9: what breaks a rule on lists
+  listed : ListTold → Told
 
 -- what a value of the Rust type stands for
 abbrev pub told_at : Culprit → Told
@@ -20,6 +23,7 @@ told_at (culprits.Repeated label earlier) = repeated label earlier
 told_at (culprits.Real name without_letters) = real name.now without_letters
 told_at (culprits.Miscounted name wanted given) = miscounted name.now wanted given
 told_at (culprits.Unknown name) = unknown name.now
+told_at (culprits.Listed culprit) = listed (list_told_at culprit)
 
 -- what is told, if anything is
 abbrev pub tell : Option Culprit → Option Told

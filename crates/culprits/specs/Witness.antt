@@ -2,7 +2,7 @@
 use Rattle.std.specs.Prelude.{◌≡◌, ℕ, ◌==◌, Bool, true, false, List, ◌∷◌, ◌++◌, Option, Some, None, option_map, IsTrue, ◌⊎◌}
 use Rattle.std.specs.List.{Contains, list_any}
 use Rattle.meaning.specs.declared.refusal.Rule.{Rule}
-use Rattle.meaning.specs.declared.refusal.Rule.TheVariants.{K1, K3, K8, K13}
+use Rattle.meaning.specs.declared.refusal.Rule.TheVariants.{K1, K2, K3, K8, K9, K13}
 use Rattle.meaning.specs.LabelRules.{has_repeated_label}
 use Rattle.meaning.specs.NameRules.{has_misuse, has_real_name, has_unknown_function, is_misused_array, is_misused_function, is_real, is_unknown_function}
 use Rattle.meaning.specs.Syntax.{ItemTree}
@@ -11,25 +11,35 @@ use Rattle.meaning.specs.Types.{has_implicit_none}
 use Rattle.meaning.specs.Uses.{Roles, Use, is_defining, parts_at, roles_of, uses_at}
 use Rattle.culprits.specs.declared.culprit.Wanted.{Wanted}
 use Rattle.culprits.specs.Counts.{arguments_of, capped, subscripts_of}
-use Rattle.culprits.specs.Culprits.{culprit_at, names_in}
-use Rattle.culprits.specs.Told.{Told, repeated, real, miscounted, unknown}
+use Rattle.culprits.specs.Culprits.{culprit_at, items_in, names_in}
+use Rattle.culprits.specs.Told.{Told, repeated, real, miscounted, unknown, listed}
+use Rattle.list_culprits.specs.Seats.{Seat, seats_of}
+use Rattle.list_culprits.specs.Witness.{IsLoopedBy, IsMissedBy, is_loop_broken, is_transfer_broken, unit_of}
 
 -- ---- the rules that something is told of
 
 abbrev pub is_covered : Rule → Bool
 is_covered K1 = true
+is_covered K2 = true
 is_covered K3 = true
 is_covered K8 = true
+is_covered K9 = true
 is_covered K13 = true
 is_covered rule = false
 
 -- a statement breaks the rule behind others
-abbrev pub breaks : Rule → List ItemTree → List ItemTree → ItemTree → Bool
-breaks K1 all before x = has_repeated_label before x
-breaks K3 all before x = has_real_name (roles_of all) before x
-breaks K8 all before x = has_misuse (roles_of all) before x
-breaks K13 all before x = has_unknown_function (roles_of all) before x
-breaks rule all before x = false
+abbrev pub item_breaks : Rule → List ItemTree → List ItemTree → ItemTree → Bool
+item_breaks K1 all before x = has_repeated_label before x
+item_breaks K3 all before x = has_real_name (roles_of all) before x
+item_breaks K8 all before x = has_misuse (roles_of all) before x
+item_breaks K13 all before x = has_unknown_function (roles_of all) before x
+item_breaks rule all before x = false
+
+-- a statement of a program unit breaks it in its seat, behind others
+abbrev pub breaks : Rule → Nested → List ItemTree → Seat → Bool
+breaks K2 t before z = is_transfer_broken t z
+breaks K9 t before z = is_loop_broken t z
+breaks rule t before z = item_breaks rule (flatten t) before z.item
 
 -- ---- by what it is broken
 
@@ -67,34 +77,40 @@ pub record IsUnknownHere (r : Roles) (before : List ItemTree) (x : ItemTree) (na
   pub name_is : reference.name ≡ name
   pub is_unknown : IsTrue (is_unknown_function r reference)
 
-abbrev pub IsBy : Rule → List ItemTree → List ItemTree → ItemTree → Told → Type 0
-IsBy K1 all before x (repeated label line) = Repeats before x label line
-IsBy K3 all before x (real name without_letters) = IsRealHere (roles_of all) before x name × (without_letters ≡ has_implicit_none all)
-IsBy K8 all before x (miscounted name wanted given) = IsMiscountedHere (roles_of all) before x name wanted given
-IsBy K13 all before x (unknown name) = IsUnknownHere (roles_of all) before x name
-IsBy rule all before x told = ⊥
+abbrev pub IsItemBy : Rule → List ItemTree → List ItemTree → ItemTree → Told → Type 0
+IsItemBy K1 all before x (repeated label line) = Repeats before x label line
+IsItemBy K3 all before x (real name without_letters) = IsRealHere (roles_of all) before x name × (without_letters ≡ has_implicit_none all)
+IsItemBy K8 all before x (miscounted name wanted given) = IsMiscountedHere (roles_of all) before x name wanted given
+IsItemBy K13 all before x (unknown name) = IsUnknownHere (roles_of all) before x name
+IsItemBy rule all before x told = ⊥
+
+-- K2 and K9: as the rules on lists have it
+abbrev pub IsBy : Rule → Nested → List ItemTree → Seat → Told → Type 0
+IsBy K2 t before z (listed k) = IsMissedBy (unit_of t) z k
+IsBy K9 t before z (listed k) = IsLoopedBy (roles_of (flatten t)) z k
+IsBy rule t before z told = IsItemBy rule (flatten t) before z.item told
 
 -- ---- at a line
 
--- the first of some statements that stands at a line, and those before it
-pub record IsFirstAt (all : List ItemTree) (line : ℕ) (before : List ItemTree) (x : ItemTree) : Type 0 where
-  pub after : List ItemTree
-  pub parts : all ≡ before ++ (x ∷ after)
-  pub line_is : x.line ≡ line
-  pub first : list_any (λ (y : ItemTree). y.line == line) before ≡ false
+-- the first of some statements in their seats that stands at a line, and those before it
+pub record IsFirstAt (all : List Seat) (line : ℕ) (front : List Seat) (z : Seat) : Type 0 where
+  pub after : List Seat
+  pub parts : all ≡ front ++ (z ∷ after)
+  pub line_is : z.item.line ≡ line
+  pub first : list_any (λ (y : Seat). y.item.line == line) front ≡ false
 
 -- it breaks the rule by what is told
 pub record IsCulprit (t : Nested) (rule : Rule) (line : ℕ) (told : Told) : Type 0 where
-  pub before : List ItemTree
-  pub statement : ItemTree
-  pub placed : IsFirstAt (flatten t) line before statement
-  pub broken : IsTrue (breaks rule (flatten t) before statement)
-  pub by : IsBy rule (flatten t) before statement told
+  pub front : List Seat
+  pub statement : Seat
+  pub placed : IsFirstAt (seats_of t) line front statement
+  pub broken : IsTrue (breaks rule t (items_in front) statement)
+  pub by : IsBy rule t (items_in front) statement told
 
 -- of a rule that is covered nothing is told only where it doesn't break it
 abbrev pub IsKept : Nested → Rule → ℕ → Type 0
 IsKept t rule line =
-    (before : List ItemTree) (x : ItemTree) → IsFirstAt (flatten t) line before x → IsTrue (is_covered rule) → breaks rule (flatten t) before x ≡ false
+    (front : List Seat) (z : Seat) → IsFirstAt (seats_of t) line front z → IsTrue (is_covered rule) → breaks rule t (items_in front) z ≡ false
 
 abbrev pub IsAnswer : Nested → Rule → ℕ → Option Told → Type 0
 IsAnswer t rule line (Some told) = IsCulprit t rule line told

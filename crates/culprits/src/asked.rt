@@ -1,19 +1,22 @@
 //! The statement of a line, and what breaks a rule there.
 
-ghost use Rattle.std.specs.Prelude.{◌≡◌, [], IfOk};
-ghost use Rattle.meaning.specs.Trees.{item_tree, nested};
+ghost use Rattle.std.specs.Prelude.{◌≡◌, ◌==◌, [], IfOk};
+ghost use Rattle.meaning.specs.Trees.{flatten, item_tree, nested};
 ghost use Rattle.meaning.specs.Uses.{is_defining as is_defining_behind};
 ghost use Rattle.roles.specs.Listed.{trees_at};
 ghost use Rattle.roles.specs.RolesAt.{roles_at};
 ghost use Rattle.roles.specs.Stages.{IsBehind};
-ghost use Rattle.culprits.specs.Culprits.{culprit_at, culprit_in as culprit_in_statement};
-ghost use Rattle.culprits.specs.Placing.{at_line};
+ghost use Rattle.culprits.specs.Culprits.{culprit_at, item_culprit_in, list_culprit_in, listed_in};
+ghost use Rattle.culprits.specs.Placing.{at_line, item_line, seat_line};
 ghost use Rattle.culprits.specs.Told.{tell};
+ghost use Rattle.list_culprits.specs.Seats.{seat_at, seats_of};
+ghost use Rattle.list_culprits.specs.Told.{tell as tell_list};
 
 use crate::counts::miscounted_name;
 use crate::culprit::Culprit;
 use crate::labels::repeated_label;
 use crate::names::{real_name, unknown_function};
+use list_culprits::{ItemTest, ListCulprit, Seat, looped_name, missed_label, seat_of};
 use meaning::refusal::Rule;
 use meaning::syntax::{Item, Tree};
 use roles::{Roles, Stage, items_of};
@@ -45,7 +48,7 @@ fn culprit_in<'a>(
     item: &'a Item,
     rule: Rule,
 ) -> Result<Option<Culprit<'a>>, AllocError>
-    ensures { IfOk result (λ c. tell c ≡ culprit_in_statement rule (trees_at roles.now.items.now) (trees_at before.now) (item_tree item.now)) }
+    ensures { IfOk result (λ c. tell c ≡ item_culprit_in rule (trees_at roles.now.items.now) (trees_at before.now) (item_tree item.now)) }
 {
     let shape = &*item.form.shape;
     match rule {
@@ -70,7 +73,7 @@ fn culprit_among<'a>(
     rule: Rule,
     line: u32,
 ) -> Result<Option<Culprit<'a>>, AllocError>
-    ensures { IfOk result (λ c. tell c ≡ at_line (culprit_in_statement rule (trees_at roles.now.items.now)) line [] (trees_at items.now)) }
+    ensures { IfOk result (λ c. tell c ≡ at_line item_line (item_culprit_in rule (trees_at roles.now.items.now)) line [] (trees_at items.now)) }
 {
     for (index, item) in items.iter().enumerate() {
         if item.line == line {
@@ -78,6 +81,95 @@ fn culprit_among<'a>(
         }
     }
     Ok(None)
+}
+
+/// The statements that stand at a line.
+#[derive(Clone, Copy)]
+struct AtLine {
+    line: u32,
+}
+
+impl ItemTest for AtLine {
+    ghost passes = { λ s x. x.line == s.line };
+
+    fn is(&self, item: &Item) -> bool {
+        item.line == self.line
+    }
+}
+
+/// What breaks a rule on lists at a statement in its seat.
+fn culprit_in_seat<'a>(
+    alloc: Global,
+    roles: &Roles,
+    unit: &Tree,
+    rule: Rule,
+    seat: &Seat<'a>,
+) -> Result<Option<ListCulprit<'a>>, AllocError>
+    requires { trees_at roles.now.items.now ≡ flatten (nested unit.now) }
+    ensures { IfOk result (λ c. tell_list c ≡ list_culprit_in rule (nested unit.now) (seat_at seat.now)) }
+{
+    match rule {
+        Rule::K2 => missed_label(alloc, roles, unit, seat),
+        Rule::K9 => Ok(looped_name(roles, seat)),
+        Rule::C1 | Rule::C2 | Rule::C3 | Rule::C4 | Rule::C5 | Rule::C6 | Rule::C7 => Ok(None),
+        Rule::G1 | Rule::G2 | Rule::G3 => Ok(None),
+        Rule::N1 | Rule::N2 | Rule::N3 | Rule::N4 | Rule::N5 => Ok(None),
+        Rule::K1 | Rule::K3 | Rule::K4 | Rule::K5 | Rule::K6 | Rule::K7 | Rule::K8 => Ok(None),
+        Rule::K10 | Rule::K11 | Rule::K12 | Rule::K13 => Ok(None),
+    }
+}
+
+/// The same among the culprits of all rules.
+fn listed_culprit<'a>(
+    alloc: Global,
+    roles: &Roles,
+    unit: &Tree,
+    rule: Rule,
+    seat: &Seat<'a>,
+) -> Result<Option<Culprit<'a>>, AllocError>
+    requires { trees_at roles.now.items.now ≡ flatten (nested unit.now) }
+    ensures { IfOk result (λ c. tell c ≡ listed_in rule (nested unit.now) (seat_at seat.now)) }
+{
+    match culprit_in_seat(alloc, roles, unit, rule, seat)? {
+        None => Ok(None),
+        Some(culprit) => Ok(Some(Culprit::Listed { culprit })),
+    }
+}
+
+/// What breaks a rule on lists at the first statement of a program unit that stands at a line.
+fn list_culprit<'a>(
+    alloc: Global,
+    roles: &Roles,
+    unit: &'a Tree,
+    rule: Rule,
+    line: u32,
+) -> Result<Option<Culprit<'a>>, AllocError>
+    requires { trees_at roles.now.items.now ≡ flatten (nested unit.now) }
+    ensures { IfOk result (λ c. tell c ≡ at_line seat_line (λ front z. listed_in rule (nested unit.now) z) line [] (seats_of (nested unit.now))) }
+{
+    match seat_of(alloc, &AtLine { line }, unit)? {
+        None => Ok(None),
+        Some(seat) => listed_culprit(alloc, roles, unit, rule, &seat),
+    }
+}
+
+/// What breaks a rule K at the first statement of a program unit that stands at a line, by what its statements say of names.
+fn culprit_by<'a>(
+    alloc: Global,
+    roles: &Roles,
+    items: &[&'a Item],
+    unit: &'a Tree,
+    rule: Rule,
+    line: u32,
+) -> Result<Option<Culprit<'a>>, AllocError>
+    requires whole { trees_at items.now ≡ flatten (nested unit.now) }
+    requires same { roles.now.items.now ≡ items.now }
+    ensures { IfOk result (λ c. tell c ≡ culprit_at rule line (nested unit.now)) }
+{
+    match culprit_among(alloc, roles, items, rule, line)? {
+        Some(culprit) => Ok(Some(culprit)),
+        None => list_culprit(alloc, roles, unit, rule, line),
+    }
 }
 
 /// What breaks a rule K at the first statement of a program unit that stands at a line.
@@ -95,5 +187,5 @@ pub fn culprit_of<'a>(
 {
     let items = items_of(alloc, unit)?;
     let roles = Roles::new(alloc, &*items)?;
-    culprit_among(alloc, &roles, &items, rule, line)
+    culprit_by(alloc, &roles, &items, unit, rule, line)
 }

@@ -15,8 +15,8 @@ ghost use Rattle.culprits.specs.Counts.{are_as_many, arguments_of, capped, is_ot
 ghost use Rattle.culprits.specs.Told.{tell};
 
 use crate::culprit::{Culprit, Wanted};
-use crate::finding::first_passing;
 use expressions::Intrinsic;
+use finding::first_passing;
 use meaning::syntax::{Exprs, Shape};
 use name_uses::{Arguments, NameUse, Sought, reads_of, uses_of};
 use roles::{Roles, function_named, is_other_name, rank_of_name};

@@ -2,6 +2,8 @@
 
 ghost use Rattle.std.specs.Prelude.{◌≡◌, option_map};
 
+use list_culprits::ListCulprit;
+
 /// How many subscripts or arguments a name wants.
 #[derive(Clone, Copy, Debug, PartialEq, Eq)]
 pub enum Wanted {
@@ -35,13 +37,17 @@ pub enum Culprit<'a> {
     Unknown {
         name: &'a [u8],
     },
+    /// K2 and K9: what breaks a rule on lists.
+    Listed {
+        culprit: ListCulprit<'a>,
+    },
 }
 
 impl<'a> Culprit<'a> {
     ghost use Rattle.culprits.specs.Told.{told_at};
     ghost use Rattle.culprits.specs.Texts.{word_of};
 
-    /// The name that it is about, for `place_of`; none where it is about no name.
+    /// The name, or the label of a transfer, that it is about, for `place_of`; none where it is about none.
     pub fn word(self) -> Option<&'a [u8]>
         ensures { option_map (λ w. w.now) result ≡ word_of (told_at self.entry) }
     {
@@ -50,6 +56,7 @@ impl<'a> Culprit<'a> {
             Culprit::Real { name, .. } => Some(name),
             Culprit::Miscounted { name, .. } => Some(name),
             Culprit::Unknown { name } => Some(name),
+            Culprit::Listed { culprit } => Some(culprit.word()),
         }
     }
 }

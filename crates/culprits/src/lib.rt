@@ -4,7 +4,6 @@
 mod asked;
 mod counts;
 mod culprit;
-mod finding;
 mod labels;
 mod laws;
 mod names;

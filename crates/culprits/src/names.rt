@@ -12,11 +12,11 @@ ghost use Rattle.roles.specs.RolesAt.{roles_at};
 ghost use Rattle.name_uses.specs.NamesIn.{constant, declared, valued};
 ghost use Rattle.name_uses.specs.UsesAt.{uses_at};
 ghost use Rattle.culprits.specs.Culprits.{real_in, unknown_in};
-ghost use Rattle.culprits.specs.Finding.{dummy_names_in, name_if};
+ghost use Rattle.finding.specs.Finding.{dummy_names_in, name_if};
 ghost use Rattle.culprits.specs.Told.{tell};
 
 use crate::culprit::Culprit;
-use crate::finding::first_passing;
+use finding::first_passing;
 use meaning::syntax::{Declarator, Expr, Exprs, NamedConstant, Shape};
 use name_uses::{Arguments, NameUse, Sought, is_function_use, reads_of, uses_of};
 use roles::{

@@ -7,6 +7,7 @@ ghost use Rattle.culprits.specs.Texts.{given_text, miscounted_text, told_text, u
 
 use crate::culprit::{Culprit, Wanted};
 use itoa::Buffer;
+use list_culprits::add_list_text;
 use std::alloc::AllocError;
 
 /// Puts a text behind others.
@@ -135,5 +136,6 @@ pub fn add_text(bytes: &mut Vec<u8>, culprit: Culprit) -> Result<(), AllocError>
             bytes.extend_from_slice(name)?;
             add(bytes, " is neither an array nor a function")
         }
+        Culprit::Listed { culprit } => add_list_text(bytes, culprit),
     }
 }

@@ -1,6 +1,6 @@
-//! The first of what passes a test.
+//! The first of uses that passes a test.
 
-ghost use Rattle.culprits.specs.Finding.{IsFirstUse};
+ghost use Rattle.finding.specs.Finding.{IsFirstUse};
 
 use name_uses::{NameUse, Sought};
 

@@ -1,7 +1,7 @@
 use Rattle.std.proofs.Common.{◌≡◌, drop}
 use Rattle.std.specs.List.{find}
 use Rattle.name_uses.specs.UsesAt.{uses_at}
-use Rattle.culprits.proofs.finding.first_passing.Given as goal
+use Rattle.finding.proofs.uses.first_passing.Given as goal
 
 abbrev pub invariant-loop-one : goal.invariant-loop-one
 invariant-loop-one g l =

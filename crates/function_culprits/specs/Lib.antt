@@ -1,0 +1,4 @@
+pub mod Told
+pub mod Texts
+pub mod Functions
+pub mod Witness

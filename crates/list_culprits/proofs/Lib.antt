@@ -1,0 +1,5 @@
+pub mod Seating
+pub mod Missing
+pub mod Looping
+pub mod Telling
+pub mod Stepping
