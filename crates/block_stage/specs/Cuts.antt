@@ -1,5 +1,5 @@
 -- Where a stage is cut, and what stands before the cut (own; after Dang, Yu and Rauchwerger).
-use Rattle.std.specs.Prelude.{◌≡◌, ℕ, ◌+◌, ◌*◌, ◌-◌, ◌<◌, ◌^◌, ◌==◌, ◌&&◌, ◌||◌, Bool, true, false, List, [], ◌∷◌, length, nat_lt, min, take, sum_by, slice_get, is_some, is_none, Option, Some, None}
+use Rattle.std.specs.Prelude.{◌≡◌, ℕ, ◌+◌, ◌*◌, ◌-◌, ◌<◌, ◌^◌, ◌==◌, ◌&&◌, ◌||◌, Bool, true, false, List, [], ◌∷◌, length, nat_lt, min, take, sum_by, slice_get, is_some, is_none, Option, Some, None, fold, max}
 use Rattle.std.specs.List.{list_any}
 use Rattle.std.specs.FinSet as set
 use Rattle.std.specs.FinMap as map
@@ -53,6 +53,10 @@ outcome_in (Some r) = r.outcome
 -- the turns of all blocks that have a run, but no more than the greatest number
 abbrev pub turns_posted : Places → ℕ
 turns_posted places = min (sum_by turns_in places) (2 ^ 64 - 1)
+
+-- the most turns of a block that has a run
+abbrev pub longest_in : Places → ℕ
+longest_in places = fold (λ most p. max most (turns_in p)) 0 places
 
 -- the turns of the blocks below n
 abbrev pub turns_to : Places → ℕ → ℕ

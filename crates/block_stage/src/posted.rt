@@ -6,7 +6,7 @@ ghost use Rattle.array_store.specs.Whole.{world_of};
 ghost use Rattle.block_stage.specs.Jobs.{JobParts, IsJob, data_of};
 ghost use Rattle.block_stage.specs.Faithful.{base_of, trips_of, ran};
 ghost use Rattle.block_stage.specs.Stages.{ArePosted};
-ghost use Rattle.block_stage.specs.Cuts.{Places, IsCut, turns_to, turns_in, turns_posted, overlay_all, trips_before, outcome_in, outcome_to};
+ghost use Rattle.block_stage.specs.Cuts.{Places, IsCut, longest_in, turns_to, turns_in, turns_posted, overlay_all, trips_before, outcome_in, outcome_to};
 ghost use Rattle.block_stage.specs.Taken.{overlay_each, wrote_in};
 
 use crate::cuts::cut_of;
@@ -252,6 +252,17 @@ pub(crate) fn turns_before(places: &[Option<Trace<'_>>], cut: usize) -> u64
         turns += turns_in(&places[at]);
     }
     turns
+}
+
+// The most turns that a run used.
+pub(crate) fn longest_of(places: &[Option<Trace<'_>>]) -> u64
+    ensures { result ≡ longest_in places.now }
+{
+    let mut longest: u64 = 0;
+    for place in places {
+        longest = longest.max(turns_in(place));
+    }
+    longest
 }
 
 // Puts what a run wrote behind others, where there is a run; there is room.

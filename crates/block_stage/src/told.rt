@@ -6,7 +6,7 @@ ghost use Rattle.block_stage.specs.Told.{IsStageTold};
 
 use crate::causes::{Cause, cause_of};
 use crate::job::Parts;
-use crate::posted::{Posted, turns_before};
+use crate::posted::{Posted, longest_of, turns_before};
 use crate::trace::Trace;
 
 /// What is told of a stage.
@@ -24,6 +24,10 @@ pub struct StageTold {
     pub cut: usize,
     /// The turns of those that are committed.
     pub turns: u64,
+    /// The turns of all that have a run; the greatest number where they are more.
+    pub spent: u64,
+    /// The turns of the one of them that used most.
+    pub longest: u64,
     /// Why it is cut there.
     pub cause: Cause,
 }
@@ -42,6 +46,8 @@ pub fn told_of(posted: &Posted, cut: usize) -> StageTold
         run: runs_in(places),
         cut,
         turns: turns_before(places, cut),
+        spent: posted.turns(),
+        longest: longest_of(places),
         cause: cause_of(posted, cut),
     }
 }

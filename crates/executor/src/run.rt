@@ -5,12 +5,14 @@ ghost use Rattle.meaning.specs.Answers.{answer};
 ghost use Rattle.meaning.specs.Promise.{Keeps};
 ghost use Rattle.executor.specs.Calls.{IsAsked, IsGiven};
 
+use crate::briefs::Briefs;
 use crate::staged::{Staged, Watched};
 use array_store::Whole;
 pub use in_order::{run_by, run_in_order};
 use meaning::ending::{Ending, Report};
 use meaning::plan::Plan;
 use meaning::syntax::Loop;
+use program_runs::{InOrder, QuietLoops};
 use programs::{Program, Repeat};
 use record_sinks::Sink;
 use stage_loop::{Gate, Kept, Unwatched, Watcher, run_some_trips};
@@ -118,19 +120,31 @@ fn run_keeping<R: Threads + Wait + Sync, S: Sink, G: Gate + Sync, W: Watcher>(
         drop(first);
         return run_by(alloc, &Watched { watcher }, source, plan.turns(), sink);
     }
-    // What one DO statement leaves for those behind it.
+    // What one DO statement leaves for those behind it, and those that are run in order without asking that.
     let kept = Cell::new(first);
+    let briefs = Briefs::new();
     let staged = Staged {
         call: |program: &Program, repeated: &Loop, repeat: &Repeat, remaining: Remaining, cells: &mut Whole, turns: &mut u64| -> Advance
             requires { IsAsked program.now repeated.now repeat.now remaining cells.now }
             ensures { IsGiven program.now repeated.now remaining cells.old cells.new
                 turns.old turns.new result }
         {
+            let line = repeated.head.line;
+            if briefs.cover(line, remaining) {
+                let given = *turns;
+                watcher.reached(line, remaining.trips);
+                let advance = InOrder.run_trips(program, repeated, repeat, remaining, cells, turns);
+                watcher.passed(line, advance.done);
+                briefs.count(line, given.saturating_sub(*turns));
+                return advance;
+            }
             let mut own = kept.replace(Kept::new(alloc));
+            own.count_brief(briefs.take_used());
             let advance = run_some_trips(
                 rt, alloc, program, repeated, repeat, remaining, cells, turns, plan, &mut own,
                 gate, watcher,
             );
+            briefs.keep(line, own.brief_of(line));
             kept.set(own);
             advance
         },

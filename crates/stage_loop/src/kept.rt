@@ -1,6 +1,7 @@
 //! What is kept from one stage to the next, and from one DO statement to the next.
 
-use crate::pace::{Pace, Step};
+use crate::brief::Brief;
+use crate::pace::{BRIEF, Pace, Step};
 use block_stage::Changes;
 use indexmap::IndexMap;
 use std::alloc::Global;
@@ -74,6 +75,20 @@ impl Kept {
     /// Whether DO statements are tried only where that is worth it.
     pub fn is_adaptive(&self) -> bool {
         self.is_adaptive
+    }
+
+    /// The DO statement that was executed last, where its executions of few trips aren't worth a stage; none where it stands at
+    /// another line, or each is tried.
+    pub fn brief_of(&self, line: u32) -> Brief {
+        if self.is_adaptive && line == self.line {
+            return Brief::new(line, self.last.pace.brief_trips(), BRIEF);
+        }
+        Brief::none()
+    }
+
+    /// Counts turns that short executions used, without asking what is kept.
+    pub fn count_brief(&mut self, turns: u64) {
+        self.used = self.used.saturating_add(turns);
     }
 
     // The spares, none of which is kept then.

@@ -2,6 +2,7 @@
 //! (after Rauchwerger and Padua, and Dang, Yu and Rauchwerger).
 #![tactic(auto)]
 
+mod brief;
 mod course;
 mod do_statement;
 mod held;
@@ -12,6 +13,7 @@ mod stages;
 mod watcher;
 
 pub use block_stage::{Cause, Dependence, Gate, Open, StageTold};
+pub use brief::Brief;
 pub use do_statement::{run_loop, run_loop_watched, run_some_trips};
 pub use kept::Kept;
 pub use watcher::{Unwatched, Watcher};

@@ -12,7 +12,13 @@ const PAY: u64 = 200_000;
 const GOOD_PAY: u64 = 60_000;
 
 // The turns of a block in a stage that is a try.
-const GRAIN: u64 = 16_000;
+const GRAIN: u64 = 4_000;
+
+// The turns of a trip that is a block of its own for each worker in the first try, and for two behind a bad one.
+const HEAVY: u64 = 16_000;
+
+/// The turns that short executions of a DO statement may use before what is known of it is asked again.
+pub(crate) const BRIEF: u64 = 100_000;
 
 // The turns that a stage has behind the first good one, in all its blocks.
 const REACH: u64 = 128_000;
@@ -142,13 +148,21 @@ impl Pace {
         some(self.chunk)
     }
 
-    /// The size of the next stage, of so many trips that are left: two blocks to try it, or one for each worker where trips are worth
-    /// as much as a block, and behind a good stage as many as the window has.
+    /// The most trips that are far from being worth a stage, and hold no DO statement that is worth one; 0 where that isn't known.
+    pub fn brief_trips(&self) -> u64 {
+        if self.per_trip == 0 {
+            return 0;
+        }
+        GOOD_PAY / 4 / some(self.per_trip)
+    }
+
+    /// The size of the next stage, of so many trips that are left: two blocks to try it, or one for each worker where trips are heavy
+    /// and no stage was bad yet, and behind a good stage as many as the window has.
     pub fn size(&self, plan: &Plan, left: u64) -> Size {
         let window = plan.window();
         let (blocks, grain) = if self.reach > 0 {
             (window, self.reach / some(window))
-        } else if self.per_trip < GRAIN {
+        } else if self.per_trip < HEAVY || self.back > BACK {
             (window.min(2), GRAIN)
         } else {
             (window.min(plan.workers()), GRAIN)
