@@ -8,8 +8,8 @@ PREFIX = /usr/local
 ZSH_FUNCTIONS = $(PREFIX)/share/zsh/site-functions
 
 program = crates/driver/out/driver
-# All but the link by its old name.
-documents = $(filter-out docs/LANGUAGE.md,$(wildcard docs/*.md))
+# All documents.
+documents = $(wildcard docs/*.md)
 # The libraries for C, where they were made.
 libraries = $(wildcard crates/c_library/out/libf77run.a crates/c_library/out/libf77run.so)
 

@@ -1,5 +1,6 @@
 -- What is told of a run, or of a check, on standard error.
-use Rattle.std.specs.Prelude.{◌≡◌, ◌⊎◌, ℕ, Bool, false, ◌&&◌, not, List, [], ◌∷◌, ◌++◌, Option, Some, Ok, Err, codes}
+use Rattle.std.specs.Prelude.{◌≡◌, ◌⊎◌, ℕ, Bool, true, false, ◌&&◌, ◌||◌, not, List, [], ◌∷◌, ◌++◌, Option, Some, None, Ok, Err, codes, nat_lt}
+use Rattle.std.specs.BTreeMap.{BTreeMap}
 use Rattle.meaning.specs.declared.ending.Ending.{Ending}
 use Rattle.meaning.specs.declared.ending.Ending.TheVariants as endings
 use Rattle.meaning.specs.declared.ending.Report.{Report}
@@ -9,11 +10,16 @@ use Rattle.meaning.specs.Answers.{program_of}
 use Rattle.meaning.specs.Arrays.{Named}
 use Rattle.meaning.specs.Names.{rule_name}
 use Rattle.meaning.specs.Promise.{Told}
+use Rattle.meaning.specs.Trees.{members_tree}
 use Rattle.numbering.specs.Checked.{named_of_program, tree_of}
 use Rattle.further_rules.specs.Further.{AreFurther}
+use Rattle.do_statements.specs.declared.listing.DoStatement.{DoStatement}
+use Rattle.do_statements.specs.Listing.{listed_in}
 use Rattle.loop_reports.specs.declared.row.Row.{Row}
 use Rattle.loop_reports.specs.Lines.{loop_lines}
 use Rattle.command_line.specs.declared.asked.Options.{Options}
+use Rattle.command_line.specs.declared.asked.Speculation.{Speculation}
+use Rattle.command_line.specs.declared.asked.Speculation.TheVariants.{Never}
 use Rattle.messages.specs.declared.explaining.Matter.{Matter}
 use Rattle.messages.specs.declared.hinting.Cause.TheVariants as causes
 use Rattle.messages.specs.Explained.{IsMatter, IsRuleMatter}
@@ -61,14 +67,29 @@ AreAlso explain file source lines =
 
 -- ---- stages
 
--- the names of the program that a source spells
-abbrev pub IsNamedBy : List ℕ → List Named → Type 0
-IsNamedBy source names =
-    ((t : Tree) × (program_of source ≡ Ok (tree_of t)) × (names ≡ named_of_program t)) ⊎ ((b : Broken) × (program_of source ≡ Err b) × (names ≡ []))
+abbrev pub is_never : Speculation → Bool
+is_never Never = true
+is_never s = false
 
-abbrev pub AreStages : List ℕ → Option ℕ → List ℕ → Type 0
-AreStages source turns lines =
-    (lines ≡ not_told) ⊎ ((names : List Named) × IsNamedBy source names × ((rows : List (ℕ × Row)) × (lines ≡ loop_lines names rows turns)))
+-- one worker alone executes all
+abbrev pub is_alone : Options → Bool
+is_alone asked = is_never asked.speculate || nat_lt asked.plan.workers 2
+
+-- the names and the DO statements of a program
+abbrev pub IsOutline : Tree → List Named → List DoStatement → Type 0
+IsOutline t names statements = (names ≡ named_of_program t) × (statements ≡ listed_in None (members_tree t.body.items))
+
+-- of the one that a source spells
+abbrev pub IsOutlineOf : List ℕ → List Named → List DoStatement → Type 0
+IsOutlineOf source names statements =
+    ((t : Tree) × (program_of source ≡ Ok (tree_of t)) × IsOutline t names statements)
+    ⊎ ((b : Broken) × (program_of source ≡ Err b) × (names ≡ []) × (statements ≡ []))
+
+abbrev pub AreStages : List ℕ → Bool → Option ℕ → List ℕ → Type 0
+AreStages source is_alone turns lines =
+    (lines ≡ not_told)
+    ⊎ ((names : List Named) × (statements : List DoStatement) × IsOutlineOf source names statements
+    × ((rows : BTreeMap ℕ Row) × (lines ≡ loop_lines names statements rows is_alone turns)))
 
 -- ---- all of it
 
@@ -79,7 +100,7 @@ pub record AreTold (report : Report) (asked : Options) (source : List ℕ) (old 
   pub explained : List ℕ
   pub hint : List ℕ
   pub further : List ℕ
-  pub are_stages : Given (is_staged asked report.ending) (AreStages source report.turns) stages
+  pub are_stages : Given (is_staged asked report.ending) (AreStages source (is_alone asked) report.turns) stages
   pub is_matter : IsMatter report.ending matter
   pub explains : Given asked.explain (Explains (file_named asked.file) source matter) explained
   pub hinted : Given asked.explain (IsHinted source (cause_of report.ending)) hint

@@ -12,7 +12,7 @@ ghost use Rattle.meaning.specs.Answers.{program_of};
 use crate::lines::{tell_ending, tell_turns};
 use crate::notes::{Noted, Notes};
 use crate::remembering::Remembering;
-use crate::telling::{is_further, is_staged, tell_further, tell_matter, tell_stages};
+use crate::telling::{is_alone, is_further, is_staged, tell_further, tell_matter, tell_stages};
 use command_line::asked::{Options, OptionsFault, Speculation};
 use command_line::help::{HELP, NAMES, VERSION};
 use command_line::options::options;
@@ -355,9 +355,10 @@ fn tell<S: Sink>(
     let is_further = is_further(asked, &ending);
     let status = tell_ending(ending, err);
     tell_turns(asked.count, turns, err);
-    tell_stages(is_staged, alloc, source, rows, turns, err);
+    let is_alone = is_alone(asked);
+    tell_stages(is_staged, is_alone, alloc, source, rows, turns, err);
     let file = file_name(asked.file);
-    tell_matter(asked.explain, file, source, matter, detail, err);
+    tell_matter(asked.explain, alloc, file, source, matter, detail, err);
     tell_hint(asked.explain, alloc, source, cause, err);
     tell_further(is_further, asked.explain, alloc, file, source, err);
     status

@@ -3,19 +3,22 @@
 ghost use Rattle.std.specs.Prelude.{◌≡◌, IfOk, true};
 ghost use Rattle.cell_names.specs.Cells.{are_named};
 ghost use Rattle.messages.specs.Shown.{Adds, IsTold};
-ghost use Rattle.engine.specs.Explained.{Explains, IsExplained};
-ghost use Rattle.engine.specs.Told.{AreAlso, ArePairs, AreStages, IsNamedBy, IsPair, is_further, is_staged, not_told};
+ghost use Rattle.engine.specs.Explained.{Explains, IsExplained, IsExplainedBy, IsKnownFor, IsKnownIn};
+ghost use Rattle.engine.specs.Told.{AreAlso, ArePairs, AreStages, IsOutline, IsOutlineOf, IsPair, is_alone, is_further, is_staged, not_told};
 
 use crate::lines::put_at;
 use cell_names::{Named, names_of};
-use command_line::asked::Options;
+use command_line::asked::{Options, Speculation};
+use do_statements::{DoStatement, do_statements};
 use further_rules::further_pairs;
-use in_order::program_in;
+use in_order::{program_in, unit_in};
 use loop_reports::{Row, told_loops};
 use meaning::ending::Ending;
-use meaning::refusal::{Broken, Refusal};
+use meaning::refusal::{Broken, Refusal, Rule};
+use meaning::syntax::Tree;
 use messages::{
-    Cause, Matter, about_of, matter_of_rule, put, put_about, put_bytes, put_line, tell_hint,
+    Cause, Known, Matter, about_of, known_of, matter_of_rule, put, put_about, put_bytes, put_line,
+    tell_hint,
 };
 use record_sinks::Sink;
 use std::alloc::{AllocError, Global};
@@ -41,19 +44,31 @@ pub fn is_further(asked: &Options<'_>, ending: &Ending) -> bool
     }
 }
 
+/// Whether one worker alone executes all, so that no DO statement is run by stages.
+pub fn is_alone(asked: &Options<'_>) -> bool
+    ensures { result ≡ is_alone asked.now }
+{
+    match asked.speculate {
+        Speculation::Never => true,
+        Speculation::Adaptive => asked.plan.workers() < 2,
+        Speculation::Always => asked.plan.workers() < 2,
+    }
+}
+
 /// Writes what became of DO statements by stages, if that is wanted.
 pub fn tell_stages<S: Sink>(
     is_wanted: bool,
+    is_alone: bool,
     alloc: Global,
     source: &[u8],
     rows: Result<BTreeMap<u32, Row>, AllocError>,
     turns: Option<u64>,
     err: &mut S,
 )
-    ensures { Adds is_wanted (AreStages source.now turns) (S.told err.old) (S.told err.new) }
+    ensures { Adds is_wanted (AreStages source.now is_alone turns) (S.told err.old) (S.told err.new) }
 {
     if is_wanted {
-        put_stages(alloc, source, rows, turns, err);
+        put_stages(is_alone, alloc, source, rows, turns, err);
     } else {
         drop(rows);
     }
@@ -61,15 +76,16 @@ pub fn tell_stages<S: Sink>(
 
 // Writes what became of DO statements by stages.
 fn put_stages<S: Sink>(
+    is_alone: bool,
     alloc: Global,
     source: &[u8],
     rows: Result<BTreeMap<u32, Row>, AllocError>,
     turns: Option<u64>,
     err: &mut S,
 )
-    ensures { Adds true (AreStages source.now turns) (S.told err.old) (S.told err.new) }
+    ensures { Adds true (AreStages source.now is_alone turns) (S.told err.old) (S.told err.new) }
 {
-    match stage_lines(alloc, source, rows, turns) {
+    match stage_lines(is_alone, alloc, source, rows, turns) {
         Ok(lines) => put_bytes(&lines, err),
         Err(_) => put_untold(err),
     }
@@ -77,36 +93,64 @@ fn put_stages<S: Sink>(
 
 // The lines on DO statements by stages. The `AllocError` comes where a growth was refused, now or while the program ran.
 fn stage_lines(
+    is_alone: bool,
     alloc: Global,
     source: &[u8],
     rows: Result<BTreeMap<u32, Row>, AllocError>,
     turns: Option<u64>,
 ) -> Result<Vec<u8>, AllocError>
-    ensures { IfOk result (λ lines. AreStages source.now turns lines.items) }
+    ensures { IfOk result (λ lines. AreStages source.now is_alone turns lines.items) }
 {
     let rows = rows?;
-    let names = names_in(alloc, source)?;
-    told_loops(alloc, &names, &rows, turns)
+    let outline = outline_in(alloc, source)?;
+    told_loops(
+        alloc,
+        &outline.names,
+        &outline.statements,
+        &rows,
+        is_alone,
+        turns,
+    )
 }
 
-// The variables and arrays of the program that a source spells, none where it is refused.
-fn names_in(alloc: Global, source: &[u8]) -> Result<Vec<Named>, AllocError>
-    ensures { IfOk result (λ names. IsNamedBy source.now (are_named names.items)) }
+// What messages on loops need of a program: its variables and arrays, and its DO statements.
+#[derive(Drop)]
+struct Outline {
+    names: Vec<Named>,
+    statements: Vec<DoStatement>,
+}
+
+// That of the program that a source spells, nothing where it is refused.
+fn outline_in(alloc: Global, source: &[u8]) -> Result<Outline, AllocError>
+    ensures { IfOk result (λ o. IsOutlineOf source.now (are_named o.names.items) o.statements.items) }
 {
     match program_in(alloc, source) {
         Ok(program) => {
-            let names = names_of(alloc, program.tree());
+            let outline = outline_of(alloc, program.tree());
             drop(program);
-            names
+            outline
         }
-        Err(Refusal::Rule { rule: _, line: _ }) => Ok(Vec::new(alloc)),
+        Err(Refusal::Rule { rule: _, line: _ }) => Ok(Outline {
+            names: Vec::new(alloc),
+            statements: Vec::new(alloc),
+        }),
         Err(Refusal::Memory) => Err(AllocError),
     }
+}
+
+// That of a program that keeps the rules.
+fn outline_of(alloc: Global, tree: &Tree) -> Result<Outline, AllocError>
+    ensures { IfOk result (λ o. IsOutline tree.now (are_named o.names.items) o.statements.items) }
+{
+    let names = names_of(alloc, tree)?;
+    let statements = do_statements(alloc, tree)?;
+    Ok(Outline { names, statements })
 }
 
 /// Writes what there is to explain, if that is wanted.
 pub fn tell_matter<S: Sink>(
     is_wanted: bool,
+    alloc: Global,
     file: &str,
     source: &[u8],
     matter: Option<Matter>,
@@ -117,30 +161,76 @@ pub fn tell_matter<S: Sink>(
 {
     if is_wanted {
         if let Some(matter) = matter {
-            put_matter(file, source, matter, detail, err);
+            let known = known_for(alloc, source, matter, detail);
+            put_known(alloc, file, source, matter, known, err);
             return;
         }
     }
     drop(detail);
 }
 
-// Writes what there is to explain, with what a fault was about, where that is known.
-fn put_matter<S: Sink>(
-    file: &str,
+// What is known of a matter beside its line: of a fault what is given, and of a rule what breaks it.
+fn known_for(
+    alloc: Global,
     source: &[u8],
     matter: Matter,
     detail: Result<Vec<u8>, AllocError>,
+) -> Result<Known, AllocError>
+    ensures { IfOk result (IsKnownFor source.now matter.rule matter.line) }
+{
+    match matter.rule {
+        Some(rule) => {
+            drop(detail);
+            known_in(alloc, source, rule, matter.line)
+        }
+        None => match detail {
+            Ok(text) => Ok(Known { place: None, text }),
+            Err(error) => Err(error),
+        },
+    }
+}
+
+// What breaks a rule at a line of a source, where it spells a program unit.
+fn known_in(alloc: Global, source: &[u8], rule: Rule, line: u32) -> Result<Known, AllocError>
+    ensures { IfOk result (IsKnownIn source.now rule line) }
+{
+    match unit_in(alloc, source) {
+        Ok(unit) => {
+            let known = known_of(alloc, source, &unit, rule, line);
+            drop(unit);
+            known
+        }
+        Err(Refusal::Rule { rule: _, line: _ }) => Ok(Known::nothing(alloc)),
+        Err(Refusal::Memory) => Err(AllocError),
+    }
+}
+
+// Writes what there is to explain, with what is known of it.
+fn put_known<S: Sink>(
+    alloc: Global,
+    file: &str,
+    source: &[u8],
+    matter: Matter,
+    known: Result<Known, AllocError>,
     err: &mut S,
 )
+    requires { IfOk known (IsKnownFor source.now matter.rule matter.line) }
     ensures { Adds true (IsExplained file.now source.now matter) (S.told err.old) (S.told err.new) }
 {
-    match detail {
-        Ok(text) => put_about(file, source, matter, about_of(source, matter, &text), err),
+    match known {
+        Ok(known) => put_by(file, source, matter, &known, err),
         Err(_) => {
-            put_about(file, source, matter, about_of(source, matter, &[]), err);
+            put_by(file, source, matter, &Known::nothing(alloc), err);
             put_line(b"NOT TOLD", err);
         }
     }
+}
+
+// Writes what there is to explain, by what is known of it.
+fn put_by<S: Sink>(file: &str, source: &[u8], matter: Matter, known: &Known, err: &mut S)
+    ensures { Adds true (IsExplainedBy file.now source.now matter known.now) (S.told err.old) (S.told err.new) }
+{
+    put_about(file, source, matter, about_of(source, matter, known), err);
 }
 
 /// Writes the pairs that a source breaks besides the least one, if that is wanted, and explains each, if that is.
@@ -197,23 +287,26 @@ fn put_pair<S: Sink>(
     ensures { Adds true (IsPair explain file.now source.now pair) (S.told err.old) (S.told err.new) }
 {
     put_at("  ALSO ", pair.rule.name(), pair.line, err);
-    put_explained(
-        explain,
-        file,
-        source,
-        matter_of_rule(pair.rule, pair.line),
-        err,
-    );
+    let matter = matter_of_rule(pair.rule, pair.line);
+    put_explained(explain, alloc, file, source, matter, err);
     let cause = Some(Cause::Rule(pair.rule, pair.line));
     tell_hint(explain, alloc, source, cause, err);
 }
 
 // Writes what there is to explain of a rule, if that is wanted.
-fn put_explained<S: Sink>(is_wanted: bool, file: &str, source: &[u8], matter: Matter, err: &mut S)
+fn put_explained<S: Sink>(
+    is_wanted: bool,
+    alloc: Global,
+    file: &str,
+    source: &[u8],
+    matter: Matter,
+    err: &mut S,
+)
     ensures { Adds is_wanted (IsExplained file.now source.now matter) (S.told err.old) (S.told err.new) }
 {
     if is_wanted {
-        put_about(file, source, matter, about_of(source, matter, &[]), err);
+        let known = known_for(alloc, source, matter, Ok(Vec::new(alloc)));
+        put_known(alloc, file, source, matter, known, err);
     }
 }
 

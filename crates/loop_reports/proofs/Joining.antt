@@ -2,6 +2,7 @@
 use Rattle.std.proofs.Common.{◌≡◌, ℕ, ◌+◌, ◌<◌, ◌^◌, List, [], ◌++◌, append_assoc, Result, Ok, Err, sym, ap, ◌∙◌, arith}
 use Rattle.std.specs.Prelude.{OnOk, sum_by}
 use Rattle.loop_reports.specs.BlockTrips.{capped}
+use Rattle.loop_reports.specs.declared.counts.Counts.{Counts}
 use Rattle.loop_reports.specs.declared.row.Row.{Row}
 
 -- what follows of a result that is good
@@ -25,10 +26,14 @@ pub joined_five : (t a b c d e p q r s u : List ℕ) → p ≡ t ++ a → q ≡ 
 joined_five t a b c d e p q r s u first second third fourth fifth =
     joined_two t (a ++ b ++ c ++ d) e s u (joined_four t a b c d p q r s first second third fourth) fifth
 
+pub joined_six : (t a b c d e f p q r s u v : List ℕ) → p ≡ t ++ a → q ≡ p ++ b → r ≡ q ++ c → s ≡ r ++ d → u ≡ s ++ e → v ≡ u ++ f → v ≡ t ++ (a ++ b ++ c ++ d ++ e ++ f)
+joined_six t a b c d e f p q r s u v first second third fourth fifth sixth =
+    joined_two t (a ++ b ++ c ++ d ++ e) f u v (joined_five t a b c d e p q r s u first second third fourth fifth) sixth
+
 -- nothing is left to be added
-pub all_added : (turns k : ℕ) (rows : List (ℕ × Row)) → rows ≡ [] → turns < 2 ^ 64 → capped (turns + sum_by (λ (r : ℕ × Row). r.1.counts.turns) rows) ≡ k → turns ≡ k
-all_added turns k rows none few is =
-    whole turns few ∙ sym (ap (λ (rs : List (ℕ × Row)). capped (turns + sum_by (λ (r : ℕ × Row). r.1.counts.turns) rs)) none) ∙ is
+pub all_added : (f : Counts → ℕ) (turns k : ℕ) (rows : List (ℕ × Row)) → rows ≡ [] → turns < 2 ^ 64 → capped (turns + sum_by (λ (r : ℕ × Row). f r.1.counts) rows) ≡ k → turns ≡ k
+all_added f turns k rows none few is =
+    whole turns few ∙ sym (ap (λ (rs : List (ℕ × Row)). capped (turns + sum_by (λ (r : ℕ × Row). f r.1.counts) rs)) none) ∙ is
   where
     whole : (t : ℕ) → t < 2 ^ 64 → t ≡ capped (t + 0)
     whole t lt = omega arith

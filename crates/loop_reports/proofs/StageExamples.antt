@@ -15,13 +15,15 @@ stage = record {
   run = 3;
   cut = 2;
   turns = 500;
+  spent = 800;
+  longest = 300;
   cause = Dependence (record { cell = 17; writer = 1 });
 }
 
 last_block : trips_of 7 stage 3 ≡ record { first = 104; last = 107 }
 last_block = refl
 
-counted : staged_with (reached_with no_counts 107) stage ≡ record no_counts { reached = 1; trips = 107; stages = 1; run = 3; committed = 2; dropped = 1; lost = 1; by_dependence = 1; turns = 500 }
+counted : staged_with (reached_with no_counts 107) stage ≡ record no_counts { reached = 1; trips = 107; stages = 1; run = 3; committed = 2; dropped = 1; lost = 1; by_dependence = 1; turns = 500; spent = 800; longest = 300 }
 counted = refl
 
 abbrev carried : ℕ → Carried

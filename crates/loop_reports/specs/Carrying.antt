@@ -22,8 +22,9 @@ no_counts = record {
   by_dependence = 0;
   by_exit = 0;
   by_turns = 0;
-  by_loss = 0;
   turns = 0;
+  spent = 0;
+  longest = 0;
 }
 
 -- the first cut at a cell: the block behind the cut read it, which an earlier block wrote

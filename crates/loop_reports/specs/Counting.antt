@@ -14,10 +14,10 @@ reached_with c trips = record c { reached = capped (c.reached + 1); trips = capp
 abbrev pub ordered_with : Counts → ℕ → Counts
 ordered_with c trips = record c { in_order = capped (c.in_order + trips) }
 
--- one more stage is cut; a whole one isn't counted
+-- one more stage is cut; a whole one isn't counted here, and neither is one that was cut at a block without a run
 abbrev pub cut_with : Counts → Cause → Counts
 cut_with c Whole = c
-cut_with c Loss = record c { by_loss = capped (c.by_loss + 1) }
+cut_with c Loss = c
 cut_with c Exit = record c { by_exit = capped (c.by_exit + 1) }
 cut_with c (Dependence d) = record c { by_dependence = capped (c.by_dependence + 1) }
 cut_with c Turns = record c { by_turns = capped (c.by_turns + 1) }
@@ -31,4 +31,6 @@ staged_with c t = record (cut_with c t.cause) {
   dropped = capped (c.dropped + (t.run - t.cut));
   lost = capped (c.lost + (t.blocks - t.run));
   turns = capped (c.turns + t.turns);
+  spent = capped (c.spent + t.spent);
+  longest = capped (c.longest + t.longest);
 }

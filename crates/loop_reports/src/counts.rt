@@ -30,10 +30,12 @@ pub struct Counts {
     pub by_exit: u64,
     /// Those that were cut since the turns ran out.
     pub by_turns: u64,
-    /// Those that were cut at a block without a run.
-    pub by_loss: u64,
     /// The turns of the blocks that were committed.
     pub turns: u64,
+    /// The turns of all blocks that have a run.
+    pub spent: u64,
+    /// The turns of the longest run of each stage, all together.
+    pub longest: u64,
 }
 
 /// The counts of a statement that is reached once more, with so many trips.
@@ -71,20 +73,20 @@ pub fn counts_staged(counts: Counts, told: &StageTold) -> Counts
         dropped: cut.dropped.saturating_add(dropped as u64),
         lost: cut.lost.saturating_add(lost as u64),
         turns: cut.turns.saturating_add(told.turns),
+        spent: cut.spent.saturating_add(told.spent),
+        longest: cut.longest.saturating_add(told.longest),
         ..cut
     }
 }
 
-// The counts of a statement of which one more stage was cut for a cause; one that isn't cut is not counted.
+// The counts of a statement of which one more stage was cut for a cause; one that isn't cut, and one at a block without a run, aren't
+// counted here.
 fn cut_counted(counts: Counts, cause: Cause) -> Counts
     ensures { result ≡ cut_with counts cause }
 {
     match cause {
         Cause::Whole => counts,
-        Cause::Loss => Counts {
-            by_loss: counts.by_loss.saturating_add(1),
-            ..counts
-        },
+        Cause::Loss => counts,
         Cause::Exit => Counts {
             by_exit: counts.by_exit.saturating_add(1),
             ..counts

@@ -1,6 +1,7 @@
 //! What speculation did with the DO statements of a program, counted and told to people.
 #![tactic(auto)]
 
+mod advice;
 mod counts;
 mod lines;
 mod loops;

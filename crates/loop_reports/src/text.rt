@@ -4,7 +4,7 @@ ghost use Rattle.std.specs.Prelude.{◌≡◌, ◌++◌, OnOk};
 ghost use Rattle.std.specs.Fmt.{signed_decimal};
 ghost use Rattle.cell_names.specs.Told.{told_at, told_by};
 ghost use Rattle.cell_names.specs.Cells.{are_named};
-ghost use Rattle.loop_reports.specs.Lines.{cell_text, counted, in_parentheses, more_subscripts, name_text, trips_text};
+ghost use Rattle.loop_reports.specs.Cells.{cell_text, counted, in_parentheses, more_subscripts, name_text, trips_text};
 
 use crate::trips::Trips;
 use cell_names::{CellName, Named, name_of_cell};

@@ -9,8 +9,9 @@ use Rattle.meaning.specs.Names.{fault_name, rule_name}
 use Rattle.rule_texts.specs.declared.FaultText.{FaultText}
 use Rattle.rule_texts.specs.declared.RuleText.{RuleText}
 use Rattle.source_columns.specs.Excerpts.{excerpt}
+use Rattle.messages.specs.declared.explaining.Known.{Known}
 use Rattle.messages.specs.declared.explaining.Matter.{Matter}
-use Rattle.messages.specs.declared.pointing.Place.{Place}
+use Rattle.word_places.specs.declared.places.Place.{Place}
 use Rattle.messages.specs.Pointed.{IsFirst, IsUnprintable, line_in, pointed}
 use Rattle.messages.specs.Shown.{shown, told_line}
 
@@ -74,16 +75,18 @@ abbrev pub explained : List ℕ → List ℕ → Matter → Place → List ℕ �
 explained file source matter place text =
     headline file matter place text ++ lines_at (is_shown matter.rule) source place ++ sentence_behind matter text
 
--- ---- what is known of a refusal by the lines alone
+-- ---- where a message points, and what is wrong there
 
--- of C1 the first byte that isn't printable, and of each rule else no more than where the statement begins
-abbrev pub IsKnown : List ℕ → Rule → Place → List ℕ → Type 0
-IsKnown source C1 place text =
-    IsUnprintable (take 72 (line_in place.line source)) place.column text ⊎ (IsFirst source place.line place × (text ≡ []))
-IsKnown source rule place text = IsFirst source place.line place × (text ≡ [])
+-- of characters the first that isn't printable, if there is one
+abbrev pub AreCharacters : List ℕ → ℕ → Place → List ℕ → Type 0
+AreCharacters source line place text =
+    ((place.line ≡ line) × IsUnprintable (take 72 (line_in line source)) place.column text) ⊎ (IsFirst source line place × (text ≡ []))
 
--- ---- and of a matter: of a fault what is given
+-- the place that is known, or where the statement begins
+abbrev pub IsPlaced : List ℕ → ℕ → Option Place → Place → Type 0
+IsPlaced source line (Some known) place = place ≡ known
+IsPlaced source line None place = IsFirst source line place
 
-abbrev pub IsAbout : List ℕ → Option Rule → List ℕ → Place → List ℕ → Type 0
-IsAbout source (Some rule) detail place text = IsKnown source rule place text
-IsAbout source None detail place text = IsFirst source place.line place × (text ≡ detail)
+abbrev pub IsAbout : List ℕ → Option Rule → ℕ → Known → Place → List ℕ → Type 0
+IsAbout source (Some C1) line known place text = AreCharacters source line place text
+IsAbout source rule line known place text = IsPlaced source line known.place place × (text ≡ known.text.items)

@@ -3,7 +3,7 @@ use Rattle.std.specs.Prelude.{◌≡◌, ℕ, ◌+◌, ◌-◌, ◌==◌, Bool, 
 use Rattle.std.proofs.Math.ListN.{replicate}
 use Rattle.meaning.specs.Lines.{lines_of}
 use Rattle.meaning.specs.Statements.{is_printable}
-use Rattle.messages.specs.declared.pointing.Place.{Place}
+use Rattle.word_places.specs.declared.places.Place.{Place}
 use Rattle.messages.specs.Shown.{shown}
 
 -- ---- the first character of a statement, which is in columns 7 to 72 (ANSI X3.9-1978, 3.2.2)

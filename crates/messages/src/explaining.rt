@@ -2,15 +2,18 @@
 //! fault in a sentence.
 
 ghost use Rattle.std.specs.Prelude.{◌≡◌};
-ghost use Rattle.messages.specs.Explained.{IsAbout, IsKnown, IsMatter, IsRuleMatter, explained, headline, is_shown, lines_at, place_text, said, sentence_behind};
+ghost use Rattle.messages.specs.Explained.{AreCharacters, IsAbout, IsMatter, IsPlaced, IsRuleMatter, explained, headline, is_shown, lines_at, place_text, said, sentence_behind};
+ghost use Rattle.messages.specs.Knowing.{IsNothing};
 ghost use Rattle.messages.specs.Shown.{IsTold};
 
-use crate::pointing::{Place, first_place, put_pointed, unprintable};
+use crate::pointing::{first_place, put_pointed, unprintable};
 use crate::putting::{put, put_line, put_number, put_shown};
 use meaning::ending::Ending;
 use meaning::refusal::Rule;
 use record_sinks::Sink;
 use rule_texts::{text_of_fault, text_of_rule};
+use std::alloc::Global;
+use word_places::Place;
 
 /// What there is to explain of an ending.
 #[derive(Clone, Copy, Debug)]
@@ -25,7 +28,7 @@ pub struct Matter {
     pub sentence: &'static str,
 }
 
-/// What is known of it: where a message points, and what is wrong there, empty where that is the sentence.
+/// What is told of it: where a message points, and what is wrong there, empty where that is the sentence.
 #[derive(Clone, Copy, Debug)]
 pub struct About<'a> {
     /// Where a message points.
@@ -62,38 +65,65 @@ pub fn matter_of_rule(rule: Rule, line: u32) -> Matter
     }
 }
 
-/// Where a message on a matter points, and what is wrong there: of a fault what is given, and of a refusal what the lines of the source
-/// tell.
-pub fn about_of<'a>(source: &[u8], matter: Matter, detail: &'a [u8]) -> About<'a>
-    ensures line { result.place.line ≡ matter.line }
-    ensures known { IsAbout source.now matter.rule detail.entry.now result.place result.text.now }
-{
-    match matter.rule {
-        Some(rule) => about_refusal(source, rule, matter.line),
-        None => About {
-            place: first_place(source, matter.line),
-            text: detail,
-        },
+/// What is known of what is wrong beside its line: of a fault what it was about, of a rule what breaks it.
+#[derive(Drop)]
+pub struct Known {
+    /// Where that stands, if it stands in the source.
+    pub place: Option<Place>,
+    /// What it is, in the words of a message; empty where no more is known than the sentence.
+    pub text: Vec<u8>,
+}
+
+impl Known {
+    /// No more than the sentence is known.
+    pub fn nothing(alloc: Global) -> Known
+        ensures { IsNothing result }
+    {
+        Known {
+            place: None,
+            text: Vec::new(alloc),
+        }
     }
 }
 
-// What is known of a refusal by the lines of the source alone: of C1 the first byte that isn't printable, and of each rule else where the
-/// statement begins.
-fn about_refusal(source: &[u8], rule: Rule, line: u32) -> About<'static>
-    ensures line { result.place.line ≡ line }
-    ensures known { IsKnown source.now rule result.place result.text.now }
+/// Where a message on a matter points, and what is wrong there: of C1 the first byte that isn't printable, and else what is known,
+/// where no place is at the first character of the statement.
+pub fn about_of<'a>(source: &[u8], matter: Matter, known: &'a Known) -> About<'a>
+    ensures { IsAbout source.now matter.rule matter.line known.entry.now result.place result.text.now }
 {
-    if rule == Rule::C1 {
-        if let Some((column, text)) = unprintable(source, line) {
-            return About {
-                place: Place { line, column },
-                text,
-            };
+    if matter.rule == Some(Rule::C1) {
+        about_characters(source, matter.line)
+    } else {
+        About {
+            place: place_or_first(source, matter.line, known.place),
+            text: &known.text,
         }
     }
-    About {
-        place: first_place(source, line),
-        text: &[],
+}
+
+// The place that is known, or the first character of the statement.
+fn place_or_first(source: &[u8], line: u32, known: Option<Place>) -> Place
+    ensures { IsPlaced source.now line known result }
+{
+    match known {
+        Some(place) => place,
+        None => first_place(source, line),
+    }
+}
+
+// Of a line the first byte that isn't printable, or else where the statement begins.
+fn about_characters(source: &[u8], line: u32) -> About<'static>
+    ensures { AreCharacters source.now line result.place result.text.now }
+{
+    match unprintable(source, line) {
+        Some((column, text)) => About {
+            place: Place { line, column },
+            text,
+        },
+        None => About {
+            place: first_place(source, line),
+            text: &[],
+        },
     }
 }
 

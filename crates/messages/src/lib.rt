@@ -4,12 +4,13 @@
 
 mod explaining;
 mod hinting;
+mod knowing;
 mod naming;
 mod pointing;
 mod putting;
 
-pub use explaining::{About, Matter, about_of, matter_of, matter_of_rule, put_about};
+pub use explaining::{About, Known, Matter, about_of, matter_of, matter_of_rule, put_about};
 pub use hinting::{Cause, cause_of, tell_hint};
+pub use knowing::known_of;
 pub use naming::file_name;
-pub use pointing::Place;
 pub use putting::{Texts, put, put_bytes, put_line, put_shown};

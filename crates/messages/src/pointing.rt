@@ -11,15 +11,7 @@ use crate::putting::{put, put_shown};
 use itoa::Buffer;
 use record_sinks::Sink;
 use source_columns::{line_at, next_continuation};
-
-/// Where a message points: a line and a column, both counted from 1.
-#[derive(Clone, Copy, Debug, PartialEq, Eq)]
-pub struct Place {
-    /// The line.
-    pub line: u32,
-    /// The column.
-    pub column: u32,
-}
+use word_places::Place;
 
 // The line of this number, empty where there is none.
 fn line_in(source: &[u8], number: u32) -> &[u8]

@@ -1,5 +1,5 @@
 //! The rules and the faults, said to people: for each of them a sentence in the terms of ANSI X3.9-1978, a program that meets it, and
-//! one that differs from that by as little as it can and doesn't. docs/LANGUAGE.md has all that they ask; `bench/sentences` runs each
+//! one that differs from that by as little as it can and doesn't. docs/LANGUAGE.md has all that they ask; `checks/sentences` runs each
 //! program.
 #![tactic(auto)]
 

@@ -3,6 +3,7 @@
 use crate::outcomes::MANY;
 use crate::stages::Counting;
 use block_stage::{Cause, StageTold};
+use do_statements::{DoStatement, Standing};
 use executor::Out;
 use executor::run::run_watched;
 use loop_reports::{Loops, note_reached, note_staged, told_loops};
@@ -15,9 +16,10 @@ use std::sync::Wait;
 use std::test::*;
 use std::thread::Threads;
 
-/// A program, how many trips a block has, how many blocks enter the gate, and what is told.
+/// A program, the line of its DO statement, how many trips a block has, how many blocks enter the gate, and what is told.
 struct Row {
     source: &'static str,
+    line: u32,
     block: u64,
     entered: u64,
     told: &'static str,
@@ -27,25 +29,36 @@ const ROWS: &[Row] = &[
     // No trip.
     Row {
         source: "      DO 10 I=5,1\n   10 J=1\n      END\n",
+        line: 1,
         block: 2,
         entered: 0,
-        told: "  LOOP LINE 1 REACHED 1 TRIPS 0 INORDER 0 STAGES 0 RUN 0 COMMITTED 0 DROPPED 0 LOST 0 CUT DEPENDENCE 0 EXIT 0 TURNS 0 LOSS 0\n  TURNS IN COMMITTED BLOCKS 0 OF 1\n",
+        told: "  LOOP 1 UNTRIED REACHED 1 TRIPS 0\n  SPECULATION TURNS 0 SPENT 0 LONGEST 0 OF 1\n",
     },
     // Two blocks of 120,000 turns.
     Row {
         source: "      DO 10 I=1,120000\n      J=I\n   10 CONTINUE\n      END\n",
+        line: 1,
         block: 60_000,
         entered: 2,
-        told: "  LOOP LINE 1 REACHED 1 TRIPS 120000 INORDER 0 STAGES 1 RUN 2 COMMITTED 2 DROPPED 0 LOST 0 CUT DEPENDENCE 0 EXIT 0 TURNS 0 LOSS 0\n  TURNS IN COMMITTED BLOCKS 240000 OF 240001\n",
+        told: "  LOOP 1 SPECULATED REACHED 1 TRIPS 120000 INORDER 0 STAGES 1 BLOCKS 2 COMMITTED 2 DROPPED 0 LOST 0 DEPENDENCE 0 EXIT 0 LIMIT 0 TURNS 240000 SPENT 240000\n  SPECULATION TURNS 240000 SPENT 240000 LONGEST 120000 OF 240001\n",
     },
     // Two blocks, each of which writes 70,000 cells.
     Row {
         source: "      INTEGER A(140000)\n      DO 10 I=1,140000\n   10 A(I)=I\n      END\n",
+        line: 2,
         block: 70_000,
         entered: 2,
-        told: "  LOOP LINE 2 REACHED 1 TRIPS 140000 INORDER 0 STAGES 1 RUN 2 COMMITTED 2 DROPPED 0 LOST 0 CUT DEPENDENCE 0 EXIT 0 TURNS 0 LOSS 0\n  TURNS IN COMMITTED BLOCKS 140000 OF 140001\n",
+        told: "  LOOP 2 SPECULATED REACHED 1 TRIPS 140000 INORDER 0 STAGES 1 BLOCKS 2 COMMITTED 2 DROPPED 0 LOST 0 DEPENDENCE 0 EXIT 0 LIMIT 0 TURNS 140000 SPENT 140000\n  SPECULATION TURNS 140000 SPENT 140000 LONGEST 70000 OF 140001\n",
     },
 ];
+
+/// The DO statement of a line, a loop by stages.
+fn at_line(line: u32) -> DoStatement {
+    DoStatement {
+        line,
+        standing: Standing::Apart,
+    }
+}
 
 /// Runs a program, and compares what is told of its loop.
 fn check_row<R: Abort + Threads + Wait + Sync>(rt: &R, alloc: Global, row: &Row) {
@@ -59,7 +72,8 @@ fn check_row<R: Abort + Threads + Wait + Sync>(rt: &R, alloc: Global, row: &Row)
     assert!(rt; report.ending == Ending::Ended && written.is_empty());
     assert!(rt; gate.entered() == row.entered, "{}", row.source);
     let rows = loops.into_rows().expect(rt, "memory");
-    let told = told_loops(alloc, &[], &rows, report.turns).expect(rt, "memory");
+    let statements = [at_line(row.line)];
+    let told = told_loops(alloc, &[], &statements, &rows, false, report.turns).expect(rt, "memory");
     assert!(rt; told.as_slice() == row.told.as_bytes(), "{}", row.source);
 }
 
@@ -78,6 +92,8 @@ const FIRST_LOST: StageTold = StageTold {
     run: 3,
     cut: 0,
     turns: 0,
+    spent: 6,
+    longest: 2,
     cause: Cause::Loss,
 };
 
@@ -89,11 +105,13 @@ const OTHERS: StageTold = StageTold {
     run: 3,
     cut: 3,
     turns: 6,
+    spent: 6,
+    longest: 2,
     cause: Cause::Whole,
 };
 
 const LOST: &str =
-    "  LOOP LINE 2 REACHED 1 TRIPS 8 INORDER 0 STAGES 2 RUN 6 COMMITTED 3 DROPPED 3 LOST 1 CUT DEPENDENCE 0 EXIT 0 TURNS 0 LOSS 1\n  TURNS IN COMMITTED BLOCKS 6 OF 9\n";
+    "  LOOP 2 SPECULATED REACHED 1 TRIPS 8 INORDER 0 STAGES 2 BLOCKS 7 COMMITTED 3 DROPPED 3 LOST 1 DEPENDENCE 0 EXIT 0 LIMIT 0 TURNS 6 SPENT 12\n    ADVICE blocks have too few turns for a thread: take a larger --block, or leave --speculate out\n  SPECULATION TURNS 6 SPENT 12 LONGEST 4 OF 9\n";
 
 #[test]
 fn lost_block_told(rt: HostRuntime) -> Result<(), Fail> {
@@ -101,7 +119,7 @@ fn lost_block_told(rt: HostRuntime) -> Result<(), Fail> {
     note_reached(&mut rows, rt.alloc(), 2, 8)?;
     note_staged(&mut rows, rt.alloc(), 2, 0, &FIRST_LOST)?;
     note_staged(&mut rows, rt.alloc(), 2, 2, &OTHERS)?;
-    let told = told_loops(rt.alloc(), &[], &rows, Some(9))?;
+    let told = told_loops(rt.alloc(), &[], &[at_line(2)], &rows, false, Some(9))?;
     assert!(rt; told.as_slice() == LOST.as_bytes());
     Ok(())
 }

@@ -135,6 +135,8 @@ fn told_with_a_loss(by_hand: &ByHand) -> StageTold {
         run: 3,
         cut: by_hand.cut,
         turns: by_hand.turns,
+        spent: 6,
+        longest: 2,
         cause: Cause::Loss,
     }
 }

@@ -1,4 +1,4 @@
-//! Loops by stages between two requests of memory that nothing else makes. By these `bench/hostile` knows where a loop begins and ends, and
+//! Loops by stages between two requests of memory that nothing else makes. By these `checks/hostile` knows where a loop begins and ends, and
 //! refuses requests and threads in between, one or many, with which each of these tests must pass as it does by itself.
 
 ghost use Rattle.executor.specs.Calls.{IsAsked, IsGiven};
@@ -19,7 +19,7 @@ use std::sync::Wait;
 use std::thread::Threads;
 use whole_runs::{Advance, Remaining};
 
-/// Bytes that are asked for before a loop, and behind it, and nowhere else. `bench/hostile` has the same numbers.
+/// Bytes that are asked for before a loop, and behind it, and nowhere else. `checks/hostile` has the same numbers.
 const BEFORE: usize = 77_771;
 
 const BEHIND: usize = 77_773;

@@ -1,5 +1,5 @@
 //! Want of memory: blocks and stages of which one allocation at most is refused, as `rt try --test --fail-alloc N` refuses the Nth, and
-//! as `bench/hostile` refuses each in turn. What comes of them with ample memory, `blocks` and `meeting` look at.
+//! as `checks/hostile` refuses each in turn. What comes of them with ample memory, `blocks` and `meeting` look at.
 
 ghost use Rattle.std.specs.Prelude.{◌≡◌};
 

@@ -13,6 +13,6 @@ returns g c =
     let line = line_at (codes "  ALSO ") (rule_name c.args.pair.rule) c.args.pair.line in
     let named = subst (λ n. IsTold (line_at (codes "  ALSO ") n c.args.pair.line) (g.S.Sink.told c.args.err.now) (g.S.Sink.told c.put_at.new.err)) c.name.ensures c.put_at.ensures in (
       line ++ more.0 ++ hint.0,
-      (c.matter_of_rule.result, c.matter_of_rule.ensures, (more.0, hint.0, more.1, hint.1, refl)),
+      (c.matter_of_rule-matter.result, c.matter_of_rule-matter.ensures, (more.0, hint.0, more.1, hint.1, refl)),
       told_then (line ++ more.0) hint.0 _ _ _ (told_then line more.0 _ _ _ named more.2) hint.2,
     )

@@ -1,4 +1,4 @@
-use Rattle.std.proofs.Common.{inr, ap, ◌∙◌}
+use Rattle.std.proofs.Common.{◌≡◌, inr, subst}
 use Rattle.std.proofs.lemmas.Result.{IfOk-weaker}
 use Rattle.cell_names.specs.Cells.{are_named}
 use Rattle.loop_reports.specs.Lines.{loop_lines}
@@ -8,7 +8,8 @@ pub returns : goal.returns
 returns c =
     IfOk-weaker c.told_loops.result _ _
     (λ lines h. inr (
-      are_named c.in_ok-names.names.items,
-      c.in_ok-names.ensures,
-      (c.in_ok-rows.rows.entries, h ∙ ap (λ names. loop_lines (are_named names) c.in_ok-rows.rows.entries c.args.turns) c.deref.ensures.value),
+      are_named c.in_ok-outline.outline.names.items,
+      c.in_ok-outline.outline.statements.items,
+      c.in_ok-outline.ensures,
+      (c.in_ok-rows.rows, subst (λ ss. lines.items ≡ loop_lines (are_named c.in_ok-outline.outline.names.items) ss c.in_ok-rows.rows c.args.is_alone c.args.turns) c.deref-2.ensures.value (subst (λ ns. lines.items ≡ loop_lines (are_named ns) c.deref-2.result.now c.in_ok-rows.rows c.args.is_alone c.args.turns) c.deref.ensures.value h)),
     )) c.told_loops.ensures

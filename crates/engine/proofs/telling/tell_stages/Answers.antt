@@ -6,8 +6,8 @@ use Rattle.engine.proofs.telling.tell_stages.Goals as goal
 
 pub returns-then-is_wanted : goal.returns-then-is_wanted
 returns-then-is_wanted g c =
-    subst (λ b. Adds b (AreStages c.args.source.now c.args.turns) (g.S.Sink.told c.args.err.now) (g.S.Sink.told c.put_stages.new.err)) (sym c.if-is_wanted.true) c.put_stages.ensures
+    subst (λ b. Adds b (AreStages c.args.source.now c.args.is_alone c.args.turns) (g.S.Sink.told c.args.err.now) (g.S.Sink.told c.put_stages.new.err)) (sym c.if-is_wanted.true) c.put_stages.ensures
 
 pub returns-else-is_wanted : goal.returns-else-is_wanted
 returns-else-is_wanted g c =
-    subst (λ b. Adds b (AreStages c.args.source.now c.args.turns) (g.S.Sink.told c.args.err.now) (g.S.Sink.told c.args.err.now)) (sym c.if-is_wanted.false) ([], refl, told_none _)
+    subst (λ b. Adds b (AreStages c.args.source.now c.args.is_alone c.args.turns) (g.S.Sink.told c.args.err.now) (g.S.Sink.told c.args.err.now)) (sym c.if-is_wanted.false) ([], refl, told_none _)

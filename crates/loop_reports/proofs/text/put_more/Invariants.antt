@@ -1,5 +1,5 @@
 use Rattle.std.proofs.Common.{◌≡◌, ◌++◌, drop}
-use Rattle.loop_reports.specs.Lines.{more_subscripts}
+use Rattle.loop_reports.specs.Cells.{more_subscripts}
 use Rattle.loop_reports.proofs.text.put_more.Given as goal
 
 abbrev pub invariant-loop-subscript : goal.invariant-loop-subscript
