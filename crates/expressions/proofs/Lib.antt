@@ -7,4 +7,5 @@ pub mod Naturals
 pub mod Places
 pub mod Calls
 pub mod Valuing
+pub mod TripValues
 pub mod Quotients

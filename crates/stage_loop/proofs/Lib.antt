@@ -1,4 +1,3 @@
-pub mod Values
 pub mod Advances
 pub mod QuietLoop
 pub mod Committed

@@ -2,7 +2,7 @@ use Rattle.std.proofs.Common.{◌≡◌, pos, ◌+ℤ◌, ◌*ℤ◌, FitsSigned
 use Rattle.std.specs.Int.{w32}
 use Rattle.std.proofs.lemmas.Int.{to_z-of_z}
 use Rattle.meaning.specs.Trips.{trip_count}
-use Rattle.stage_loop.proofs.Values.{each_fits}
+use Rattle.expressions.proofs.TripValues.{each_fits}
 use Rattle.stage_loop.proofs.do_statement.course_of.Goals as goal
 
 pub returns-clause-fits : goal.returns-clause-fits

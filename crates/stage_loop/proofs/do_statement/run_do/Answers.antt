@@ -16,7 +16,7 @@ use Rattle.evaluator.proofs.Executed.{fault_at}
 use Rattle.evaluator.proofs.Looped.{counted_cell, do_faults, do_moves, do_unmoved, says}
 use Rattle.block_stage.specs.Jobs.{range_in, shape_in, variable_in}
 use Rattle.stage_loop.proofs.QuietLoop.{put_here}
-use Rattle.stage_loop.proofs.Values.{each_fits}
+use Rattle.expressions.proofs.TripValues.{each_fits}
 use Rattle.stage_loop.proofs.do_statement.run_do.Goals as goal
 
 pub returns-then-not-take_turn-clause-moves : goal.returns-then-not-take_turn-clause-moves
