@@ -117,7 +117,7 @@ fn kept_by(alloc: Global, tree: &Tree, facts: &Facts) -> Result<Kept, AllocError
 }
 
 /// What is kept of a program unit, with its formats, or the least broken rule of the least line. `Memory` where a growth was
-/// refused, or `k_rules::judge` says so by itself.
+/// refused.
 pub(crate) fn kept_of(alloc: Global, tree: &Tree) -> Result<(Kept, Formats), Refusal>
     requires { IsSpelled (nested tree.now) }
     ensures exact { Gives (λ _. nested tree.now) result (checked (nested tree.now)) }

@@ -1,12 +1,15 @@
 -- What lists give, one list behind another.
-use Rattle.std.proofs.Common.{◌≡◌, ℕ, zero, suc, ◌+◌, ◌≤◌, ◌⊎◌, inl, inr, ℤ, Bool, true, false, min, List, [], ◌∷◌, ◌++◌, length, map, Option, Some, None, Result, Ok, Err, refl, sym, ap, subst, ◌∙◌, arith}
+use Rattle.std.proofs.Common.{◌≡◌, ℕ, zero, suc, ◌+◌, ◌-◌, ◌^◌, ◌<◌, ◌≤◌, ℤ, Bool, true, false, min, List, [], ◌∷◌, ◌++◌, length, map, Option, Some, None, option_map, Result, Ok, Err, refl, sym, ap, subst, ◌∙◌, arith}
 use Rattle.std.specs.Prelude.{if◌then◌else◌}
 use Rattle.std.specs.List.{range_with_len}
 use Rattle.std.specs.Result.{IfOk}
 use Rattle.meaning.specs.Arrays.{Dimension, elements, place, size}
+use Rattle.meaning.specs.Syntax.{ExprsTree}
 use Rattle.meaning.specs.Typing.{Names}
-use Rattle.meaning.specs.Values.{dimensions_in}
-use Rattle.meaning.specs.Initial.{Target, and_also, all_lists, both_lists, target}
+use Rattle.meaning.specs.Values.{Known, dimensions_in}
+use Rattle.meaning.specs.Initial.{Target, and_also, all_lists, both_lists, element_target, known_subscripts, target}
+use Rattle.expressions.specs.Places.{capped}
+use Rattle.data_rules.specs.DataPlaces.{place_known}
 use Rattle.data_rules.specs.DataStages.{Stage, filled, give, give_all, give_places, give_target}
 use Rattle.expressions.proofs.Ordered.{AreNumbered, elements-numbered, elements-length}
 
@@ -17,6 +20,10 @@ and_none (Some x) = refl
 and_assoc : {A B C : Type 0} (o : Option A) (f : A → Option B) (g : B → Option C) → and_also (and_also o f) g ≡ and_also o (λ x. and_also (f x) g)
 and_assoc None f g = refl
 and_assoc (Some x) f g = refl
+
+pub same_given : {A E : Type 0} (r : Result Bool E) (f : Bool → A) {x y : A} → y ≡ x → IfOk r (λ b. x ≡ f b) → IfOk r (λ b. y ≡ f b)
+same_given (Ok b) f same given = same ∙ given
+same_given (Err e) f same given = tt
 
 module _ (ns : Names) where
   give_append : (ts us : List Target) (s : Stage) → give_all ns (ts ++ us) s ≡ and_also (give_all ns ts s) (give_all ns us)
@@ -39,6 +46,34 @@ module _ (ns : Names) where
       by_result : (o : Option Stage) → and_also o (λ r. Some r) ≡ o
       by_result None = refl
       by_result (Some r) = refl
+
+  -- ---- variables and elements
+
+  last_given : (o : Option Stage) → o ≡ and_also o (λ r. Some r)
+  last_given None = refl
+  last_given (Some r) = refl
+
+  pub filled_variable : (n : List ℕ) (s : Stage) → ns.arrays n ≡ None → filled ns (Some (target n [] ∷ [])) s ≡ give_places ns.types n (range_with_len 0 1) s
+  filled_variable n s none =
+      ap (λ o. and_also (and_also o (λ i. give ns.types n i s)) (λ r. Some r)) (ap (λ a. place (dimensions_in a) []) none)
+
+  module _ (known : Known) (n : List ℕ) (ds : List Dimension) (es : ExprsTree) (s : Stage) (is : ns.arrays n ≡ Some ds) where
+    by_subscripts : (o : Option (List ℤ)) → filled ns (and_also o (λ ss. Some (target n ss ∷ []))) s ≡ and_also (and_also o (place ds)) (λ i. give ns.types n i s)
+    by_subscripts None = refl
+    by_subscripts (Some ss) =
+        filled_one (target n ss) s ∙ ap (λ a. and_also (place (dimensions_in a) ss) (λ i. give ns.types n i s)) is
+
+    module _ {E : Type 0} (t : Stage) (r : Result Bool E) (k : ℕ) (given : (i : ℕ) → k ≡ capped i → IfOk r (λ b. give_places ns.types n (range_with_len i 1) s ≡ (if b then Some t else None))) where
+      by_place : (o : Option ℕ) → place_known ns.types known ds es ≡ o → Some k ≡ option_map capped o → IfOk r (λ b. filled ns (element_target ns.types known (Some ds) n es) s ≡ (if b then Some t else None))
+      by_place None e some = absurd cc
+      by_place (Some i) e some =
+          let same : k ≡ capped i = cc in
+          same_given r (λ b. if b then Some t else None)
+          (by_subscripts (known_subscripts ns.types known ds es) ∙ ap (λ o. and_also o (λ j. give ns.types n j s)) e ∙ last_given (give ns.types n i s)) (given i same)
+
+      -- an element whose place is counted to 2^64-1
+      pub element_given : Some k ≡ option_map capped (place_known ns.types known ds es) → IfOk r (λ b. filled ns (element_target ns.types known (Some ds) n es) s ≡ (if b then Some t else None))
+      element_given some = by_place (place_known ns.types known ds es) refl some
 
   -- ---- whole arrays
 
@@ -69,20 +104,17 @@ module _ (ns : Names) where
   short n i (suc k) zero s le none = absurd (omega arith)
   short n i (suc k) (suc m) s le none = short_rest n (i + 1) k m (λ r. short n (i + 1) k m r (omega arith)) (give ns.types n i s) none
 
-  -- so many places, counted no further than a bound that isn't reached where all are given values
-  pub capped : (n : List ℕ) (k m most : ℕ) (s t : Stage) (given : Bool) → k ≡ min m most → ((given ≡ true) × (k ≡ most → ⊥)) ⊎ (given ≡ false) → give_places ns.types n (range_with_len 0 k) s ≡ (if given then Some t else None) → give_places ns.types n (range_with_len 0 m) s ≡ (if given then Some t else None)
-  capped n k m most s t false e either comes = short n 0 k m s (omega (arith, e)) comes
-  capped n k m most s t true e (inl below) comes =
-      let same : k ≡ m = omega (arith, e, below.1) in
+  -- so many places, counted no further than to 2^64-1, which isn't reached where all are given values
+  pub whole_capped : {E : Type 0} (n : List ℕ) (k m : ℕ) (s t : Stage) (r : Result Bool E) → k ≡ min m (2 ^ 64 - 1) → IfOk r (λ b. give_places ns.types n (range_with_len 0 k) s ≡ (if b then Some t else None)) → IfOk r (λ b. b ≡ true → k < 2 ^ 64 - 1) → IfOk r (λ b. give_places ns.types n (range_with_len 0 m) s ≡ (if b then Some t else None))
+  whole_capped n k m s t (Ok false) e comes few = short n 0 k m s (omega (arith, e)) comes
+  whole_capped n k m s t (Ok true) e comes few =
+      let below = few refl in
+      let same : k ≡ m = omega (arith, e, below) in
       ap (λ j. give_places ns.types n (range_with_len 0 j) s) (sym same) ∙ comes
-  capped n k m most s t true e (inr none) comes = absurd cc
+  whole_capped n k m s t (Err x) e comes few = tt
 
   -- ---- trips
 
   -- the lists of trips, the first of which is left
   pub trips_first : {X : Type 0} (f : X → Option (List Target)) (x : X) (xs : List X) (s : Stage) → filled ns (all_lists (map f (x ∷ xs))) s ≡ and_also (filled ns (f x) s) (filled ns (all_lists (map f xs)))
   trips_first f x xs s = filled_both (f x) (all_lists (map f xs)) s
-
-pub same_given : {A E : Type 0} (r : Result Bool E) (f : Bool → A) {x y : A} → y ≡ x → IfOk r (λ b. x ≡ f b) → IfOk r (λ b. y ≡ f b)
-same_given (Ok b) f same given = same ∙ given
-same_given (Err e) f same given = tt

@@ -1,7 +1,10 @@
 -- One statement more that may give values.
-use Rattle.std.proofs.Common.{◌≡◌, ℕ, Bool, true, false, List, [], ◌∷◌, ◌++◌, Option, Some, None, refl, sym, ap, subst, ◌∙◌}
+use Rattle.std.proofs.Common.{◌≡◌, ◌<◌, ◌≤◌, ℕ, zero, suc, Bool, true, false, List, [], ◌∷◌, ◌++◌, length, map, get_or, Option, Some, None, refl, sym, ap, subst, ◌∙◌, arith}
 use Rattle.std.specs.Prelude.{if◌then◌else◌, is_some}
+use Rattle.std.proofs.lemmas.Bool.Decides.{nat_tests}
+use Rattle.std.specs.Borrow.{Bor}
 use Rattle.meaning.specs.declared.refusal.Broken.{Broken}
+use Rattle.meaning.specs.declared.syntax.Item.{Item}
 use Rattle.meaning.specs.declared.refusal.Rule.TheVariants.{K10}
 use Rattle.meaning.specs.Initial.{has_bad_data, sets_at}
 use Rattle.meaning.specs.NameRules.{told}
@@ -13,6 +16,8 @@ use Rattle.meaning.specs.Uses.{Roles}
 use Rattle.meaning.proofs.Least.{least-append, merge-merge}
 use Rattle.data_rules.specs.declared.filling.Filling.{Filling}
 use Rattle.data_rules.specs.declared.starting.Passed.{Passed}
+use Rattle.rule_passes.specs.Listed.{tree_at}
+use Rattle.rule_passes.specs.InOrder.{line_at}
 use Rattle.data_rules.specs.DataPassed.{IsFilledOr, IsPassed, comes_first}
 use Rattle.data_rules.specs.DataSets.{IsFilledBy, fill_sets, nothing, stage_by}
 use Rattle.data_rules.proofs.DataPairing.{stage}
@@ -38,6 +43,21 @@ is_told line (Some c) is = ap (λ t. Some (if t then at_line line else c)) (sym 
 not_told : (line : ℕ) (o : Option Broken) → o ≡ merge o (least (broken_if false line K10))
 not_told line None = refl
 not_told line (Some c) = refl
+
+-- ---- statements in the order of their lines
+
+-- none at a line behind one that isn't filled would break its rule first
+pub not_first_behind : (line n : ℕ) (o : Option Broken) → line ≤ n → comes_first line o ≡ false → comes_first n o ≡ false
+not_first_behind line n None le is = absurd cc
+not_first_behind line n (Some b) le is = grind (arith, nat_tests)
+
+pub not_first_behind_told : (line n : ℕ) → line ≤ n → comes_first n (Some (at_line line)) ≡ false
+not_first_behind_told line n le = grind (arith, nat_tests)
+
+pub line_is : (xs : List (Bor Item)) (i : ℕ) (x : Bor Item) → i < length xs → x ≡ get_or xs i x → line_at (map tree_at xs) i ≡ x.now.line
+line_is [] i x lt is = absurd (omega arith)
+line_is (y ∷ ys) zero x lt is = ap (λ z. z.now.line) (sym is)
+line_is (y ∷ ys) (suc i) x lt is = line_is ys i x (omega arith) is
 
 pub has_filled : (r : Roles) (others : Option Broken) (before : List ItemTree) (p : Passed) → IsPassed r others before p → (f : Filling) → p.filling ≡ Some f → IsFilledBy r before (stage_by f)
 has_filled r others before p h f some = subst (IsFilledOr r before (is_some p.broken)) some h.filling

@@ -1,5 +1,6 @@
 -- The places of elements.
-use Rattle.std.proofs.Common.{◌≡◌, ℕ, ◌+◌, ◌*◌, ℤ, List, ◌∷◌, Option, Some, None, refl, sym, ap, ◌∙◌}
+use Rattle.std.proofs.Common.{◌≡◌, ℕ, ◌+◌, ◌*◌, ℤ, List, ◌∷◌, Option, Some, None, option_map, refl, sym, ap, ◌∙◌}
+use Rattle.expressions.specs.Places.{capped}
 use Rattle.std.specs.Prelude.{if◌then◌else◌, is_some}
 use Rattle.meaning.specs.Arrays.{Dimension, above, combined, extent, place}
 use Rattle.meaning.specs.Syntax.{ExprTree, ExprsTree, exprs}
@@ -40,3 +41,13 @@ module _ (types : Types) (known : Known) (d : Dimension) (ds : List Dimension) (
       ∙ leads s k (known_subscripts types known ds es) at
       ∙ ap (λ p. and_also (and_also (if is_some p then Some s else None) (λ t. and_also (known_subscripts types known ds es) (λ ss. Some (t ∷ ss)))) (place (d ∷ ds))) (sym at)
       ∙ ap behind (sym is)
+
+  -- the same of places that are counted to 2^64-1
+  pub capped_within : (s : ℤ) (k kept found : ℕ) → known_value types known e ≡ Some s → above d s ≡ Some k → Some kept ≡ option_map capped (place_known types known ds es) → ((i : ℕ) → kept ≡ capped i → found ≡ capped (k + extent d * i)) → Some found ≡ option_map capped whole
+  capped_within s k kept found is at some by = by_place (place_known types known ds es) refl some
+    where
+      by_place : (o : Option ℕ) → o ≡ place_known types known ds es → Some kept ≡ option_map capped o → Some found ≡ option_map capped whole
+      by_place None rest some = absurd cc
+      by_place (Some i) rest some =
+          let same : kept ≡ capped i = cc in
+          ap Some (by i same) ∙ ap (option_map capped) (within s k (Some i) is at rest)

@@ -1,5 +1,5 @@
 -- What the places of one name are given, within what all names are given.
-use Rattle.std.proofs.Common.{◌≡◌, ℕ, suc, ◌+◌, ◌-◌, ◌<◌, ◌≤◌, Bool, true, false, true≢false, ◌||◌, ◌&&◌, ◌==◌, List, [], ◌∷◌, Option, Some, None, option_map, Result, Ok, Err, refl, sym, ap, ◌∙◌, arith, cond}
+use Rattle.std.proofs.Common.{◌≡◌, ℕ, suc, ◌+◌, ◌-◌, ◌<◌, ◌≤◌, inl, inr, Bool, true, false, true≢false, ◌||◌, ◌&&◌, ◌==◌, List, [], ◌∷◌, Option, Some, None, option_map, Result, Ok, Err, refl, sym, ap, ◌∙◌, arith, cond}
 use Rattle.std.specs.Prelude.{if◌then◌else◌, is_some}
 use Rattle.std.specs.Global.{Vec}
 use Rattle.std.specs.List.{range_with_len}
@@ -14,7 +14,8 @@ use Rattle.meaning.specs.Types.{Types}
 use Rattle.meaning.specs.Typing.{SomeType, clash}
 use Rattle.meaning.specs.Initial.{and_also, value_type}
 use Rattle.name_maps.specs.Keeping.{kept_at}
-use Rattle.data_rules.specs.DataSlots.{Slots, give_next, give_slot, give_slots, with_next, with_slot}
+use Rattle.expressions.specs.Places.{capped}
+use Rattle.data_rules.specs.DataSlots.{Slots, StandsFor, give_next, give_slot, give_slots, with_next, with_slot}
 use Rattle.data_rules.specs.DataStages.{Found, Stage, first_of, give, give_places, give_value, with_found, with_given}
 use Rattle.data_rules.specs.Filled.{Comes}
 use Rattle.data_rules.specs.Slots.{given_in, slot_at, slot_if}
@@ -151,3 +152,8 @@ pub slots_done : (type : SomeType) (first i m : ℕ) (s : Slots) → m ≤ i →
 slots_done type first i m s le =
     let none : m - i ≡ 0 = omega (arith, le) in
     ap (λ k. give_slots type (range_with_len (first + i) k) s) none
+
+-- a place that is counted to 2^64-1 stands for the first of so many, and so do those behind it
+pub stands_behind : (first count i behind : ℕ) → StandsFor first count i → behind < count → first + behind ≡ capped (i + behind)
+stands_behind first count i behind (is, inl few) lt = omega (arith, is, few, lt)
+stands_behind first count i behind (is, inr one) lt = omega (arith, is, one, lt)

@@ -1,5 +1,5 @@
 -- DATA statements that were passed, and the least pair of broken rules.
-use Rattle.std.specs.Prelude.{◌≡◌, ℕ, Bool, true, List, [], ◌∷◌, ◌++◌, is_some, Option, Some, None}
+use Rattle.std.specs.Prelude.{◌≡◌, ◌≤◌, ℕ, Bool, true, false, List, [], ◌∷◌, ◌++◌, is_some, Option, Some, None}
 use Rattle.meaning.specs.declared.refusal.Broken.{Broken}
 use Rattle.meaning.specs.declared.refusal.Rule.TheVariants.{K10}
 use Rattle.meaning.specs.Initial.{has_bad_data}
@@ -28,6 +28,14 @@ IsFilledOr r before told_one (Some f) = IsFilledBy r before (stage_by f)
 pub record IsPassed (r : Roles) (others : Option Broken) (before : List ItemTree) (p : Passed) : Type 0 where
   pub broken : p.broken ≡ merge others (least (told (has_bad_data r) K10 [] before))
   pub filling : IsFilledOr r before (is_some p.broken) p.filling
+
+-- where statements aren't filled any more, none at this line would break its rule before others are broken
+abbrev pub IsSettled : ℕ → Passed → Type 0
+IsSettled line p = p.filling ≡ None → comes_first line p.broken ≡ false
+
+-- nor at one behind it
+abbrev pub IsSettledBehind : ℕ → Passed → Type 0
+IsSettledBehind line p = (n : ℕ) → line ≤ n → IsSettled n p
 
 -- a statement is passed behind others, among which these arrays have no size
 abbrev pub GoesOn : Table → List (List ℕ) → ItemTree → Passed → Passed → Type 0

@@ -1,7 +1,8 @@
 -- What the places of one name are given, one after another.
-use Rattle.std.specs.Prelude.{ℕ, ◌||◌, ◌==◌, List, [], ◌∷◌, is_some, if◌then◌else◌, Bool, Option, Some, None}
+use Rattle.std.specs.Prelude.{◌≡◌, ◌+◌, ◌^◌, ◌≤◌, ◌⊎◌, ℕ, ◌||◌, ◌==◌, List, [], ◌∷◌, is_some, if◌then◌else◌, Bool, Option, Some, None}
 use Rattle.std.specs.Global.{Vec}
 use Rattle.std.specs.List.{range_with_len}
+use Rattle.expressions.specs.Places.{capped}
 use Rattle.meaning.specs.declared.ending.Value.{Value}
 use Rattle.meaning.specs.Typing.{SomeType, clash}
 use Rattle.meaning.specs.Initial.{and_also, value_type}
@@ -42,3 +43,7 @@ GivesSlot type i old new = Comes (give_slot type i old) new
 
 abbrev pub GivesSlots : SomeType → ℕ → ℕ → Slots → Slots → Bool → Type 0
 GivesSlots type first count old new = Comes (give_slots type (range_with_len first count) old) new
+
+-- a place that is counted to 2^64-1 stands for the first of so many, where these are fewer, or one at most
+abbrev pub StandsFor : ℕ → ℕ → ℕ → Type 0
+StandsFor first count i = (first ≡ capped i) × ((i + count ≤ 2 ^ 64) ⊎ (count ≤ 1))

@@ -1,5 +1,6 @@
 -- The trips of implied DOs in DATA statements.
-use Rattle.std.specs.Prelude.{ℤ, pos, ◌+ℤ◌, ◌*ℤ◌, List, map, Option, option_map}
+use Rattle.std.specs.Prelude.{ℕ, ◌<◌, ℤ, pos, ◌+ℤ◌, ◌*ℤ◌, List, map, Option, option_map, FitsSigned}
+use Rattle.std.specs.Int.{w32}
 use Rattle.std.specs.List.{range_with_len}
 use Rattle.meaning.specs.declared.syntax.Expr.{Expr}
 use Rattle.meaning.specs.declared.syntax.Limits.{Limits}
@@ -12,6 +13,10 @@ use Rattle.data_rules.specs.declared.trips.Trips.{Trips}
 -- the values of the variable
 abbrev pub trips_by : Trips → List ℤ
 trips_by t = map (λ k. t.first +ℤ pos k *ℤ t.step) (range_with_len 0 t.count)
+
+-- each of them is an INTEGER
+abbrev pub AreIntegers : Trips → Type 0
+AreIntegers t = (k : ℕ) → k < t.count → FitsSigned w32 (t.first +ℤ pos k *ℤ t.step)
 
 -- the step, and the values, by what is known in a scope
 abbrev pub step_in : Scope → Option Expr → Option ℤ

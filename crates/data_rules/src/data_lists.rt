@@ -7,6 +7,7 @@ ghost use Rattle.roles.specs.RolesAt.{roles_at};
 ghost use Rattle.declarations.specs.ArraysKept.{AreArrays};
 ghost use Rattle.data_rules.specs.DataGiving.{roles_in};
 ghost use Rattle.data_rules.specs.DataTargets.{FillsItem, FillsItems, Repeats};
+ghost use Rattle.data_rules.specs.DataTrips.{AreIntegers};
 
 use crate::giving::{Giving, give_value};
 use crate::trips::{Trips, next_trip, trips_of, value_of_trip};
@@ -39,20 +40,21 @@ fn give_trips<'a>(
     variable: &'a [u8],
     trips: Trips,
 ) -> Result<bool, AllocError>
-    requires { AreArrays (roles_in giving.old) arrays.now }
+    requires arrays { AreArrays (roles_in giving.old) arrays.now }
+    requires integers { AreIntegers trips }
     ensures filled { IfOk result (Repeats items.entry variable.entry trips giving.old giving.new) }
     ensures same { OnOk result (IsSameScope giving.old.scope giving.new.scope) }
 {
     let mut value = i64::from(trips.first);
     for _ in 0..trips.count {
-        let here = value_of_trip(value)?;
+        let here = value_of_trip(value);
         enter_name(&mut giving.scope, variable, Some(Value::Int(here)))?;
         let given = give_items(giving, alloc, arrays, items)?;
         leave_name(&mut giving.scope);
         if !given {
             return Ok(false);
         }
-        value = next_trip(value, trips.step)?;
+        value = next_trip(value, trips.step);
     }
     Ok(true)
 }

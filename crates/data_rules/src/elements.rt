@@ -1,12 +1,12 @@
 //! The array elements in the lists of DATA statements (ANSI X3.9-1978, 5.4 and 9.1).
 
-ghost use Rattle.std.specs.Prelude.{◌≡◌, ◌+◌, ◌*◌, IfOk};
+ghost use Rattle.std.specs.Prelude.{◌≡◌, ◌+◌, ◌*◌, ℕ, option_map};
+ghost use Rattle.expressions.specs.Places.{capped};
 ghost use Rattle.data_rules.specs.DataPlaces.{place_by, value_in};
 
 use declarations::{Scope, is_no_constant, value_of};
 use expressions::{Dimension, as_integer};
 use meaning::syntax::{Expr, Exprs};
-use std::alloc::AllocError;
 
 /// The value of an expression of constants and of the variables of implied DOs around it, if it is one and has one.
 pub fn known_value(scope: &Scope, expression: &Expr) -> Option<i32>
@@ -21,48 +21,28 @@ pub fn known_value(scope: &Scope, expression: &Expr) -> Option<i32>
     }
 }
 
-/// A place in the first dimension, and one in the others. The `AllocError` comes where it is 2^64 or more.
-fn combined(above: u64, extent: u64, place: u64) -> Result<u64, AllocError>
-    ensures { IfOk result (λ p. p ≡ above + extent * place) }
+/// A place in the first dimension, and one in the others, or 2^64-1 where it is more.
+fn combined(above: u64, extent: u64, place: u64) -> u64
+    ensures { (i : ℕ) → place ≡ capped i → result ≡ capped (above + extent * i) }
 {
-    match extent.checked_mul(place) {
-        Some(rows) => match above.checked_add(rows) {
-            Some(place) => Ok(place),
-            None => Err(AllocError),
-        },
-        None => Err(AllocError),
-    }
+    above.saturating_add(extent.saturating_mul(place))
 }
 
-/// The place of the element with these subscripts, if they are known and within their bounds. The `AllocError` comes where it is
-/// 2^64 or more.
-pub fn place_in(
-    scope: &Scope,
-    dimensions: &[Dimension],
-    subscripts: &Exprs,
-) -> Result<Option<u64>, AllocError>
-    ensures { IfOk result (λ p. p ≡ place_by scope.now dimensions.now subscripts.now) }
+/// The place of the element with these subscripts, or 2^64-1 where it is more, if they are known and within their bounds.
+pub fn place_in(scope: &Scope, dimensions: &[Dimension], subscripts: &Exprs) -> Option<u64>
+    ensures { result ≡ option_map capped (place_by scope.now dimensions.now subscripts.now) }
 {
     match subscripts {
         Exprs::Empty => match dimensions.split_first() {
-            None => Ok(Some(0)),
-            Some(_) => Ok(None),
+            None => Some(0),
+            Some(_) => None,
         },
-        Exprs::More(first, rest) => match dimensions.split_first() {
-            None => Ok(None),
-            Some((dimension, more)) => match known_value(scope, first) {
-                None => Ok(None),
-                Some(subscript) => match dimension.above(subscript) {
-                    None => Ok(None),
-                    Some(above) => match place_in(scope, more, rest)? {
-                        None => Ok(None),
-                        Some(place) => {
-                            let place = combined(above, dimension.extent(), place)?;
-                            Ok(Some(place))
-                        }
-                    },
-                },
-            },
-        },
+        Exprs::More(first, rest) => {
+            let (dimension, more) = dimensions.split_first()?;
+            let subscript = known_value(scope, first)?;
+            let above = dimension.above(subscript)?;
+            let place = place_in(scope, more, rest)?;
+            Some(combined(above, dimension.extent(), place))
+        }
     }
 }

@@ -1,9 +1,10 @@
 //! What DATA statements give, one variable or element after another (ANSI X3.9-1978, 9.1).
 
-ghost use Rattle.std.specs.Prelude.{◌≡◌, is_some, IfOk, OnOk};
+ghost use Rattle.std.specs.Prelude.{◌≡◌, ◌+◌, ◌-◌, ◌^◌, ◌<◌, ◌≤◌, ℕ, true, is_some, IfOk, OnOk};
+ghost use Rattle.expressions.specs.Places.{capped};
 ghost use Rattle.meaning.specs.Initial.{value_type};
 ghost use Rattle.meaning.specs.Typing.{clash};
-ghost use Rattle.data_rules.specs.DataSlots.{GivesSlot, GivesSlots, slots_at, with_slot};
+ghost use Rattle.data_rules.specs.DataSlots.{GivesSlot, GivesSlots, StandsFor, slots_at, with_slot};
 ghost use Rattle.data_rules.specs.Filled.{GivesPlaces, stage_at};
 ghost use Rattle.data_rules.specs.Slots.{slot_at};
 
@@ -22,9 +23,9 @@ pub struct Filling {
     pub given: IndexMap<Vec<u8>, Vec<Option<Value>>>,
 }
 
-/// Whether a place was given a value.
+/// Whether a place, which is counted to 2^64-1, was given a value; so many places aren't kept.
 fn is_given(slots: &[Option<Value>], place: u64) -> bool
-    ensures { result ≡ is_some (slot_at slots.now place) }
+    ensures { (i : ℕ) → place ≡ capped i → result ≡ is_some (slot_at slots.now i) }
 {
     match slots.get(place as usize) {
         Some(slot) => slot.is_some(),
@@ -32,9 +33,11 @@ fn is_given(slots: &[Option<Value>], place: u64) -> bool
     }
 }
 
-/// Gives a place a value.
+/// Gives a place a value. The `AllocError` comes where a growth was refused, as it is for 2^64-1 places.
 fn put(slots: &mut Vec<Option<Value>>, place: u64, value: Value) -> Result<(), AllocError>
-    ensures { OnOk result (slot_at slots.new.items ≡ with_slot place value (slot_at slots.old.items)) }
+    ensures put { OnOk result (
+        slot_at slots.new.items ≡ with_slot place value (slot_at slots.old.items)) }
+    ensures kept { OnOk result (place < 2 ^ 64 - 2) }
 {
     let place = place as usize;
     if place < slots.len() {
@@ -63,15 +66,17 @@ fn differs(data_type: Option<DataType>, value: Value) -> bool
     }
 }
 
-/// Gives the next value to a place of a name of this type; false where there is none, it is of another type, or the place has one.
+/// Gives the next value to a place of a name of this type, which is counted to 2^64-1; false where there is none, it is of another
+/// type, or the place has one.
 fn give(
     slots: &mut Vec<Option<Value>>,
     values: &mut Values,
     data_type: Option<DataType>,
     place: u64,
 ) -> Result<bool, AllocError>
-    ensures { IfOk result (GivesSlot data_type place
+    ensures given { (i : ℕ) → place ≡ capped i → IfOk result (GivesSlot data_type i
         (slots_at slots.old values.old) (slots_at slots.new values.new)) }
+    ensures kept { IfOk result (λ given. given ≡ true → place < 2 ^ 64 - 2) }
 {
     match next_value(values) {
         Some(value) => {
@@ -86,7 +91,7 @@ fn give(
 }
 
 /// Gives the next values to so many places of a name of this type, from this one on; false where one of them doesn't get its value.
-/// The `AllocError` comes also where a place is 2^64 or more.
+/// A single place is counted to 2^64-1.
 fn give_each(
     slots: &mut Vec<Option<Value>>,
     values: &mut Values,
@@ -94,24 +99,21 @@ fn give_each(
     first: u64,
     count: u64,
 ) -> Result<bool, AllocError>
-    ensures { IfOk result (GivesSlots data_type first count
+    requires { first + count ≤ 2 ^ 64 }
+    ensures given { (i : ℕ) → StandsFor first count i → IfOk result (GivesSlots data_type i count
         (slots_at slots.old values.old) (slots_at slots.new values.new)) }
+    ensures kept { IfOk result (λ given. given ≡ true → count < 2 ^ 64 - 1) }
 {
     for behind in 0..count {
-        match first.checked_add(behind) {
-            Some(place) => {
-                if !give(slots, values, data_type, place)? {
-                    return Ok(false);
-                }
-            }
-            None => return Err(AllocError),
+        if !give(slots, values, data_type, first + behind)? {
+            return Ok(false);
         }
     }
     Ok(true)
 }
 
-/// Gives the next values to so many places of a name, from this one on; false where one of them doesn't get its value. The
-/// `AllocError` comes also where a place is 2^64 or more.
+/// Gives the next values to so many places of a name, from this one on; false where one of them doesn't get its value. A single
+/// place is counted to 2^64-1. The `AllocError` comes where a growth was refused.
 pub fn give_places(
     filling: &mut Filling,
     values: &mut Values,
@@ -121,8 +123,11 @@ pub fn give_places(
     first: u64,
     count: u64,
 ) -> Result<bool, AllocError>
-    ensures { IfOk result (GivesPlaces roles.now name.now first count
+    requires { first + count ≤ 2 ^ 64 }
+    ensures given { (i : ℕ) → StandsFor first count i →
+        IfOk result (GivesPlaces roles.now name.now i count
         (stage_at filling.old values.old) (stage_at filling.new values.new)) }
+    ensures kept { IfOk result (λ given. given ≡ true → count < 2 ^ 64 - 1) }
 {
     let data_type = type_of_name(roles, name);
     match filling.given.get_mut(name) {

@@ -50,7 +50,7 @@ fn give_name(
     match arrays.get(name) {
         Some(dimensions) => {
             let size = size_of(dimensions);
-            let given = give_places(
+            give_places(
                 &mut giving.filling,
                 &mut giving.values,
                 alloc,
@@ -58,12 +58,7 @@ fn give_name(
                 name,
                 0,
                 size,
-            )?;
-            // No memory has so many places that all were given values.
-            if given && size == u64::MAX {
-                return Err(AllocError);
-            }
-            Ok(given)
+            )
         }
         None => {
             if is_other_name(roles, name) {
@@ -96,7 +91,7 @@ fn give_element(
     ensures same { giving.new.scope ≡ giving.old.scope }
 {
     match arrays.get(name) {
-        Some(dimensions) => match place_in(&giving.scope, dimensions, subscripts)? {
+        Some(dimensions) => match place_in(&giving.scope, dimensions, subscripts) {
             Some(place) => {
                 let roles = giving.scope.table.roles;
                 give_places(

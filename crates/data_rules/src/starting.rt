@@ -5,7 +5,8 @@ ghost use Rattle.meaning.specs.Initial.{sets_of};
 ghost use Rattle.meaning.specs.Syntax.{data_set_tree, shape_tree};
 ghost use Rattle.meaning.specs.Trees.{item_tree};
 ghost use Rattle.roles.specs.RolesAt.{roles_at};
-ghost use Rattle.data_rules.specs.DataPassed.{GoesOn, IsPassed, comes_first};
+ghost use Rattle.data_rules.specs.DataPassed.{GoesOn, IsPassed, IsSettled, IsSettledBehind, comes_first};
+ghost use Rattle.rule_passes.specs.InOrder.{AreInOrder};
 ghost use Rattle.rule_passes.specs.Listed.{tree_at};
 ghost use Rattle.declarations.specs.ArraysKept.{AreArrays};
 ghost use Rattle.data_rules.specs.DataGiving.{roles_in};
@@ -145,8 +146,7 @@ pub struct Passed {
     pub filling: Option<Filling>,
 }
 
-/// Passes a statement. The `AllocError` comes where it stands in front of one that was passed behind the least pair, too; the
-/// statements of a source stand in the order of their lines.
+/// Passes a statement. Where one was passed that isn't filled, it stands no earlier than that one.
 fn pass_data<'a>(
     passed: Passed,
     alloc: Global,
@@ -155,21 +155,26 @@ fn pass_data<'a>(
     arrays: &IndexMap<Vec<u8>, Dimensions>,
     item: &'a Item,
 ) -> Result<Passed, AllocError>
-    requires { AreArrays (roles_at table.now.roles.now) arrays.now }
-    ensures { IfOk result (λ p.
+    requires arrays { AreArrays (roles_at table.now.roles.now) arrays.now }
+    requires settled { IsSettled item.now.line passed }
+    ensures passed { IfOk result (λ p.
         GoesOn table.now (names_kept sizeless.now) (item_tree item.entry.now) passed p) }
+    ensures settled { IfOk result (IsSettledBehind item.entry.now.line) }
 {
     let Passed { broken, filling } = passed;
-    if !is_first(item.line, broken) {
-        drop(filling);
-        return Ok(Passed {
+    match filling {
+        None => Ok(Passed {
             broken,
             filling: None,
-        });
-    }
-    match filling {
-        None => Err(AllocError),
+        }),
         Some(so_far) => {
+            if !is_first(item.line, broken) {
+                drop(so_far);
+                return Ok(Passed {
+                    broken,
+                    filling: None,
+                });
+            }
             let known = Known { table, sizeless };
             let sets = counted_sets(&known, &*item.form.shape);
             match give_sets(so_far, alloc, table, arrays, sets)? {
@@ -189,7 +194,8 @@ fn pass_data<'a>(
     }
 }
 
-/// K10: the least pair of the others and of the DATA statements, and what they give where there is none.
+/// K10: the least pair of the others and of the DATA statements, and what they give where there is none. The `AllocError` comes
+/// where a growth was refused.
 pub fn given_by_data(
     alloc: Global,
     roles: &Roles,
@@ -197,7 +203,8 @@ pub fn given_by_data(
     items: &[&Item],
     others: Option<Broken>,
 ) -> Result<Passed, AllocError>
-    requires { AreArrays (roles_at roles.now) arrays.now }
+    requires arrays { AreArrays (roles_at roles.now) arrays.now }
+    requires ordered { AreInOrder (map tree_at items.now) }
     ensures { IfOk result (λ p. IsPassed (roles_at roles.now) others (map tree_at items.now) p) }
 {
     let mut table = table_of(alloc, roles);

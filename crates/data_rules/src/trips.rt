@@ -1,14 +1,14 @@
 //! The trips of implied DOs in DATA statements (ANSI X3.9-1978, 9.3 and 11.10.3).
 
-ghost use Rattle.std.specs.Prelude.{◌≡◌, ◌+ℤ◌, option_map, IfOk};
+ghost use Rattle.std.specs.Prelude.{◌≡◌, ◌+ℤ◌, option_map, FitsSigned, IfSome};
+ghost use Rattle.std.specs.Int.{w32};
 ghost use Rattle.meaning.specs.Initial.{trips_if};
-ghost use Rattle.data_rules.specs.DataTrips.{step_in, trips_by, trips_in};
+ghost use Rattle.data_rules.specs.DataTrips.{AreIntegers, step_in, trips_by, trips_in};
 
 use crate::elements::known_value;
 use declarations::Scope;
 use expressions::trip_count;
 use meaning::syntax::{Expr, Limits};
-use std::alloc::AllocError;
 
 /// The trips: the first value of the variable, the step, and how many there are, one at least.
 #[derive(Clone, Copy)]
@@ -20,7 +20,8 @@ pub struct Trips {
 
 /// The trips with these limits, if there are any.
 fn trips_between(first: i32, last: i32, step: i32) -> Option<Trips>
-    ensures { option_map trips_by result ≡ trips_if first last step }
+    ensures trips { option_map trips_by result ≡ trips_if first last step }
+    ensures integers { IfSome result AreIntegers }
 {
     if step == 0 {
         return None;
@@ -45,7 +46,8 @@ fn step_of(scope: &Scope, step: &Option<Expr>) -> Option<i32>
 
 /// The trips of an implied DO, if its limits are known and there are any.
 pub fn trips_of(scope: &Scope, limits: &Limits) -> Option<Trips>
-    ensures { option_map trips_by result ≡ trips_in scope.now limits.now }
+    ensures trips { option_map trips_by result ≡ trips_in scope.now limits.now }
+    ensures integers { IfSome result AreIntegers }
 {
     match known_value(scope, &limits.first) {
         None => None,
@@ -59,22 +61,18 @@ pub fn trips_of(scope: &Scope, limits: &Limits) -> Option<Trips>
     }
 }
 
-/// The value of a variable. The `AllocError` comes where it is out of the range of INTEGER; it stands between the limits.
-pub fn value_of_trip(value: i64) -> Result<i32, AllocError>
-    ensures { IfOk result (λ x. x ≡ value) }
+/// The value of a variable, which is an INTEGER.
+pub fn value_of_trip(value: i64) -> i32
+    requires { FitsSigned w32 value }
+    ensures { result ≡ value }
 {
-    match i32::try_from(value) {
-        Ok(value) => Ok(value),
-        Err(_) => Err(AllocError),
-    }
+    value as i32
 }
 
-/// The value one trip on. The `AllocError` comes where it is out of the range of 64 bits.
-pub fn next_trip(value: i64, step: i32) -> Result<i64, AllocError>
-    ensures { IfOk result (λ x. x ≡ value +ℤ step) }
+/// The value one trip on.
+pub fn next_trip(value: i64, step: i32) -> i64
+    requires { FitsSigned w32 value }
+    ensures { result ≡ value +ℤ step }
 {
-    match value.checked_add(i64::from(step)) {
-        Some(value) => Ok(value),
-        None => Err(AllocError),
-    }
+    value + i64::from(step)
 }

@@ -14,6 +14,8 @@ use Rattle.meaning.specs.Syntax.{ItemTree}
 use Rattle.meaning.specs.Trees.{Nested}
 use Rattle.nesting.specs.Pairs.{pairs_of_order}
 use Rattle.source_columns.specs.AllBroken.{pairs_of_lines}
+use Rattle.rule_laws.proofs.Lines.{unit_in_order}
+use Rattle.further_rules.specs.InOrder.{ReadInOrder}
 use Rattle.further_rules.specs.Phases.{broken_pairs, pairs_from_order, pairs_from_texts, pairs_of_texts, pairs_of_unit, refused_by, told_or}
 use Rattle.further_rules.specs.Texts.{members_read, read_by}
 
@@ -36,6 +38,10 @@ module _ {A : Type 0} where
 members_told : (entries : List Entry) → members_of entries ≡ unless (least (pairs_of_texts entries)) (members_read entries)
 unfolding members_of
 members_told entries = all_said (map member_of entries)
+
+pub texts_read : (entries : List Entry) (pairs : List Broken) (members : List ItemTree) → pairs ≡ pairs_of_texts entries → pairs ≡ [] → members ≡ members_read entries → members_of entries ≡ Ok members
+texts_read entries pairs members is none read =
+    members_told entries ∙ ap (λ xs. unless (least xs) (members_read entries)) (sym is ∙ none) ∙ ap Ok (sym read)
 
 pub texts_refuse : (entries : List Entry) (pairs : List Broken) → pairs ≡ pairs_of_texts entries → (pairs ≡ [] → ⊥) → pairs_from_texts entries ≡ pairs
 texts_refuse entries [] is some = absurd (some refl)
@@ -121,3 +127,10 @@ module _ (unit_told : (t : Nested) (h : Broken) → least (pairs_of_unit t) ≡ 
           ap (λ r. r >>= λ entries. members_of entries >>= λ members. nest members >>= λ t. checked t) (lines_told source h (ap least (sym (lines_refuse source b is)) ∙ e))
       by_result (Ok entries) is =
           ap (λ r. r >>= λ entries. members_of entries >>= λ members. nest members >>= λ t. checked t) is ∙ texts_told entries h (ap least (sym (lines_pass source entries is)) ∙ e)
+
+-- ---- statements in the order of their lines
+
+pub read_in_order : (source : List ℕ) (entries : List Entry) → statements_of source ≡ Ok entries → ReadInOrder entries
+read_in_order source entries stated members read t nests =
+    unit_in_order source t
+    (ap (λ r. r >>= λ es. members_of es >>= λ ms. nest ms) stated ∙ ap (λ r. r >>= λ ms. nest ms) read ∙ nests)

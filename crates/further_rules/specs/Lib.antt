@@ -4,3 +4,4 @@ pub mod Further
 pub mod Texts
 pub mod Parts
 pub mod Adding
+pub mod InOrder

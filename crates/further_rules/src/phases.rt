@@ -5,6 +5,7 @@ ghost use Rattle.meaning.specs.Statements.{entry_of};
 ghost use Rattle.meaning.specs.Trees.{item_tree};
 ghost use Rattle.further_rules.specs.Further.{AreFurther};
 ghost use Rattle.further_rules.specs.Ordered.{HaveSame};
+ghost use Rattle.further_rules.specs.InOrder.{NestInOrder, ReadInOrder};
 ghost use Rattle.further_rules.specs.Phases.{broken_pairs, pairs_from_order, pairs_from_texts};
 
 use crate::sorted::{in_order, without_first};
@@ -19,6 +20,7 @@ use std::alloc::{AllocError, Global};
 
 /// The pairs of N, or else those of K.
 fn order_pairs(alloc: Global, members: Vec<Item>) -> Result<Vec<Broken>, AllocError>
+    requires { NestInOrder (map item_tree members.items) }
     ensures { IfOk result (λ v. HaveSame v.items (pairs_from_order (map item_tree members.items))) }
 {
     match tree_or_pairs(alloc, members)? {
@@ -38,6 +40,7 @@ fn order_pairs(alloc: Global, members: Vec<Item>) -> Result<Vec<Broken>, AllocEr
 
 /// The pairs of G, or else those of the phases behind it.
 fn text_pairs(alloc: Global, found: &[Statement]) -> Result<Vec<Broken>, AllocError>
+    requires { ReadInOrder (map entry_of found.now) }
     ensures { IfOk result (λ v. HaveSame v.items (pairs_from_texts (map entry_of found.now))) }
 {
     let Texts { members, broken } = texts_in(alloc, found)?;

@@ -54,10 +54,10 @@ fn add_said(
                 Err(AllocError)
             }
         },
-        Err(Refusal::Rule { rule, line }) => match broken.push(Broken { line, rule }) {
-            Ok(()) => Ok(()),
-            Err(_) => Err(AllocError),
-        },
+        Err(Refusal::Rule { rule, line }) => {
+            broken.push(Broken { line, rule })?;
+            Ok(())
+        }
         Err(Refusal::Memory) => Err(AllocError),
     }
 }

@@ -6,6 +6,7 @@ ghost use Rattle.meaning.specs.Rules.{checked};
 ghost use Rattle.meaning.specs.Trees.{flatten, nested};
 ghost use Rattle.rule_passes.specs.Listed.{tree_at};
 ghost use Rattle.statement_rules.specs.FormatsFound.{HoldsFormats};
+ghost use Rattle.rule_passes.specs.InOrder.{AreInOrder};
 ghost use Rattle.k_rules.specs.Judged.{AreFirstLeast, AreLastLeast, AreNamesLeast, HasArrays, HasConstants, HasFormats, HasStarts, IsDecided, IsOutputLeast, with_data};
 
 use data_rules::{Filling, Passed, given_by_data};
@@ -126,6 +127,7 @@ fn facts_of(
     formats: Formats,
 ) -> Result<Facts, Refusal>
     requires same { map tree_at roles.now.items.now ≡ map tree_at items.now }
+    requires ordered { AreInOrder (map tree_at items.now) }
     requires formats { HoldsFormats (map tree_at items.now) formats }
     ensures exact { IsDecided (with_data (map tree_at items.now) others) result }
     ensures constants { IfOk result (HasConstants (map tree_at items.now)) }
@@ -164,15 +166,11 @@ fn facts_of(
                             formats,
                         })
                     }
-                    None => {
-                        drop(declared);
-                        drop(formats);
-                        Err(Refusal::Memory)
-                    }
+                    None => unreachable!(),
                 },
             }
         }
-        Err(_) => {
+        Err(AllocError) => {
             drop(declared);
             drop(formats);
             Err(Refusal::Memory)
@@ -182,7 +180,8 @@ fn facts_of(
 
 /// What is known of a program unit whose statements are these, or the least pair of the rules that it breaks.
 fn judge_items(alloc: Global, tree: &Tree, items: &[&Item]) -> Result<Facts, Refusal>
-    requires { map tree_at items.now ≡ flatten (nested tree.now) }
+    requires same { map tree_at items.now ≡ flatten (nested tree.now) }
+    requires ordered { AreInOrder (flatten (nested tree.now)) }
     ensures exact { Gives (λ _. nested tree.now) result (checked (nested tree.now)) }
     ensures constants { IfOk result (HasConstants (flatten (nested tree.now))) }
     ensures arrays { IfOk result (HasArrays (flatten (nested tree.now))) }
@@ -201,8 +200,10 @@ fn judge_items(alloc: Global, tree: &Tree, items: &[&Item]) -> Result<Facts, Ref
     }
 }
 
-/// What is known of a program unit, or the least pair of the rules that it breaks.
+/// What is known of a program unit, or the least pair of the rules that it breaks. Its statements stand in the order of their
+/// lines, as those of each source do. `Memory` comes where a growth was refused.
 pub fn judge(alloc: Global, tree: &Tree) -> Result<Facts, Refusal>
+    requires { AreInOrder (flatten (nested tree.now)) }
     ensures exact { Gives (λ _. nested tree.now) result (checked (nested tree.now)) }
     ensures constants { IfOk result (HasConstants (flatten (nested tree.now))) }
     ensures arrays { IfOk result (HasArrays (flatten (nested tree.now))) }

@@ -1,6 +1,7 @@
 -- Initial lines ascend.
-use Rattle.std.proofs.Common.{◌≡◌, ℕ, suc, ◌+◌, ◌≤◌, Bool, true, false, List, [], ◌∷◌, length, map, Result, Ok, Err, Option, Some, None, refl, sym, ap, subst, ◌∙◌, arith}
+use Rattle.std.proofs.Common.{◌≡◌, ℕ, zero, suc, ◌+◌, ◌<◌, ◌≤◌, Bool, true, false, List, [], ◌∷◌, length, map, get_or, Result, Ok, Err, Option, Some, None, refl, sym, ap, subst, ◌∙◌, arith}
 use Rattle.std.specs.Prelude.{if◌then◌else◌, nat_lt, ◌||◌}
+use Rattle.std.proofs.lemmas.List.{length-map}
 use Rattle.meaning.specs.declared.refusal.Broken.{Broken}
 use Rattle.meaning.specs.declared.refusal.Rule.{Rule}
 use Rattle.meaning.specs.declared.refusal.Rule.TheVariants.{C7}
@@ -14,6 +15,7 @@ use Rattle.meaning.specs.Statements.{Entry, Group, broken_in, continuations, ent
 use Rattle.meaning.specs.Syntax.{ItemTree, ShapeTree}
 use Rattle.meaning.specs.Trees.{Nested, flatten}
 use Rattle.nesting_laws.proofs.Read.{read_nests}
+use Rattle.rule_passes.specs.InOrder.{AreInOrder}
 use Rattle.rule_laws.specs.Units.{Ascend, lines_in, unit_of}
 
 further : (m n most : ℕ) (ns : List ℕ) → m ≤ n → Ascend n most ns → Ascend m most ns
@@ -123,3 +125,21 @@ pub unit_ascends : (source : List ℕ) (t : Nested) → unit_of source ≡ Ok t 
 unit_ascends source t is =
     let u = is_unit source t is in
     subst (Ascend 1 65535) (member_lines u.entries (flatten t) u.read) (entries_ascend source u.entries u.stated)
+
+-- ---- by their places
+
+least_first : (least most : ℕ) (ns : List ℕ) (j : ℕ) → Ascend least most ns → j < length ns → least ≤ get_or ns j 0
+least_first least most [] j h lt = absurd (omega arith)
+least_first least most (n ∷ ns) zero h lt = h.0
+least_first least most (n ∷ ns) (suc j) h lt = let e = least_first (suc n) most ns j h.2 (omega (arith, lt)) in omega (arith, e, h.0)
+
+none_falls_back : (least most : ℕ) (ns : List ℕ) → Ascend least most ns → (i j : ℕ) → i ≤ j → j < length ns → get_or ns i 0 ≤ get_or ns j 0
+none_falls_back least most [] h i j le lt = absurd (omega arith)
+none_falls_back least most (n ∷ ns) h zero zero le lt = omega arith
+none_falls_back least most (n ∷ ns) h zero (suc j) le lt = let e = least_first (suc n) most ns j h.2 (omega (arith, lt)) in omega (arith, e)
+none_falls_back least most (n ∷ ns) h (suc i) zero le lt = absurd (omega arith)
+none_falls_back least most (n ∷ ns) h (suc i) (suc j) le lt = none_falls_back (suc n) most ns h.2 i j (omega (arith, le)) (omega (arith, lt))
+
+pub unit_in_order : (source : List ℕ) (t : Nested) → unit_of source ≡ Ok t → AreInOrder (flatten t)
+unit_in_order source t is = λ i j le lt.
+    none_falls_back 1 65535 (lines_in t) (unit_ascends source t is) i j le (subst (λ n. j < n) (sym (length-map (flatten t) (λ (x : ItemTree). x.line))) lt)

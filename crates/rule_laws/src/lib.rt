@@ -3,17 +3,20 @@
 
 ghost use Rattle.std.specs.Prelude.{◌<◌, ◌^◌, ℕ, List};
 ghost use Rattle.meaning.specs.Syntax.{ShapeTree};
-ghost use Rattle.meaning.specs.Trees.{Nested};
+ghost use Rattle.meaning.specs.Trees.{Nested, flatten};
 ghost use Rattle.meaning.specs.Values.{Arrays};
 ghost use Rattle.rule_laws.specs.Evaluated.{AreOwnNames, AreReady, AreReadyFunctions, AreStored, evaluated};
 ghost use Rattle.rule_laws.specs.Lawful.{AreLawful, IsAccepted};
 ghost use Rattle.rule_laws.specs.Read.{AreRead, AreShort, BodiesShort, HeadsExecute, IsRead, TransfersSmall, elements_set};
 ghost use Rattle.rule_laws.specs.Sized.{AreSized, AreStartsNamed, count_of};
+ghost use Rattle.rule_passes.specs.InOrder.{AreInOrder};
 ghost use Rattle.rule_laws.specs.Units.{Ascend, Spells, lines_in};
 
 /// The initial lines of a program unit ascend, and are lines of a source, which has 65,535 at most.
 pub fn lines_ascend()
-    ensures { (source : List ℕ) (t : Nested) → Spells source t → Ascend 1 65535 (lines_in t) }
+    ensures lines { (source : List ℕ) (t : Nested) → Spells source t →
+        Ascend 1 65535 (lines_in t) }
+    ensures order { (source : List ℕ) (t : Nested) → Spells source t → AreInOrder (flatten t) }
 {}
 
 /// Its statements are well formed, and spelled by 1,320 characters at most.

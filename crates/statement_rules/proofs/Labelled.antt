@@ -3,6 +3,7 @@ use Rattle.std.proofs.Common.{◌≡◌, ℕ, ◌+◌, ◌<◌, ◌≤◌, ◌^�
 use Rattle.std.specs.Prelude.{count_by, if◌then◌else◌}
 use Rattle.std.specs.Borrow.{Bor}
 use Rattle.std.specs.BTreeMap.{BTreeMap}
+use Rattle.std.specs.Global.{Vec}
 use Rattle.std.specs.BTreeSet.{BTreeSet, contains}
 use Rattle.std.specs.Ordering.{nat_cmp}
 use Rattle.std.specs.List.{list_any}
@@ -93,5 +94,5 @@ counts_alone old new own none counted few = record {
   small = few;
 }
 
-pub none_counted : (counts : BTreeMap ℕ ℕ) (s : ℕ) → counts.entries ≡ [] → count_in counts s ≡ 0
+pub none_counted : (counts : BTreeMap ℕ (Vec ℕ)) (s : ℕ) → counts.entries ≡ [] → count_in counts s ≡ 0
 none_counted counts s empty = simp empty

@@ -4,48 +4,56 @@ ghost use Rattle.std.specs.Prelude.{◌≡◌, ◌≤◌, ◌^◌, ℕ, false, O
 ghost use Rattle.meaning.specs.LabelRules.{is_label_at};
 ghost use Rattle.statement_rules.specs.Counted.{AddsLabel, TakesLabel, count_in};
 
-use std::alloc::AllocError;
+use std::alloc::{AllocError, Global};
 use std::collections::BTreeMap;
 
+/// By labels the lines of the statements at which they stand.
+pub type LinesByLabel = BTreeMap<u32, Vec<u32>>;
+
 /// How often a label stands.
-pub fn count_of(counts: &BTreeMap<u32, u64>, label: u32) -> u64
-    ensures { result ≡ count_in counts.now label }
+pub fn count_of(lines: &LinesByLabel, label: u32) -> usize
+    ensures { result ≡ count_in lines.now label }
 {
-    match counts.get(&label) {
-        Some(count) => *count,
+    match lines.get(&label) {
+        Some(lines) => lines.len(),
         None => 0,
     }
 }
 
-/// Counts a label once more, if there is one. The `AllocError` comes where a growth was refused; a label stands less than
-/// 2^64-1 times.
-pub fn add_label(counts: &mut BTreeMap<u32, u64>, label: Option<u32>) -> Result<(), AllocError>
-    ensures counted { OnOk result (AddsLabel label counts.old counts.new) }
+/// Counts a label once more, if there is one, at a line. The `AllocError` comes where a growth was refused.
+pub fn add_label(
+    lines: &mut LinesByLabel,
+    alloc: Global,
+    label: Option<u32>,
+    line: u32,
+) -> Result<(), AllocError>
+    ensures counted { OnOk result (AddsLabel label lines.old lines.new) }
     ensures small { (s : ℕ) → 2 ^ 32 ≤ s → is_label_at label s ≡ false }
 {
     match label {
         None => Ok(()),
-        Some(label) => match count_of(counts, label).checked_add(1) {
-            Some(more) => {
-                counts.insert(label, more)?;
-                Ok(())
-            }
-            None => Err(AllocError),
-        },
+        Some(label) => {
+            let mut here = match lines.remove(&label) {
+                Some(here) => here,
+                None => Vec::new(alloc),
+            };
+            here.push(line)?;
+            lines.insert(label, here)?;
+            Ok(())
+        }
     }
 }
 
 /// Counts a label once less, if there is one.
-pub fn take_label(counts: &mut BTreeMap<u32, u64>, label: Option<u32>)
-    ensures { TakesLabel label counts.old counts.new }
+pub fn take_label(lines: &mut LinesByLabel, label: Option<u32>)
+    ensures { TakesLabel label lines.old lines.new }
 {
     match label {
         None => {}
-        Some(label) => match counts.get(&label).copied() {
-            None => {}
-            Some(count) => {
-                let _ = counts.insert(label, count.saturating_sub(1));
+        Some(label) => {
+            if let Some(here) = lines.get_mut(&label) {
+                here.pop();
             }
-        },
+        }
     }
 }

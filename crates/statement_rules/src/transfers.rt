@@ -7,7 +7,7 @@ ghost use Rattle.rule_passes.specs.Telling.{Finds};
 ghost use Rattle.statement_rules.specs.Counted.{AreCounts};
 ghost use Rattle.statement_rules.specs.Reached.{AreClosed, Closes, IsAround, MissesLeast, is_not_executable, misses_by, misses_label, misses_one_of, shape_misses};
 
-use crate::counts::{add_label, count_of};
+use crate::counts::{LinesByLabel, add_label, count_of};
 use crate::reach::{add_list, take_list};
 use meaning::number::number;
 use meaning::refusal::{Broken, Rule};
@@ -32,12 +32,13 @@ pub fn label_of(digits: &[u8]) -> Option<u32>
 /// What is known of labels while transfers are looked at.
 #[derive(Drop)]
 pub struct Transfers<'a> {
-    /// How often each stands in the program unit.
-    all: &'a BTreeMap<u32, u64>,
+    alloc: Global,
+    /// Where each stands in the program unit.
+    all: &'a LinesByLabel,
     /// Those of statements that aren't executable.
     closed: &'a BTreeSet<u32>,
-    /// How often each stands in the lists around.
-    reach: BTreeMap<u32, u64>,
+    /// Where each stands in the lists around.
+    reach: LinesByLabel,
 }
 
 /// Whether a transfer misses the label that digits spell.
@@ -103,7 +104,7 @@ impl Within for Transfers<'_> {
     }
 
     fn enter_range(&mut self, _head: &Item, range: &[Member]) -> Result<(), AllocError> {
-        add_list(&mut self.reach, range)
+        add_list(&mut self.reach, self.alloc, range)
     }
 
     fn leave_range(&mut self, _head: &Item, range: &[Member]) {
@@ -111,7 +112,7 @@ impl Within for Transfers<'_> {
     }
 
     fn enter_arm(&mut self, body: &[Member]) -> Result<(), AllocError> {
-        add_list(&mut self.reach, body)
+        add_list(&mut self.reach, self.alloc, body)
     }
 
     fn leave_arm(&mut self, body: &[Member]) {
@@ -119,15 +120,15 @@ impl Within for Transfers<'_> {
     }
 }
 
-/// How often labels stand at statements.
-fn counts_of(alloc: Global, items: &[&Item]) -> Result<BTreeMap<u32, u64>, AllocError>
+/// Where labels stand at statements.
+fn lines_of(alloc: Global, items: &[&Item]) -> Result<LinesByLabel, AllocError>
     ensures { IfOk result (AreCounts items.now) }
 {
-    let mut counts = BTreeMap::new(alloc);
+    let mut lines = BTreeMap::new(alloc);
     for item in items {
-        add_label(&mut counts, item.label)?;
+        add_label(&mut lines, alloc, item.label, item.line)?;
     }
-    Ok(counts)
+    Ok(lines)
 }
 
 /// Whether a statement isn't executable.
@@ -180,11 +181,12 @@ pub fn missed_label(
 ) -> Result<Option<Broken>, AllocError>
     ensures { IfOk result (MissesLeast roles.now items.now members.now) }
 {
-    let all = counts_of(alloc, items)?;
+    let all = lines_of(alloc, items)?;
     let closed = closed_labels(alloc, roles, items)?;
     let mut reach = BTreeMap::new(alloc);
-    add_list(&mut reach, members)?;
+    add_list(&mut reach, alloc, members)?;
     let mut transfers = Transfers {
+        alloc,
         all: &all,
         closed: &closed,
         reach,

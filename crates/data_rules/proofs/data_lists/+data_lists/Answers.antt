@@ -1,4 +1,4 @@
-use Rattle.std.proofs.Common.{◌≡◌, ℕ, ◌+◌, ℤ, pos, ◌+ℤ◌, ◌*ℤ◌, option_map, Some, None, rules, FitsSigned, to_z, sym, ap, ap₂, ◌∙◌}
+use Rattle.std.proofs.Common.{◌≡◌, ℕ, ◌+◌, ℤ, pos, ◌+ℤ◌, ◌*ℤ◌, option_map, Some, None, rules, FitsSigned, to_z, sym, ap, ap₂, subst, ◌∙◌}
 use Rattle.std.specs.Int.{w32, w64}
 use Rattle.std.proofs.lemmas.Int.{to_z-of_z}
 use Rattle.meaning.specs.declared.ending.Value.TheVariants.{Int}
@@ -21,7 +21,7 @@ pub give_item-returns-in-None-clause-filled : goal.give_item-returns-in-None-cla
 give_item-returns-in-None-clause-filled t c =
     let g = c.args.giving.now in
     let r = roles_in g in
-    let none = sym c.trips_of.ensures ∙ ap (option_map trips_by) c.in-None.is in
+    let none = sym c.trips_of.ensures.trips ∙ ap (option_map trips_by) c.in-None.is in
     ap (λ x. filled r.names (item_targets r (list_item_tree x) (known_there g)) (stage_of g)) c.in-Loop.is
     ∙ no_trips r (list_items_tree c.in-Loop.items.value) c.in-Loop.variable.items (limits_tree c.in-Loop.limits) (known_there g) (stage_of g) none
 
@@ -33,7 +33,7 @@ give_item-returns-in-Some-clause-filled t c =
     let s = stage_of g in
     let is = trips_by c.in-Some.trips in
     let can = ap (is_counter r) (sym c.deref.ensures.value) ∙ sym c.is_counter.ensures ∙ c.if-not-is_counter.false in
-    let some = sym c.trips_of.ensures ∙ ap (option_map trips_by) c.in-Some.is in
+    let some = sym c.trips_of.ensures.trips ∙ ap (option_map trips_by) c.in-Some.is in
     same_given c.give_trips.result _
     (ap (λ x. filled r.names (item_targets r (list_item_tree x) k) s) c.in-Loop.is
     ∙ with_trips r (list_items_tree c.in-Loop.items.value) c.in-Loop.variable.items (limits_tree c.in-Loop.limits) k is s can some
@@ -89,9 +89,9 @@ give_trips-returns-then-not-given-clause-filled t c =
     let f : ℕ → ℤ = λ j. c.args.trips.first +ℤ pos j *ℤ c.args.trips.step in
     let kept = c.loop.invariant in
     let table = c.in_ok-enter_name.ensures.table ∙ kept.same.table in
-    let fits : FitsSigned w32 c.in_ok-here.here = search rules in
+    let fits : FitsSigned w32 c.value_of_trip-here.result = search rules in
     let known : scope_known scope ≡ with_value v (f i) k =
-    c.in_ok-enter_name.ensures.known ∙ ap (λ x. with_name v (Some (Int x)) (scope_known before.scope)) (to_z-of_z w32 c.in_ok-here.here fits ∙ c.in_ok-here.ensures ∙ kept.value)
+    c.in_ok-enter_name.ensures.known ∙ ap (λ x. with_name v (Some (Int x)) (scope_known before.scope)) (to_z-of_z w32 c.value_of_trip-here.result fits ∙ c.value_of_trip-here.ensures ∙ kept.value)
     ∙ ap (with_value v (f i)) (same_known g.scope before.scope kept.same) in
     let one =
     sym (ap (λ t. filled (roles_at t.now.roles.now).names (targets_in (roles_at t.now.roles.now) ys (scope_known scope)) (stage_of before)) table
@@ -118,9 +118,9 @@ give_trips-returns-then-not-given-clause-same t c =
     let f : ℕ → ℤ = λ j. c.args.trips.first +ℤ pos j *ℤ c.args.trips.step in
     let kept = c.loop.invariant in
     let table = c.in_ok-enter_name.ensures.table ∙ kept.same.table in
-    let fits : FitsSigned w32 c.in_ok-here.here = search rules in
+    let fits : FitsSigned w32 c.value_of_trip-here.result = search rules in
     let known : scope_known scope ≡ with_value v (f i) k =
-    c.in_ok-enter_name.ensures.known ∙ ap (λ x. with_name v (Some (Int x)) (scope_known before.scope)) (to_z-of_z w32 c.in_ok-here.here fits ∙ c.in_ok-here.ensures ∙ kept.value)
+    c.in_ok-enter_name.ensures.known ∙ ap (λ x. with_name v (Some (Int x)) (scope_known before.scope)) (to_z-of_z w32 c.value_of_trip-here.result fits ∙ c.value_of_trip-here.ensures ∙ kept.value)
     ∙ ap (with_value v (f i)) (same_known g.scope before.scope kept.same) in
     let one =
     sym (ap (λ t. filled (roles_at t.now.roles.now).names (targets_in (roles_at t.now.roles.now) ys (scope_known scope)) (stage_of before)) table
@@ -146,9 +146,9 @@ give_trips-loop-preserved t c =
     let f : ℕ → ℤ = λ j. c.args.trips.first +ℤ pos j *ℤ c.args.trips.step in
     let kept = c.loop.invariant in
     let table = c.in_ok-enter_name.ensures.table ∙ kept.same.table in
-    let fits : FitsSigned w32 c.in_ok-here.here = search rules in
+    let fits : FitsSigned w32 c.value_of_trip-here.result = search rules in
     let known : scope_known scope ≡ with_value v (f i) k =
-    c.in_ok-enter_name.ensures.known ∙ ap (λ x. with_name v (Some (Int x)) (scope_known before.scope)) (to_z-of_z w32 c.in_ok-here.here fits ∙ c.in_ok-here.ensures ∙ kept.value)
+    c.in_ok-enter_name.ensures.known ∙ ap (λ x. with_name v (Some (Int x)) (scope_known before.scope)) (to_z-of_z w32 c.value_of_trip-here.result fits ∙ c.value_of_trip-here.ensures ∙ kept.value)
     ∙ ap (with_value v (f i)) (same_known g.scope before.scope kept.same) in
     let one =
     sym (ap (λ t. filled (roles_at t.now.roles.now).names (targets_in (roles_at t.now.roles.now) ys (scope_known scope)) (stage_of before)) table
@@ -158,11 +158,19 @@ give_trips-loop-preserved t c =
       table = c.leave_name.ensures.table ∙ c.in_ok-given.ensures.same.table ∙ table;
     } in
     let by : FitsSigned w32 c.args.trips.step = search rules in
-    let far : FitsSigned w64 c.in_ok-value.value = search rules in
+    let far : FitsSigned w64 c.next_trip-value.result = search rules in
     record {
       left =
           sym (trip_more r ys v k f i n (stage_of before) c.loop-test.true
           ∙ ap (λ o. and_also o (left r ys v k f (i + 1) n)) (one ∙ ap (λ b. if b then Some (stage_of behind) else None) c.if-not-given.false)) ∙ kept.left;
-      value = to_z-of_z w64 c.in_ok-value.value far ∙ c.in_ok-value.ensures ∙ ap (λ x. to_z w64 c.loop.value-bits +ℤ x) (to_z-of_z w32 c.args.trips.step by) ∙ ap (λ x. x +ℤ c.args.trips.step) kept.value ∙ next_value c.args.trips.first c.args.trips.step i;
+      value = to_z-of_z w64 c.next_trip-value.result far ∙ c.next_trip-value.ensures ∙ ap (λ x. to_z w64 c.loop.value-bits +ℤ x) (to_z-of_z w32 c.args.trips.step by) ∙ ap (λ x. x +ℤ c.args.trips.step) kept.value ∙ next_value c.args.trips.first c.args.trips.step i;
       same = same;
     }
+
+pub give_trips-value_of_trip-here-requires : goal.give_trips-value_of_trip-here-requires
+give_trips-value_of_trip-here-requires t c =
+    subst (λ z. FitsSigned w32 z) (sym c.loop.invariant.value) (c.requires.integers c.loop.counter c.loop-test.true)
+
+pub give_trips-next_trip-value-requires : goal.give_trips-next_trip-value-requires
+give_trips-next_trip-value-requires t c =
+    subst (λ z. FitsSigned w32 z) (sym c.loop.invariant.value) (c.requires.integers c.loop.counter c.loop-test.true)

@@ -1,4 +1,5 @@
-use Rattle.std.proofs.Common.{◌≡◌, ℕ, List, [], ◌∷◌, ◌++◌, map, filter, take, sym, ap, subst, ◌∙◌}
+use Rattle.std.proofs.Common.{◌≡◌, ◌<◌, ◌≤◌, ℕ, List, [], ◌∷◌, ◌++◌, map, filter, take, sym, ap, subst, ◌∙◌, arith}
+use Rattle.std.proofs.lemmas.List.{length-map}
 use Rattle.std.specs.Map.{lookup}
 use Rattle.std.specs.Str.{bytes_eq}
 use Rattle.meaning.specs.NumberRules.{lacks_bound, sizeless_in}
@@ -7,26 +8,35 @@ use Rattle.meaning.specs.Syntax.{DeclaratorTree, declarator_tree, shape_tree}
 use Rattle.meaning.specs.Values.{Known}
 use Rattle.meaning.specs.Trees.{item_tree}
 use Rattle.roles.specs.RolesAt.{roles_at}
-use Rattle.data_rules.specs.DataPassed.{IsPassed}
+use Rattle.data_rules.specs.DataPassed.{IsPassed, IsSettled}
+use Rattle.rule_passes.specs.InOrder.{line_at}
 use Rattle.rule_passes.specs.Listed.{tree_at}
 use Rattle.data_rules.specs.Lacking.{names_kept}
 use Rattle.data_rules.specs.Slots.{slot_if}
 use Rattle.declarations.specs.Tables.{IsBehind, known_at}
 use Rattle.data_rules.proofs.DataPairing.{stage}
-use Rattle.data_rules.proofs.DataPassing.{none_passed}
+use Rattle.data_rules.proofs.DataPassing.{line_is, none_passed}
 use Rattle.data_rules.proofs.Sizeless.{sizeless_none, sizeless_push}
 use Rattle.rule_passes.proofs.Passes.{trees_more}
 use Rattle.data_rules.proofs.starting.given_by_data.Goals as goal
 
-pub pass_data-requires : goal.pass_data-requires
-pass_data-requires c =
-    λ n. c.requires n ∙ ap (λ q. (roles_at q).names.arrays n) (sym c.loop-item.invariant.roles)
+pub pass_data-requires-clause-arrays : goal.pass_data-requires-clause-arrays
+pass_data-requires-clause-arrays c =
+    λ n. c.requires.arrays n ∙ ap (λ q. (roles_at q).names.arrays n) (sym c.loop-item.invariant.roles)
+
+pub pass_data-requires-clause-settled : goal.pass_data-requires-clause-settled
+pass_data-requires-clause-settled c =
+    let items = c.args.items.now in
+    let i = c.loop-item.item-index in
+    subst (λ n. IsSettled n c.loop-item.passed) (line_is items i c.item-item.result c.loop-item-test.true c.item-item.is)
+    (c.loop-item.invariant.settled i (omega arith) c.loop-item-test.true)
 
 pub loop-item-init : goal.loop-item-init
 loop-item-init c = record {
   roles = c.table_of-table.ensures.roles;
   behind = c.table_of-table.ensures.behind;
   sizeless = ap names_kept c.new-sizeless.ensures.items ∙ sizeless_none (roles_at c.args.roles.now);
+  settled = λ j from lt none. absurd cc;
   passed =
       none_passed (roles_at c.args.roles.now) c.args.others (record { given = c.new-given.result })
       (ap (λ es. stage (λ n i. slot_if (lookup (λ k. bytes_eq n k.items) es) i) []) c.new-given.ensures.empty);
@@ -56,9 +66,13 @@ loop-item-preserved c =
       roles = ap (λ r. r.now) c.in_ok-pass_constants.ensures.roles ∙ before.roles;
       behind = subst (IsBehind c.pass_constants.new.table) more (c.in_ok-pass_constants.ensures.behind front before.behind);
       sizeless = here ∙ ap (λ p. sizeless_in (roles_at p) [] (front ++ x ∷ [])) before.roles ∙ ap (sizeless_in (roles_at c.args.roles.now) []) more;
+      settled = λ j from lt.
+          let le = c.requires.ordered i j (omega (arith, from)) (subst (λ n. j < n) (sym (length-map items tree_at)) lt) in
+          c.in_ok-passed.ensures.settled (line_at (map tree_at items) j)
+          (subst (λ n. n ≤ line_at (map tree_at items) j) (line_is items i c.item-item.result c.loop-item-test.true c.item-item.is) le);
       passed =
           subst (λ xs. IsPassed (roles_at c.args.roles.now) c.args.others xs p) more
           (subst (λ q. IsPassed (roles_at q) c.args.others (front ++ tree_at c.item-item.result ∷ []) p) before.roles
-          (c.in_ok-passed.ensures c.args.others front before.behind (ap names_kept c.deref.ensures.value ∙ sizeless)
+          (c.in_ok-passed.ensures.passed c.args.others front before.behind (ap names_kept c.deref.ensures.value ∙ sizeless)
           (subst (λ q. IsPassed (roles_at q) c.args.others front c.loop-item.passed) (sym before.roles) before.passed)));
     }

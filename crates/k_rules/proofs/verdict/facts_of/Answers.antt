@@ -10,8 +10,8 @@ use Rattle.data_rules.proofs.DataPassing.{has_filled}
 use Rattle.k_rules.proofs.Judging.{allowed, refused, with_data_at}
 use Rattle.k_rules.proofs.verdict.facts_of.Goals as goal
 
-pub given_by_data-requires : goal.given_by_data-requires
-given_by_data-requires c = c.in-Ok.ensures.arrays
+pub given_by_data-requires-clause-arrays : goal.given_by_data-requires-clause-arrays
+given_by_data-requires-clause-arrays c = c.in-Ok.ensures.arrays
 
 pub returns-in-Some-clause-exact : goal.returns-in-Some-clause-exact
 returns-in-Some-clause-exact c =

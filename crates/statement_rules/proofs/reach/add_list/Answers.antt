@@ -18,20 +18,20 @@ loop-member-preserved c =
     let rest = members_tree (drop (i + 1) ms) in
     record {
       counted = λ s.
-          let old = count_in c.loop-member.counts s in
+          let old = count_in c.loop-member.lines s in
           let before = ap (λ n. n + old) (sym (left_times s ms i m c.loop-member-test.true c.member-item.is)) ∙ c.loop-member.invariant.counted s in
           elim c.match-member.branch [
             | in-Plain+in_ok-add_label-in-Plain w ↦
-                ap (λ n. times s rest + n) (ap (λ x. count_in x s) w.counts-is ∙ w.in_ok-add_label-in-Plain.ensures.counted s) ∙ moved_on (is_label_at (item_tree w.in-Plain.item).label s) (times s rest) old
+                ap (λ n. times s rest + n) (ap (λ x. count_in x s) w.lines-is ∙ w.in_ok-add_label-in-Plain.ensures.counted s) ∙ moved_on (is_label_at (item_tree w.in-Plain.item).label s) (times s rest) old
                 ∙ ap (λ n. n + old) (sym (plain_times s m _ rest w.in-Plain.is)) ∙ before
             | in-Loop+in_ok-add_label-in-Loop w ↦
-                ap (λ n. times s rest + n) (ap (λ x. count_in x s) w.counts-is ∙ w.in_ok-add_label-in-Loop.ensures.counted s) ∙ moved_on (is_label_at (item_tree w.in-Loop.outer.head).label s) (times s rest) old
+                ap (λ n. times s rest + n) (ap (λ x. count_in x s) w.lines-is ∙ w.in_ok-add_label-in-Loop.ensures.counted s) ∙ moved_on (is_label_at (item_tree w.in-Loop.outer.head).label s) (times s rest) old
                 ∙ ap (λ n. n + old) (sym (loop_times s m _ rest w.in-Loop.is)) ∙ before
             | in-Block+in_ok-add_label-in-Block+in_ok-add_label-in-Block-2 w ↦
                 let first = is_label_at w.label_of_first.result s in
                 let end = is_label_at (item_tree (out-Block w.in-Block.block).end).label s in
                 let here = sym (w.label_of_first.ensures s) ∙ ap (λ r. count_by (has_label s) (head_of (arms_tree r))) w.deref.ensures.value in
-                ap (λ n. times s rest + n) (ap (λ x. count_in x s) w.counts-is ∙ w.in_ok-add_label-in-Block-2.ensures.counted s ∙ ap (one_more end) (w.in_ok-add_label-in-Block.ensures.counted s)) ∙ moved_both first end (times s rest) old
+                ap (λ n. times s rest + n) (ap (λ x. count_in x s) w.lines-is ∙ w.in_ok-add_label-in-Block-2.ensures.counted s ∙ ap (one_more end) (w.in_ok-add_label-in-Block.ensures.counted s)) ∙ moved_both first end (times s rest) old
                 ∙ ap (λ n. (n + one_more end (times s rest)) + old) here
                 ∙ ap (λ n. n + old) (sym (block_times s m _ rest w.in-Block.is)) ∙ before
           ];

@@ -8,4 +8,4 @@ use Rattle.statement_rules.proofs.reach.take_list.Given as goal
 
 abbrev pub invariant-loop-member : goal.invariant-loop-member
 invariant-loop-member l =
-    (s : ℕ) → count_in l.counts s - count_by (has_label s) (own_items (members_tree (drop l.member-index l.members))) ≡ count_in l.initial.counts s - count_by (has_label s) (own_items (members_tree l.members))
+    (s : ℕ) → count_in l.lines s - count_by (has_label s) (own_items (members_tree (drop l.member-index l.members))) ≡ count_in l.initial.lines s - count_by (has_label s) (own_items (members_tree l.members))

@@ -23,9 +23,9 @@ returns c =
     let counts : ℕ → ℕ = count_in c.in_ok-all.all in
     let closed : ℕ → _ = contains nat_cmp c.in_ok-closed.closed in
     ok_then
-    (λ (b : Option Broken). (a : Around) → Counts (count_in c.add_list.new.counts) a.items → b ≡ least (told_in (misses_by counts closed) K2 a body))
+    (λ (b : Option Broken). (a : Around) → Counts (count_in c.add_list.new.lines) a.items → b ≡ least (told_in (misses_by counts closed) K2 a body))
     (λ (b : Option Broken). b ≡ least (told_in (breaks_transfers roles all) K2 (in_body body) body))
     c.least_in.result c.least_in.ensures.told
     (λ b told.
-    told (in_body body) (counts_alone (count_in c.new-reach.result) (count_in c.add_list.new.counts) (own_items body) (λ s. none_counted c.new-reach.result s c.new-reach.ensures.empty) c.in_ok-add_list.ensures.counted c.in_ok-add_list.ensures.small)
+    told (in_body body) (counts_alone (count_in c.new-reach.result) (count_in c.add_list.new.lines) (own_items body) (λ s. none_counted c.new-reach.result s c.new-reach.ensures.empty) c.in_ok-add_list.ensures.counted c.in_ok-add_list.ensures.small)
     ∙ ap (λ f. least (told_in f K2 (in_body body) body)) (misses_is roles all counts closed c.in_ok-all.ensures c.in_ok-closed.ensures))

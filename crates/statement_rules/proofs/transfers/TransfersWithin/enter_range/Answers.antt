@@ -7,4 +7,4 @@ use Rattle.statement_rules.proofs.transfers.TransfersWithin.enter_range.Goals as
 
 pub returns-clause-knows : goal.returns-clause-knows
 returns-clause-knows c =
-    both_ok c.add_list.result c.add_list.ensures.counted c.add_list.ensures.small (λ counted small a known. counts_more (count_in c.args.self.now.reach) (count_in c.add_list.new.counts) (own_items (members_tree c.args.range.now)) a.items counted small known)
+    both_ok c.add_list.result c.add_list.ensures.counted c.add_list.ensures.small (λ counted small a known. counts_more (count_in c.args.self.now.reach) (count_in c.add_list.new.lines) (own_items (members_tree c.args.range.now)) a.items counted small known)

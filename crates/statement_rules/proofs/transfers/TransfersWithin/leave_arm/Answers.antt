@@ -6,4 +6,4 @@ use Rattle.statement_rules.proofs.transfers.TransfersWithin.leave_arm.Goals as g
 
 pub returns-clause-knows : goal.returns-clause-knows
 returns-clause-knows c =
-    λ a known. counts_less (count_in c.args.self.now.reach) (count_in c.take_list.new.counts) (own_items (members_tree c.args.body.now)) a.items c.take_list.ensures known
+    λ a known. counts_less (count_in c.args.self.now.reach) (count_in c.take_list.new.lines) (own_items (members_tree c.args.body.now)) a.items c.take_list.ensures known

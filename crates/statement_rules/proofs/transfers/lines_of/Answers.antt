@@ -1,5 +1,5 @@
 use Rattle.statement_rules.proofs.Labelled.{counted_more}
-use Rattle.statement_rules.proofs.transfers.counts_of.Goals as goal
+use Rattle.statement_rules.proofs.transfers.lines_of.Goals as goal
 
 pub loop-item-preserved : goal.loop-item-preserved
 loop-item-preserved c = λ s.
