@@ -1,3 +1,4 @@
 pub mod Listed
 pub mod Telling
 pub mod Rivals
+pub mod InOrder
