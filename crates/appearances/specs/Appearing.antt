@@ -13,7 +13,8 @@ use Rattle.name_maps.specs.NameSets.{texts}
 use Rattle.roles.specs.RolesAt.{roles_at}
 use Rattle.roles.specs.Stages.{IsBehind}
 use Rattle.name_uses.specs.UsesAt.{uses_at}
-use Rattle.numbering.specs.Numbered.{appearing_by, names_at, variables_by, variables_first, with_variables}
+use Rattle.numbering.specs.Numbered.{appearing_by, names_at, variables_by, variables_first}
+use Rattle.numbering.specs.Numbered.{with_variables}
 
 abbrev pub Puts : Roles → List (Vec ℕ) → List (Vec ℕ) → List (List ℕ) → Type 0
 Puts r old new names = texts new ≡ with_variables (roles_at r) (texts old) names
@@ -27,7 +28,9 @@ used us = map (λ u. u.name) (uses_at us)
 
 -- the names of a statement that stands behind others
 abbrev pub PutsNames : Roles → Stage → Item → List (Vec ℕ) → List (Vec ℕ) → Type 0
-PutsNames r s x old new = (before : List ItemTree) → IsBehind r s before → Puts r old new (names_at (roles_at r) before (item_tree x))
+PutsNames r s x old new =
+    (before : List ItemTree) → IsBehind r s before →
+    Puts r old new (names_at (roles_at r) before (item_tree x))
 
 -- the variables and arrays of the statements, in the order of their first appearance
 abbrev pub appearing_at : Roles → List (List ℕ)

@@ -13,8 +13,8 @@ use numbering::FunctionAt;
 use roles::{Roles, defined_by, is_specification};
 use std::alloc::{AllocError, Global};
 
-/// Passes a statement, and keeps where it stands if it is a statement function's; how many of these have come then, or nothing
-/// where it is executable.
+/// Passes a statement, and keeps where it stands if it is a statement function's; how many of these
+/// have come then, or nothing where it is executable.
 fn pass_statement(
     functions: &mut IndexMap<Vec<u8>, FunctionAt>,
     alloc: Global,
@@ -61,7 +61,8 @@ fn pass_member(
     }
 }
 
-/// Keeps where the statement functions are defined: all stand before the first executable statement.
+/// Keeps where the statement functions are defined: all stand before the first executable
+/// statement.
 fn find_functions(
     functions: &mut IndexMap<Vec<u8>, FunctionAt>,
     alloc: Global,
@@ -82,7 +83,8 @@ fn find_functions(
     Ok(())
 }
 
-/// Where the statement functions of a body are defined, none of which stands in a range or an arm, or behind one.
+/// Where the statement functions of a body are defined, none of which stands in a range or an arm,
+/// or behind one.
 pub fn functions_in(
     alloc: Global,
     roles: &Roles,

@@ -3,7 +3,8 @@
 ghost use Rattle.std.specs.Prelude.{◌≡◌, ◌∷◌, [], ℕ, Bool, List, IfOk, OnOk};
 ghost use Rattle.name_maps.specs.NameSets.{texts};
 ghost use Rattle.roles.specs.RolesAt.{roles_at};
-ghost use Rattle.appearances.specs.Appearing.{Puts, PutsNames, appearing_at, named, used, variables_at, variables_first_at};
+ghost use Rattle.appearances.specs.Appearing.{Puts, PutsNames, appearing_at, named, used};
+ghost use Rattle.appearances.specs.Appearing.{variables_at, variables_first_at};
 ghost use Rattle.numbering.specs.Numbered.{is_variable as is_variable_name, with_those};
 
 use indexmap::IndexSet;
@@ -38,7 +39,8 @@ fn add_wanted(
     }
 }
 
-/// Puts a name behind those that are there, if it is that of a variable or an array and isn't one of them.
+/// Puts a name behind those that are there, if it is that of a variable or an array and isn't one
+/// of them.
 fn add_variable(
     names: &mut IndexSet<Vec<u8>>,
     alloc: Global,
@@ -116,7 +118,8 @@ fn variables_then_arrays(
     roles: &Roles,
     names: &[Vec<u8>],
 ) -> Result<IndexSet<Vec<u8>>, AllocError>
-    ensures { IfOk result (λ ordered. texts ordered.keys ≡ variables_first_at roles.now (texts names.now)) }
+    ensures { IfOk result
+        (λ ordered. texts ordered.keys ≡ variables_first_at roles.now (texts names.now)) }
 {
     let mut ordered = IndexSet::new(alloc);
     'variables: for name in names {
@@ -128,8 +131,8 @@ fn variables_then_arrays(
     Ok(ordered)
 }
 
-/// The variables of the statements in the order of their first appearance, and then the arrays in that of theirs. So variables have
-/// the first cells, however large arrays are.
+/// The variables of the statements in the order of their first appearance, and then the arrays in
+/// that of theirs. So variables have the first cells, however large arrays are.
 pub fn variables_in_order(alloc: Global, roles: &Roles) -> Result<IndexSet<Vec<u8>>, AllocError>
     ensures { IfOk result (λ names. texts names.keys ≡ variables_at roles.now) }
 {

@@ -21,15 +21,19 @@ pub record IsWhole (source : List ℕ) (turns : ℕ) (report : Report) (bytes : 
   pub same_bytes : bytes ≡ concat (answer source turns).pieces
   pub same_report : report ≡ (answer source turns).ending
 
--- where there is room for so many bytes: the whole answer; or a beginning, since memory was refused; or as much of a
--- beginning as there is room for
+-- where there is room for so many bytes: the whole answer; or a beginning, since memory was
+-- refused; or as much of a beginning as there is room for
 pub data Ran (source : List ℕ) (turns room : ℕ) (report : Report) (bytes : List ℕ) : Type 0 where
-  whole : IsWhole source turns report bytes → length bytes ≤ room → Ran source turns room report bytes
-  cut_short : IsBeginning source turns bytes → length bytes ≤ room → report ≡ reports.Memory → Ran source turns room report bytes
-  full : IsBeginning source turns bytes → length bytes ≡ room → report ≡ reports.WriteRefused → Ran source turns room report bytes
+  whole : IsWhole source turns report bytes → length bytes ≤ room →
+      Ran source turns room report bytes
+  cut_short : IsBeginning source turns bytes → length bytes ≤ room → report ≡ reports.Memory →
+      Ran source turns room report bytes
+  full : IsBeginning source turns bytes → length bytes ≡ room → report ≡ reports.WriteRefused →
+      Ran source turns room report bytes
 
 -- C sees such a report, and such bytes at the front of the output, with what stood behind them
-pub record IsShown (source : List ℕ) (turns : ℕ) (old new : List ℕ) (before after : RunReport) : Type 0 where
+pub record IsShown (source : List ℕ) (turns : ℕ) (old new : List ℕ) (before after : RunReport) :
+    Type 0 where
   pub report : Report
   pub bytes : List ℕ
   pub ran : Ran source turns (length old) report bytes
@@ -39,6 +43,9 @@ pub record IsShown (source : List ℕ) (turns : ℕ) (old new : List ℕ) (befor
 
 -- a source is accepted, or refused for the least pair, or memory was refused
 pub data IsVerdict (source : List ℕ) (verdict : Verdict) : Type 0 where
-  accepted : (t : Nested) → program_of source ≡ Ok t → verdict ≡ record { ending = 0; place = nowhere } → IsVerdict source verdict
-  refused : (b : Broken) → program_of source ≡ Err b → verdict ≡ record { ending = 3; place = place_of (endings.Refused b.rule b.line) } → IsVerdict source verdict
+  accepted : (t : Nested) → program_of source ≡ Ok t → verdict
+      ≡ record { ending = 0; place = nowhere } → IsVerdict source verdict
+  refused : (b : Broken) → program_of source ≡ Err b → verdict
+      ≡ record { ending = 3; place = place_of (endings.Refused b.rule b.line) } →
+      IsVerdict source verdict
   unknown : verdict ≡ record { ending = 4; place = nowhere } → IsVerdict source verdict

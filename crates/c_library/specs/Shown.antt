@@ -1,5 +1,6 @@
 -- What C is shown of a run and of a check, field by field.
-use Rattle.std.specs.Prelude.{◌≡◌, ℕ, List, [], ◌++◌, length, take, drop, slice_index, Option, Some, None}
+use Rattle.std.specs.Prelude.{◌≡◌, ℕ, List, [], ◌++◌, length, take, drop, slice_index, Option, Some}
+use Rattle.std.specs.Prelude.{None}
 use Rattle.meaning.specs.declared.ending.Ending.{Ending}
 use Rattle.meaning.specs.declared.ending.Ending.TheVariants as endings
 use Rattle.meaning.specs.declared.ending.FaultKind.{FaultKind}
@@ -40,8 +41,14 @@ nowhere = record { letter = 0; number = 0; line = 0 }
 -- the fault or the rule by its letter and its number, and its line
 abbrev pub place_of : Ending → Place
 place_of (endings.Fault fault) =
-    record { letter = slice_index (fault_name fault.kind) 0; number = fault_number fault.kind; line = fault.line }
-place_of (endings.Refused rule line) = record { letter = slice_index (rule_name rule) 0; number = rank_of rule; line = line }
+    record {
+      letter = slice_index (fault_name fault.kind) 0;
+      number =
+          fault_number fault.kind;
+      line = fault.line;
+    }
+place_of (endings.Refused rule line) =
+    record { letter = slice_index (rule_name rule) 0; number = rank_of rule; line = line }
 place_of ending = nowhere
 
 -- what a STOP statement tells

@@ -26,8 +26,9 @@ fn broken_off(is_full: bool) -> Report
     }
 }
 
-// Runs a source in order, and keeps what it writes, for which there is so much room. A sink may be refused a byte for want of memory too, which
-// its length tells. That it never has more bytes than there is room for, the contract of a run doesn't say.
+// Runs a source in order, and keeps what it writes, for which there is so much room. A sink may be
+// refused a byte for want of memory too, which its length tells. That it never has more bytes than
+// there is room for, the contract of a run doesn't say.
 fn run_kept(alloc: Global, source: &[u8], turns: u64, room: usize) -> (Report, Vec<u8>)
     ensures { Ran source.now turns room result.0 result.1.items }
 {
@@ -44,8 +45,8 @@ fn run_kept(alloc: Global, source: &[u8], turns: u64, room: usize) -> (Report, V
     }
 }
 
-/// Runs a source in order, under a limit on turns. What it writes comes to the front of the output, and how it ended into the report. It waits for
-/// nobody and always returns.
+/// Runs a source in order, under a limit on turns. What it writes comes to the front of the output,
+/// and how it ended into the report. It waits for nobody and always returns.
 #[unsafe(no_mangle)]
 pub extern "C" fn f77run_run(
     alloc: Global,
@@ -62,7 +63,8 @@ pub extern "C" fn f77run_run(
     tell(&ended, written, report);
 }
 
-/// Says of a source whether it is accepted, and else which rule it breaks at which line, without running it.
+/// Says of a source whether it is accepted, and else which rule it breaks at which line, without
+/// running it.
 #[unsafe(no_mangle)]
 pub extern "C" fn f77run_check(alloc: Global, source: &[u8], verdict: &mut Verdict)
     ensures { IsVerdict source.now verdict.new }

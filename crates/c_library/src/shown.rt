@@ -7,10 +7,12 @@ use crate::output::put;
 use meaning::ending::{Ending, FaultKind, Report};
 use meaning::refusal::Rule;
 
-/// The room for what a STOP statement tells, which has fewer characters: a statement has no more than these.
+/// The room for what a STOP statement tells, which has fewer characters: a statement has no more
+/// than these.
 pub const MESSAGE_ROOM: usize = 1320;
 
-/// A fault or a rule, by its letter and its number, and the line where it was met: zeros where there is none.
+/// A fault or a rule, by its letter and its number, and the line where it was met: zeros where
+/// there is none.
 #[repr(C)]
 #[derive(Clone, Copy)]
 pub struct Place {
@@ -25,8 +27,8 @@ pub struct Place {
 /// How a run ended.
 #[repr(C)]
 pub struct RunReport {
-    /// 0 at END, 1 by a STOP statement, 2 by a fault, 3 where the source was refused, 4 where memory was, and 5 where the output had no room
-    /// left.
+    /// 0 at END, 1 by a STOP statement, 2 by a fault, 3 where the source was refused, 4 where
+    /// memory was, and 5 where the output had no room left.
     pub ending: u32,
     /// The fault or the rule.
     pub place: Place,

@@ -1,5 +1,6 @@
 -- What is told of a cell: the name that has it, and the subscripts of the element.
-use Rattle.std.specs.Prelude.{ℕ, ◌-◌, ◌/◌, ◌%◌, ℤ, pos, ◌+ℤ◌, List, [], ◌∷◌, Option, Some, None, nat_lt, if◌then◌else◌}
+use Rattle.std.specs.Prelude.{ℕ, ◌-◌, ◌/◌, ◌%◌, ℤ, pos, ◌+ℤ◌, List, [], ◌∷◌, Option, Some, None}
+use Rattle.std.specs.Prelude.{nat_lt, if◌then◌else◌}
 use Rattle.meaning.specs.Arrays.{Dimension, Named, extent, size}
 use Rattle.cell_names.specs.declared.naming.CellName.{CellName}
 
@@ -20,5 +21,6 @@ subscripts_at (d ∷ ds) i = (d.lower +ℤ pos (i % extent d)) ∷ subscripts_at
 abbrev pub told_at : List Named → ℕ → Option Told
 told_at [] c = None
 told_at (x ∷ xs) c =
-    if nat_lt c (size x.dimensions) then Some (record { name = x.name; subscripts = subscripts_at x.dimensions c })
+    if nat_lt c (size x.dimensions)
+    then Some (record { name = x.name; subscripts = subscripts_at x.dimensions c })
     else told_at xs (c - size x.dimensions)

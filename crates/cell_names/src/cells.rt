@@ -20,7 +20,8 @@ pub(crate) fn with_dimensions(
     arrays: &IndexMap<Vec<u8>, Dimensions>,
     names: &[Vec<u8>],
 ) -> Result<Vec<Named>, AllocError>
-    ensures { IfOk result (λ found. are_named found.items ≡ named (arrays_kept arrays.now) (texts names.now)) }
+    ensures { IfOk result
+        (λ found. are_named found.items ≡ named (arrays_kept arrays.now) (texts names.now)) }
 {
     let mut found = Vec::new(alloc);
     for name in names {
@@ -42,7 +43,8 @@ fn dimensions_named(
     arrays: &IndexMap<Vec<u8>, Dimensions>,
     name: &[u8],
 ) -> Result<Dimensions, AllocError>
-    ensures { IfOk result (λ found. map dimension found.items ≡ dimensions_in (arrays_kept arrays.now name.now)) }
+    ensures { IfOk result
+        (λ found. map dimension found.items ≡ dimensions_in (arrays_kept arrays.now name.now)) }
 {
     match arrays.get(name) {
         Some(dimensions) => Dimensions::from_slice(alloc, dimensions),

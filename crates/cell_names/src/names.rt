@@ -16,9 +16,9 @@ use meaning::syntax::Tree;
 use roles::{Roles, items_of};
 use std::alloc::{AllocError, Global};
 
-/// The variables and then the arrays of a program unit, in the order of their cells, which are those by which the program numbers
-/// them. The `AllocError` comes where a growth was refused, and where one has 2^64 cells or more, as none has in a program unit that
-/// keeps the rules.
+/// The variables and then the arrays of a program unit, in the order of their cells, which are
+/// those by which the program numbers them. The `AllocError` comes where a growth was refused, and
+/// where one has 2^64 cells or more, as none has in a program unit that keeps the rules.
 pub fn names_of(alloc: Global, tree: &Tree) -> Result<Vec<Named>, AllocError>
     ensures are { IfOk result (λ names. are_named names.items ≡ named_of_program tree.now) }
     ensures numbers { IfOk result (λ names. cell_of (are_named names.items) ≡ numbers_in tree.now) }
@@ -33,7 +33,9 @@ pub fn names_of(alloc: Global, tree: &Tree) -> Result<Vec<Named>, AllocError>
 
 // Those of the statements of which this is known.
 fn names_by(alloc: Global, roles: &Roles) -> Result<Vec<Named>, AllocError>
-    ensures { IfOk result (λ names. are_named names.items ≡ named (roles_at roles.now).names.arrays (variables_at roles.now)) }
+    ensures { IfOk result
+        (λ names. are_named names.items
+        ≡ named (roles_at roles.now).names.arrays (variables_at roles.now)) }
 {
     let names = variables_in_order(alloc, roles)?;
     let declared = declared_in(alloc, roles)?;

@@ -1,6 +1,7 @@
 //! The name of a cell.
 
-ghost use Rattle.std.specs.Prelude.{◌≡◌, ◌+ℤ◌, ◌<◌, ◌≤◌, pos, map, Some, IfNone, IfOk, IfSome, option_map};
+ghost use Rattle.std.specs.Prelude.{◌≡◌, ◌+ℤ◌, ◌<◌, ◌≤◌, pos, map, Some, IfNone, IfOk, IfSome};
+ghost use Rattle.std.specs.Prelude.{option_map};
 ghost use Rattle.cell_names.specs.Cells.{AreApart, are_named};
 ghost use Rattle.cell_names.specs.Told.{subscripts_at, told_at, told_by};
 ghost use Rattle.expressions.specs.Dimensions.{dimension, dimension as in_dimension};
@@ -25,7 +26,8 @@ pub fn name_of_cell(
     names: &[Named],
     cell: usize,
 ) -> Result<Option<CellName>, AllocError>
-    ensures told { IfOk result (λ found. option_map told_by found ≡ told_at (are_named names.now) cell) }
+    ensures told { IfOk result
+        (λ found. option_map told_by found ≡ told_at (are_named names.now) cell) }
     ensures own { AreApart (are_named names.now) → IfOk result (λ found. IfSome found
         (λ c. cell_of (are_named names.now) c.name.items c.subscripts.items ≡ Some cell)) }
     ensures past { IfOk result (λ found. IfNone found (cells_of (are_named names.now) ≤ cell)) }
@@ -44,7 +46,8 @@ pub fn name_of_cell(
 fn name_at(alloc: Global, one: &Named, place: usize) -> Result<CellName, AllocError>
     requires { place < one.now.cells }
     ensures name { IfOk result (λ c. c.name.items ≡ one.now.name.items) }
-    ensures subscripts { IfOk result (λ c. c.subscripts.items ≡ subscripts_at (map dimension one.now.dimensions.items) place) }
+    ensures subscripts { IfOk result
+        (λ c. c.subscripts.items ≡ subscripts_at (map dimension one.now.dimensions.items) place) }
 {
     let name = Vec::from_slice(alloc, &one.name)?;
     let subscripts = subscripts_of(alloc, &one.dimensions, place)?;
@@ -58,7 +61,8 @@ fn subscripts_of(
     place: usize,
 ) -> Result<Vec<i32>, AllocError>
     requires { place < size (map dimension dimensions.now) }
-    ensures { IfOk result (λ found. found.items ≡ subscripts_at (map dimension dimensions.now) place) }
+    ensures { IfOk result
+        (λ found. found.items ≡ subscripts_at (map dimension dimensions.now) place) }
 {
     let mut found = Vec::new(alloc);
     let mut left = place as u64;

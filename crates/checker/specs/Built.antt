@@ -30,8 +30,10 @@ use Rattle.numbering.specs.Numbered.{named}
 abbrev pub count_at : Facts → Roles → ℕ
 count_at f r = cells_of (named (arrays_in f) (variables_at r))
 
--- what is kept of names, of which these are variables and arrays, and the values that their cells start with
-pub record AreStarted {S : Type 0} (f : Facts) (r : Roles) (names : List (List ℕ)) (m : IndexMap (Vec ℕ) Entry S) (starts : Vec ℤ) : Type 0 where
+-- what is kept of names, of which these are variables and arrays, and the values that their cells
+-- start with
+pub record AreStarted {S : Type 0} (f : Facts) (r : Roles) (names : List (List ℕ))
+    (m : IndexMap (Vec ℕ) Entry S) (starts : Vec ℤ) : Type 0 where
   pub said : AreSaid f r names m
   pub given : starts.items ≡ starts_by f names
   pub few : cells_of (named (arrays_in f) names) < 2 ^ 64
@@ -39,7 +41,9 @@ pub record AreStarted {S : Type 0} (f : Facts) (r : Roles) (names : List (List �
 -- what is kept of names
 pub record AreNames (f : Facts) (r : Roles) (k : Names) : Type 0 where
   pub started : AreStarted f r (variables_at r) k.entries k.starts
-  pub letters : (c : ℕ) → c < 256 → slice_get k.letters.items c ≡ Some (letter_type (has_implicit_none (trees_at r.items.now)) (implicit_parts (trees_at r.items.now)) c)
+  pub letters : (c : ℕ) → c < 256 → slice_get k.letters.items c
+      ≡ Some (letter_type (has_implicit_none (trees_at r.items.now))
+      (implicit_parts (trees_at r.items.now)) c)
 
 -- a tree with its formats and what is kept beside it
 abbrev pub parts_by : Tree → Formats → Kept → Parts
@@ -61,5 +65,6 @@ pub record IsJudged (t : Tree) (f : Facts) : Type 0 where
   pub accepted : checked (nested t) ≡ Ok (nested t)
   pub constants : (n : List ℕ) → constant_in f n ≡ (names_in t).known n
   pub arrays : (n : List ℕ) → arrays_in f n ≡ (names_in t).arrays n
-  pub starts : starts_in f ≡ given_by (roles_of (items_in t)).names (starts_from (roles_of (items_in t)) [] (items_in t))
+  pub starts : starts_in f
+      ≡ given_by (roles_of (items_in t)).names (starts_from (roles_of (items_in t)) [] (items_in t))
   pub formats : HoldsFormats (items_in t) f.formats

@@ -1,5 +1,6 @@
 -- What entries say of names, and what they say when names are put behind others.
-use Rattle.std.specs.Prelude.{◌≡◌, ◌<◌, ◌≤◌, ◌^◌, ℕ, ◌+◌, List, [], ◌∷◌, ◌++◌, map, flat_map, Option, Some, None, option_map, if◌then◌else◌}
+use Rattle.std.specs.Prelude.{◌≡◌, ◌<◌, ◌≤◌, ◌^◌, ℕ, ◌+◌, List, [], ◌∷◌, ◌++◌, map, flat_map}
+use Rattle.std.specs.Prelude.{Option, Some, None, option_map, if◌then◌else◌}
 use Rattle.std.specs.Global.{Vec}
 use Rattle.std.specs.List.{AllByRecursion, list_any}
 use Rattle.std.specs.Option.{option_or}
@@ -56,19 +57,22 @@ said_at m n = option_map said (kept_at m n)
 abbrev pub if_name : List ℕ → Said → List ℕ → Option Said
 if_name name s n = if bytes_eq n name then Some s else None
 
-abbrev pub AddsOne : {S : Type 0} → IndexMap (Vec ℕ) Entry S → IndexMap (Vec ℕ) Entry S → List ℕ → Said → Type 0
+abbrev pub AddsOne : {S : Type 0} → IndexMap (Vec ℕ) Entry S → IndexMap (Vec ℕ) Entry S → List ℕ →
+    Said → Type 0
 AddsOne m new name s = (n : List ℕ) → said_at new n ≡ option_or (said_at m n) (if_name name s n)
 
 -- further names, of which this is said
 abbrev pub if_among : (List ℕ → Said) → List (List ℕ) → List ℕ → Option Said
 if_among f names n = if list_any (bytes_eq n) names then Some (f n) else None
 
-abbrev pub Adds : {S : Type 0} → IndexMap (Vec ℕ) Entry S → IndexMap (Vec ℕ) Entry S → (List ℕ → Said) → List (List ℕ) → Type 0
+abbrev pub Adds : {S : Type 0} → IndexMap (Vec ℕ) Entry S → IndexMap (Vec ℕ) Entry S →
+    (List ℕ → Said) → List (List ℕ) → Type 0
 Adds m new f names = (n : List ℕ) → said_at new n ≡ option_or (said_at m n) (if_among f names n)
 
 -- what is said of a name that has no cells, and of one that has
 abbrev pub described : Facts → Roles → List ℕ → Said
-described f r n = record { value = constant_in f n; data_type = (roles_at r).names.types n; storage = None }
+described f r n =
+    record { value = constant_in f n; data_type = (roles_at r).names.types n; storage = None }
 
 abbrev pub stored : Facts → Roles → ℕ → List ℕ → Said
 stored f r c n = record {
@@ -80,7 +84,8 @@ stored f r c n = record {
 -- the first cell of a name, one name's cells behind another's
 abbrev pub first_of : List Named → List ℕ → Option ℕ
 first_of [] n = None
-first_of (x ∷ xs) n = if bytes_eq n x.name then Some 0 else option_map (λ c. size x.dimensions + c) (first_of xs n)
+first_of (x ∷ xs) n =
+    if bytes_eq n x.name then Some 0 else option_map (λ c. size x.dimensions + c) (first_of xs n)
 
 abbrev pub stored_in : Facts → Roles → List Named → List ℕ → Option Said
 stored_in f r names n = option_map (λ c. stored f r c n) (first_of names n)
@@ -92,7 +97,8 @@ names_given s = map (λ d. d.name) (declarators_in s) ++ map (λ c. c.name) (con
 -- what is said of a name where these are variables and arrays
 abbrev pub IsSaid : Facts → Roles → List (List ℕ) → List ℕ → Option Said → Type 0
 IsSaid f r names n o =
-    o ≡ option_or (stored_in f r (named (arrays_in f) names) n) (if_among (described f r) (flat_map (λ x. names_given x.shape) (trees_at r.items.now)) n)
+    o ≡ option_or (stored_in f r (named (arrays_in f) names) n)
+    (if_among (described f r) (flat_map (λ x. names_given x.shape) (trees_at r.items.now)) n)
 
 -- ---- what is made of names and of statements
 
@@ -121,11 +127,14 @@ named_by f keys = named (arrays_in f) (texts keys)
 abbrev pub AddsCells : Facts → Roles → List ℕ → Storing → Storing → Type 0
 AddsCells f r n old new = AddsOne old.entries new.entries n (stored f r old.next n)
 
-abbrev pub AreStored : {S : Type 0} → Facts → Roles → List (Vec ℕ) → IndexMap (Vec ℕ) Entry S → Type 0
+abbrev pub AreStored : {S : Type 0} → Facts → Roles → List (Vec ℕ) → IndexMap (Vec ℕ) Entry S →
+    Type 0
 AreStored f r keys m = (n : List ℕ) → said_at m n ≡ stored_in f r (named_by f keys) n
 
--- names more that have no cells: these, those in declarators, those of constants, those of a statement, those of statements
-abbrev pub Tells : {S : Type 0} → Facts → Roles → IndexMap (Vec ℕ) Entry S → IndexMap (Vec ℕ) Entry S → List (List ℕ) → Type 0
+-- names more that have no cells: these, those in declarators, those of constants, those of a
+-- statement, those of statements
+abbrev pub Tells : {S : Type 0} → Facts → Roles → IndexMap (Vec ℕ) Entry S →
+    IndexMap (Vec ℕ) Entry S → List (List ℕ) → Type 0
 Tells f r m new names = Adds m new (described f r) names
 
 abbrev pub declared : List Declarator → List (List ℕ)
@@ -140,5 +149,6 @@ given s = names_given (shape_tree s)
 abbrev pub given_in : List (Bor Item) → List (List ℕ)
 given_in items = flat_map (λ x. names_given x.shape) (trees_at items)
 
-abbrev pub AreSaid : {S : Type 0} → Facts → Roles → List (List ℕ) → IndexMap (Vec ℕ) Entry S → Type 0
+abbrev pub AreSaid : {S : Type 0} → Facts → Roles → List (List ℕ) → IndexMap (Vec ℕ) Entry S →
+    Type 0
 AreSaid f r names m = (n : List ℕ) → IsSaid f r names n (said_at m n)

@@ -1,5 +1,7 @@
--- What the cells start with: what DATA statements give, and 0 elsewhere (ANSI X3.9-1978, chapters 9 and 17).
-use Rattle.std.specs.Prelude.{◌≡◌, ℕ, true, ℤ, pos, List, flat_map, is_some, map, Option, Some, None}
+-- What the cells start with: what DATA statements give, and 0 elsewhere (ANSI X3.9-1978, chapters 9
+-- and 17).
+use Rattle.std.specs.Prelude.{◌≡◌, ℕ, true, ℤ, pos, List, flat_map, is_some, map, Option, Some}
+use Rattle.std.specs.Prelude.{None}
 use Rattle.std.specs.Global.{Vec}
 use Rattle.std.specs.List.{AllByRecursion, range_with_len}
 use Rattle.indexmap.specs.IndexMap.{IndexMap}

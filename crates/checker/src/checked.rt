@@ -13,9 +13,9 @@ use numbering::{Parts, Program};
 use statement_rules::Formats;
 use std::alloc::Global;
 
-/// Checks a program unit by the rules on labels, names, constants, arrays, DO variables, units, formats, DATA and statement
-/// functions: the program, whose statements are the unit's, or the least broken rule of the least line. `Memory` where a growth
-/// was refused.
+/// Checks a program unit by the rules on labels, names, constants, arrays, DO variables, units,
+/// formats, DATA and statement functions: the program, whose statements are the unit's, or the
+/// least broken rule of the least line. `Memory` where a growth was refused.
 pub fn check(alloc: Global, tree: Tree) -> Result<Program, Refusal>
     requires { IsSpelled (nested tree) }
     ensures exact { Gives (λ p. nested p) result (checked (nested tree)) }

@@ -1,13 +1,16 @@
 //! What is kept of names (ANSI X3.9-1978, 2.12, 4.1.2, 5.4 and 8.6).
 
-ghost use Rattle.std.specs.Prelude.{◌≡◌, ◌≤◌, ◌<◌, ◌+◌, ◌^◌, ◌∷◌, [], length, map, IfOk, IsOk, OnOk};
+ghost use Rattle.std.specs.Prelude.{◌≡◌, ◌≤◌, ◌<◌, ◌+◌, ◌^◌, ◌∷◌, [], length, map, IfOk, IsOk};
+ghost use Rattle.std.specs.Prelude.{OnOk};
 ghost use Rattle.meaning.specs.Arrays.{cells_of, size};
 ghost use Rattle.meaning.specs.Scopes.{constants_in};
 ghost use Rattle.meaning.specs.Syntax.{constant_tree, shape_tree};
 ghost use Rattle.expressions.specs.Dimensions.{dimension};
 ghost use Rattle.name_maps.specs.NameSets.{texts};
 ghost use Rattle.k_rules.specs.Judged.{constant_in};
-ghost use Rattle.checker.specs.Entries.{AddsOne, AddsCells, AreCountable, AreSaid, AreStored, HaveRoom, Tells, given_in, cells_at, declared, defined, dimensions_at, given, named_by, said};
+ghost use Rattle.checker.specs.Entries.{AddsOne, AddsCells, AreCountable, AreSaid, AreStored};
+ghost use Rattle.checker.specs.Entries.{HaveRoom, Tells, given_in, cells_at, declared, defined};
+ghost use Rattle.checker.specs.Entries.{dimensions_at, given, named_by, said};
 
 use expressions::{Dimension, Dimensions};
 use indexmap::IndexMap;
@@ -28,8 +31,8 @@ fn constant_named(facts: &Facts, name: &[u8]) -> Option<Value>
     }
 }
 
-/// The dimensions of a name, none where it is no array's. The `AllocError` comes where they are more than seven, and a growth was
-/// refused.
+/// The dimensions of a name, none where it is no array's. The `AllocError` comes where they are
+/// more than seven, and a growth was refused.
 fn dimensions_named(alloc: Global, facts: &Facts, name: &[u8]) -> Result<Dimensions, AllocError>
     ensures are { IfOk result (λ v. map dimension v.items ≡ dimensions_at facts.now name.now) }
     ensures inline { length (dimensions_at facts.now name.now) ≤ 7 → IsOk result }
@@ -152,7 +155,8 @@ fn add_declared(
     facts: &Facts,
     declarators: &[Declarator],
 ) -> Result<(), AllocError>
-    ensures { OnOk result (Tells facts.now roles.now entries.old entries.new (declared declarators.now)) }
+    ensures { OnOk result
+        (Tells facts.now roles.now entries.old entries.new (declared declarators.now)) }
 {
     for declarator in declarators {
         add_described(entries, alloc, roles, facts, &declarator.name)?;
@@ -168,7 +172,8 @@ fn add_constants(
     facts: &Facts,
     constants: &[NamedConstant],
 ) -> Result<(), AllocError>
-    ensures { OnOk result (Tells facts.now roles.now entries.old entries.new (defined constants.now)) }
+    ensures { OnOk result
+        (Tells facts.now roles.now entries.old entries.new (defined constants.now)) }
 {
     for constant in constants {
         add_described(entries, alloc, roles, facts, &constant.name)?;
@@ -186,7 +191,8 @@ fn constants_of(shape: &Shape) -> &[NamedConstant]
     }
 }
 
-/// Keeps the values and the types of the names that a statement declares and of the constants that it defines.
+/// Keeps the values and the types of the names that a statement declares and of the constants that
+/// it defines.
 fn add_given(
     entries: &mut IndexMap<Vec<u8>, Entry>,
     alloc: Global,
@@ -201,7 +207,8 @@ fn add_given(
     Ok(())
 }
 
-/// Keeps the values and the types of the names that statements declare and of the constants that they define.
+/// Keeps the values and the types of the names that statements declare and of the constants that
+/// they define.
 fn add_all_given(
     entries: &mut IndexMap<Vec<u8>, Entry>,
     alloc: Global,
@@ -217,7 +224,8 @@ fn add_all_given(
     Ok(())
 }
 
-/// What is kept of the names of a program unit, of which these are variables and arrays, and how many cells they take.
+/// What is kept of the names of a program unit, of which these are variables and arrays, and how
+/// many cells they take.
 pub(crate) fn entries_of(
     alloc: Global,
     roles: &Roles,

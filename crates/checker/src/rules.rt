@@ -44,7 +44,8 @@ pub(crate) struct Kept {
     pub landmarks: Landmarks,
 }
 
-/// What is kept of the names of a program unit, of which these are variables and arrays, and the values that the cells start with.
+/// What is kept of the names of a program unit, of which these are variables and arrays, and the
+/// values that the cells start with.
 fn entries_with_starts(
     alloc: Global,
     roles: &Roles,
@@ -116,8 +117,8 @@ fn kept_by(alloc: Global, tree: &Tree, facts: &Facts) -> Result<Kept, AllocError
     kept
 }
 
-/// What is kept of a program unit, with its formats, or the least broken rule of the least line. `Memory` where a growth was
-/// refused.
+/// What is kept of a program unit, with its formats, or the least broken rule of the least line.
+/// `Memory` where a growth was refused.
 pub(crate) fn kept_of(alloc: Global, tree: &Tree) -> Result<(Kept, Formats), Refusal>
     requires { IsSpelled (nested tree.now) }
     ensures exact { Gives (λ _. nested tree.now) result (checked (nested tree.now)) }

@@ -39,7 +39,8 @@ fn add_values(
     slots: &[Option<Value>],
     cells: usize,
 ) -> Result<(), AllocError>
-    ensures { OnOk result (starts.new.items ≡ starts.old.items ++ values_in (slot_at slots.now) cells) }
+    ensures { OnOk result
+        (starts.new.items ≡ starts.old.items ++ values_in (slot_at slots.now) cells) }
 {
     for place in 0..cells {
         starts.push(number_of(slot_of(slots, place)))?;
@@ -70,8 +71,8 @@ fn add_starts(starts: &mut Vec<i32>, facts: &Facts, name: &[u8]) -> Result<(), A
     }
 }
 
-/// The values that so many cells, which are those of these names, one behind another, start with: what DATA statements give, and 0
-/// elsewhere.
+/// The values that so many cells, which are those of these names, one behind another, start with:
+/// what DATA statements give, and 0 elsewhere.
 pub(crate) fn starts_of(
     alloc: Global,
     facts: &Facts,

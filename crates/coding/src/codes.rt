@@ -1,4 +1,5 @@
-//! Codes of the expressions and the limits in a program's statements (ANSI X3.9-1978, 6.1, 10.1 and 15.4).
+//! Codes of the expressions and the limits in a program's statements (ANSI X3.9-1978, 6.1, 10.1 and
+//! 15.4).
 
 ghost use Rattle.std.specs.Prelude.{◌≡◌, ◌≢◌, Err, IfOk, Ok, [], option_map};
 ghost use Rattle.std.specs.List.{AllByRecursion};
@@ -94,7 +95,8 @@ fn limits_in(
     limits: &Limits,
     program: &Program,
 ) -> Result<Repeat, AllocError>
-    requires { AllByRecursion (IsRuly (setting_in program.now)) (in_limits (limits_tree limits.now)) }
+    requires { AllByRecursion (IsRuly (setting_in program.now))
+        (in_limits (limits_tree limits.now)) }
     ensures limits { IfOk result (AreLimits program.now (limits_tree limits.now)) }
     ensures variable { IfOk result (λ r. r.variable ≡ variable) }
 {

@@ -32,7 +32,8 @@ fn name_in(shape: &Shape) -> Option<&[u8]>
     }
 }
 
-// The code of a statement function's expression. Of which kind its value is depends on its arguments, so the code doesn't tell.
+// The code of a statement function's expression. Of which kind its value is depends on its
+// arguments, so the code doesn't tell.
 fn function_code(
     alloc: Global,
     function: Function<'_>,

@@ -2,10 +2,12 @@
 
 ghost use Rattle.std.specs.Prelude.{◌≡◌, IfOk, IsSome, Some, [], ◌∷◌};
 ghost use Rattle.meaning.specs.declared.syntax.Tree.{Tree};
-ghost use Rattle.meaning.specs.Syntax.{ExprTree, expr_tree, limits_tree, list_item_tree, list_items_tree, loop_item, value_item};
+ghost use Rattle.meaning.specs.Syntax.{ExprTree, expr_tree, limits_tree, list_item_tree};
+ghost use Rattle.meaning.specs.Syntax.{list_items_tree, loop_item, value_item};
 ghost use Rattle.programs.specs.Codes.{setting_in};
 ghost use Rattle.programs.specs.Items.{AreItems, IsItem, IsWholeArray, StandsFor, is_logical_type};
-ghost use Rattle.ruly_laws.specs.Statements.{AreItemsCodable, IsItemCodable, IsLoopCodable, IsValueCodable};
+ghost use Rattle.ruly_laws.specs.Statements.{AreItemsCodable, IsItemCodable, IsLoopCodable};
+ghost use Rattle.ruly_laws.specs.Statements.{IsValueCodable};
 ghost use Rattle.coding.specs.Lists.{AreEach, codes_in};
 
 use crate::codes::{code_in, repeat_in};
@@ -73,7 +75,8 @@ fn loop_code(
     limits: &Limits,
     program: &Program,
 ) -> Result<ListCode, AllocError>
-    requires counted { IsLoopCodable (setting_in program.now) variable.now (limits_tree limits.now) }
+    requires counted { IsLoopCodable (setting_in program.now) variable.now
+        (limits_tree limits.now) }
     requires items { AreItemsCodable (setting_in program.now) (list_items_tree items.now) }
     ensures { IfOk result (IsItem program.now
         (loop_item (list_items_tree items.now) variable.now (limits_tree limits.now))) }

@@ -1,5 +1,5 @@
-//! What the statements and the statement functions of programs that keep the rules are executed by (ANSI X3.9-1978, chapters 6, 10 to 12
-//! and 15).
+//! What the statements and the statement functions of programs that keep the rules are executed by
+//! (ANSI X3.9-1978, chapters 6, 10 to 12 and 15).
 #![tactic(auto)]
 
 mod arms;

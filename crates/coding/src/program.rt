@@ -110,8 +110,8 @@ fn kept_of(alloc: Global, program: &Program) -> Result<Kept, AllocError>
     }
 }
 
-/// Makes what the statements of a program that keeps the rules need, and the orders of its lists: the program with it. `AllocError`
-/// where a growth was refused.
+/// Makes what the statements of a program that keeps the rules need, and the orders of its lists:
+/// the program with it. `AllocError` where a growth was refused.
 pub fn coded(alloc: Global, unit: Program) -> Result<programs::Program, AllocError>
     requires spelled { IsSpelled (tree_of unit) }
     requires accepted { IsAccepted (tree_of unit) }

@@ -3,14 +3,18 @@
 ghost use Rattle.std.specs.Prelude.{◌≡◌, ℕ, Bool, IsTrue, List, Option, IfOk, Some, map};
 ghost use Rattle.meaning.specs.declared.syntax.Tree.{Tree};
 ghost use Rattle.meaning.specs.Characters.{number_of};
-ghost use Rattle.meaning.specs.Syntax.{arithmetic_if, assignment, doing, going, expr_tree, exprs_tree, limits_tree, list_items_tree, logical_if, shape_tree, computed_going};
+ghost use Rattle.meaning.specs.Syntax.{arithmetic_if, assignment, doing, going, expr_tree};
+ghost use Rattle.meaning.specs.Syntax.{exprs_tree, limits_tree, list_items_tree, logical_if};
+ghost use Rattle.meaning.specs.Syntax.{shape_tree, computed_going};
 ghost use Rattle.std.specs.List.{AllByRecursion};
 ghost use Rattle.compiler.specs.Ruly.{IsRuly, IsRulyPlace};
 ghost use Rattle.numbering.specs.Told.{IsArrayIn};
 ghost use Rattle.programs.specs.Acts.{Acts};
-ghost use Rattle.coding.specs.Parts.{AssignsTo, TestsBy, WhilesBy, WritesList, goes_or_passes, is_single};
+ghost use Rattle.coding.specs.Parts.{AssignsTo, TestsBy, WhilesBy, WritesList, goes_or_passes};
+ghost use Rattle.coding.specs.Parts.{is_single};
 ghost use Rattle.programs.specs.Codes.{IsTarget, setting_in};
-ghost use Rattle.ruly_laws.specs.Statements.{AreItemsCodable, IsCodable, IsLoopCodable, IsSmallLabel};
+ghost use Rattle.ruly_laws.specs.Statements.{AreItemsCodable, IsCodable, IsLoopCodable};
+ghost use Rattle.ruly_laws.specs.Statements.{IsSmallLabel};
 
 use crate::codes::{cell_of, code_in, made, repeat_in};
 use crate::items::list_code;

@@ -12,7 +12,8 @@ use meaning::syntax::StopText;
 use programs::Action;
 use std::alloc::{AllocError, Global};
 
-// The characters of a character constant, which stand between its apostrophes: of two apostrophes the second is left out (4.8).
+// The characters of a character constant, which stand between its apostrophes: of two apostrophes
+// the second is left out (4.8).
 #[tactic(auto, unfolding(meaning::specs::Formats::single_behind, meaning::specs::Formats::undoubled))]
 fn characters(alloc: Global, text: &[u8]) -> Result<Vec<u8>, AllocError>
     ensures { IfOk result (λ v. v.items ≡ undoubled text.now) }

@@ -11,7 +11,8 @@ use Rattle.messages.specs.Explained.{IsAbout, explained}
 use Rattle.messages.specs.Knowing.{IsKnownOf, IsNothing}
 use Rattle.messages.specs.Shown.{told_line}
 
--- ---- what is known of a matter: what breaks the rule at its line, where the source spells a program unit; of a fault it may be any
+-- ---- what is known of a matter: what breaks the rule at its line, where the source spells a
+-- program unit; of a fault it may be any
 
 abbrev pub IsUnit : List ℕ → Option Nested → Type 0
 IsUnit source (Some t) = Spells source t
@@ -22,7 +23,8 @@ IsKnownIf source rule line None known = IsNothing known
 IsKnownIf source rule line (Some t) known = IsKnownOf source t rule line known
 
 abbrev pub IsKnownIn : List ℕ → Rule → ℕ → Known → Type 0
-IsKnownIn source rule line known = (t : Option Nested) × IsUnit source t × IsKnownIf source rule line t known
+IsKnownIn source rule line known =
+    (t : Option Nested) × IsUnit source t × IsKnownIf source rule line t known
 
 abbrev pub IsKnownFor : List ℕ → Option Rule → ℕ → Known → Type 0
 IsKnownFor source (Some rule) line known = IsKnownIn source rule line known
@@ -32,16 +34,19 @@ IsKnownFor source None line known = Unit {0}
 
 abbrev pub IsExplainedBy : List ℕ → List ℕ → Matter → Known → List ℕ → Type 0
 IsExplainedBy file source matter known lines =
-    (place : Place) × (text : List ℕ) × IsAbout source matter.rule matter.line known place text × (lines ≡ explained file source matter place text)
+    (place : Place) × (text : List ℕ) × IsAbout source matter.rule matter.line known place text
+    × (lines ≡ explained file source matter place text)
 
 abbrev pub IsUntold : List ℕ → List ℕ → Matter → List ℕ → Type 0
 IsUntold file source matter lines =
     (known : Known) × IsNothing known
-    × ((first : List ℕ) × IsExplainedBy file source matter known first × (lines ≡ first ++ told_line (codes "NOT TOLD")))
+    × ((first : List ℕ) × IsExplainedBy file source matter known first
+    × (lines ≡ first ++ told_line (codes "NOT TOLD")))
 
 abbrev pub IsExplained : List ℕ → List ℕ → Matter → List ℕ → Type 0
 IsExplained file source matter lines =
-    ((known : Known) × IsKnownFor source matter.rule matter.line known × IsExplainedBy file source matter known lines)
+    ((known : Known) × IsKnownFor source matter.rule matter.line known
+    × IsExplainedBy file source matter known lines)
     ⊎ IsUntold file source matter lines
 
 abbrev pub Explains : List ℕ → List ℕ → Option Matter → List ℕ → Type 0

@@ -1,5 +1,6 @@
 -- The lines on standard error.
-use Rattle.std.specs.Prelude.{ℕ, Bool, true, false, List, [], ◌∷◌, ◌++◌, Option, None, Some, codes, decimal, map, ◌==◌, if◌then◌else◌}
+use Rattle.std.specs.Prelude.{ℕ, Bool, true, false, List, [], ◌∷◌, ◌++◌, Option, None, Some, codes}
+use Rattle.std.specs.Prelude.{decimal, map, ◌==◌, if◌then◌else◌}
 use Rattle.meaning.specs.declared.ending.Ending.{Ending}
 use Rattle.meaning.specs.declared.ending.Ending.TheVariants as endings
 use Rattle.meaning.specs.declared.ending.Report.{Report}

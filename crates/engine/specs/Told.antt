@@ -1,5 +1,6 @@
 -- What is told of a run, or of a check, on standard error.
-use Rattle.std.specs.Prelude.{◌≡◌, ◌⊎◌, ℕ, Bool, true, false, ◌&&◌, ◌||◌, not, List, [], ◌∷◌, ◌++◌, Option, Some, None, Ok, Err, codes, nat_lt}
+use Rattle.std.specs.Prelude.{◌≡◌, ◌⊎◌, ℕ, Bool, true, false, ◌&&◌, ◌||◌, not, List, [], ◌∷◌, ◌++◌}
+use Rattle.std.specs.Prelude.{Option, Some, None, Ok, Err, codes, nat_lt}
 use Rattle.std.specs.BTreeMap.{BTreeMap}
 use Rattle.meaning.specs.declared.ending.Ending.{Ending}
 use Rattle.meaning.specs.declared.ending.Ending.TheVariants as endings
@@ -59,11 +60,14 @@ IsPair explain file source b lines =
 abbrev pub ArePairs : Bool → List ℕ → List ℕ → List Broken → List ℕ → Type 0
 ArePairs explain file source [] lines = lines ≡ []
 ArePairs explain file source (b ∷ bs) lines =
-    (first : List ℕ) × (behind : List ℕ) × IsPair explain file source b first × ArePairs explain file source bs behind × (lines ≡ first ++ behind)
+    (first : List ℕ) × (behind : List ℕ) × IsPair explain file source b first
+    × ArePairs explain file source bs behind × (lines ≡ first ++ behind)
 
 abbrev pub AreAlso : Bool → List ℕ → List ℕ → List ℕ → Type 0
 AreAlso explain file source lines =
-    (lines ≡ not_told) ⊎ ((pairs : List Broken) × AreFurther source pairs × ArePairs explain file source pairs lines)
+    (lines ≡ not_told)
+    ⊎ ((pairs : List Broken) × AreFurther source pairs
+    × ArePairs explain file source pairs lines)
 
 -- ---- stages
 
@@ -77,7 +81,8 @@ is_alone asked = is_never asked.speculate || nat_lt asked.plan.workers 2
 
 -- the names and the DO statements of a program
 abbrev pub IsOutline : Tree → List Named → List DoStatement → Type 0
-IsOutline t names statements = (names ≡ named_of_program t) × (statements ≡ listed_in None (members_tree t.body.items))
+IsOutline t names statements =
+    (names ≡ named_of_program t) × (statements ≡ listed_in None (members_tree t.body.items))
 
 -- of the one that a source spells
 abbrev pub IsOutlineOf : List ℕ → List Named → List DoStatement → Type 0
@@ -93,16 +98,21 @@ AreStages source is_alone turns lines =
 
 -- ---- all of it
 
--- the ending and the turns, what became of DO statements by stages, what there is to explain, and further broken rules
-pub record AreTold (report : Report) (asked : Options) (source : List ℕ) (old new : Told) : Type 0 where
-  pub stages : List ℕ
-  pub matter : Option Matter
-  pub explained : List ℕ
-  pub hint : List ℕ
-  pub further : List ℕ
-  pub are_stages : Given (is_staged asked report.ending) (AreStages source (is_alone asked) report.turns) stages
-  pub is_matter : IsMatter report.ending matter
-  pub explains : Given asked.explain (Explains (file_named asked.file) source matter) explained
-  pub hinted : Given asked.explain (IsHinted source (cause_of report.ending)) hint
-  pub are_further : Given (is_further asked report.ending) (AreAlso asked.explain (file_named asked.file) source) further
-  pub told : IsTold (lines_of asked.count report ++ stages ++ explained ++ hint ++ further) old new
+-- the ending and the turns, what became of DO statements by stages, what there is to explain, and
+-- further broken rules
+pub record AreTold (report : Report) (asked : Options) (source : List ℕ) (old new : Told) : Type 0
+  where
+    pub stages : List ℕ
+    pub matter : Option Matter
+    pub explained : List ℕ
+    pub hint : List ℕ
+    pub further : List ℕ
+    pub are_stages : Given (is_staged asked report.ending)
+        (AreStages source (is_alone asked) report.turns) stages
+    pub is_matter : IsMatter report.ending matter
+    pub explains : Given asked.explain (Explains (file_named asked.file) source matter) explained
+    pub hinted : Given asked.explain (IsHinted source (cause_of report.ending)) hint
+    pub are_further : Given (is_further asked report.ending)
+        (AreAlso asked.explain (file_named asked.file) source) further
+    pub told : IsTold (lines_of asked.count report ++ stages ++ explained ++ hint ++ further) old
+        new

@@ -1,4 +1,5 @@
-//! The lines on standard error: of endings, of the turns that a run used, and of what kept a source from being run.
+//! The lines on standard error: of endings, of the turns that a run used, and of what kept a source
+//! from being run.
 
 ghost use Rattle.std.specs.Prelude.{codes, ◌++◌, ◌≡◌};
 ghost use Rattle.messages.specs.Shown.{IsTold};
@@ -10,8 +11,8 @@ use meaning::ending::Ending;
 use messages::{put, put_bytes};
 use record_sinks::Sink;
 
-/// Writes the line of an ending, if it has one, and answers the exit status. A line that can't be written changes
-/// nothing.
+/// Writes the line of an ending, if it has one, and answers the exit status. A line that can't be
+/// written changes nothing.
 pub fn tell_ending<S: Sink>(ending: Ending, err: &mut S) -> u8
     ensures status { result ≡ status_of ending }
     ensures line { IsTold (line_of ending) (S.told err.old) (S.told err.new) }

@@ -88,11 +88,13 @@ impl<'a> From<OptionsFault<'a>> for NoRun<'a> {
     }
 }
 
-/// Runs the program of a command line over a reader for standard input and writers for standard output and standard
-/// error, and answers its exit status: 0 where END was reached, a STOP statement was executed, a source was checked that
-/// breaks no rule, or a text was asked for, 1 for a fault, 2 for a refused source, 3 for a fault of the command line, 4 for
-/// want of memory, 5 where the source can't be read or a write is refused. What the command line asks for comes first, then
-/// the source, its run or its check, and the flush of its output. With two workers or more it waits for their threads.
+/// Runs the program of a command line over a reader for standard input and writers for standard
+/// output and standard error, and answers its exit status: 0 where END was reached, a STOP
+/// statement was executed, a source was checked that breaks no rule, or a text was asked for, 1 for
+/// a fault, 2 for a refused source, 3 for a fault of the command line, 4 for want of memory, 5
+/// where the source can't be read or a write is refused. What the command line asks for comes
+/// first, then the source, its run or its check, and the flush of its output. With two workers or
+/// more it waits for their threads.
 pub fn engine<
     R: Files + AllocGlobal + Threads + Wait + Sync,
     V: Env,
@@ -259,7 +261,8 @@ fn unread<'a>(error: &io::Error) -> NoRun<'a> {
     }
 }
 
-// Writes that a source couldn't be read, and with --explain which one, and what the system said. Answers the exit status.
+// Writes that a source couldn't be read, and with --explain which one, and what the system said.
+// Answers the exit status.
 fn tell_unread<O: Write + Drop, S: Sink>(
     asked: &Options<'_>,
     error: &io::Error,
@@ -334,8 +337,8 @@ fn run_whole<R: AllocGlobal + Threads + Wait + Sync, O: Write + Drop>(
     }
 }
 
-// Writes what is told of a run, or of a check: the line of its ending, its turns, and what else is asked for. Answers the exit
-// status. A line that can't be written changes nothing.
+// Writes what is told of a run, or of a check: the line of its ending, its turns, and what else is
+// asked for. Answers the exit status. A line that can't be written changes nothing.
 fn tell<S: Sink>(
     alloc: Global,
     report: Report,

@@ -1,10 +1,13 @@
-//! What flags ask for behind the ending of a run, or of a check: what became of loops, what there is to explain, and further rules.
+//! What flags ask for behind the ending of a run, or of a check: what became of loops, what there
+//! is to explain, and further rules.
 
 ghost use Rattle.std.specs.Prelude.{◌≡◌, IfOk, true};
 ghost use Rattle.cell_names.specs.Cells.{are_named};
 ghost use Rattle.messages.specs.Shown.{Adds, IsTold};
-ghost use Rattle.engine.specs.Explained.{Explains, IsExplained, IsExplainedBy, IsKnownFor, IsKnownIn};
-ghost use Rattle.engine.specs.Told.{AreAlso, ArePairs, AreStages, IsOutline, IsOutlineOf, IsPair, is_alone, is_further, is_staged, not_told};
+ghost use Rattle.engine.specs.Explained.{Explains, IsExplained, IsExplainedBy, IsKnownFor};
+ghost use Rattle.engine.specs.Explained.{IsKnownIn};
+ghost use Rattle.engine.specs.Told.{AreAlso, ArePairs, AreStages, IsOutline, IsOutlineOf, IsPair};
+ghost use Rattle.engine.specs.Told.{is_alone, is_further, is_staged, not_told};
 
 use crate::lines::put_at;
 use cell_names::{Named, names_of};
@@ -65,7 +68,8 @@ pub fn tell_stages<S: Sink>(
     turns: Option<u64>,
     err: &mut S,
 )
-    ensures { Adds is_wanted (AreStages source.now is_alone turns) (S.told err.old) (S.told err.new) }
+    ensures { Adds is_wanted (AreStages source.now is_alone turns) (S.told err.old)
+        (S.told err.new) }
 {
     if is_wanted {
         put_stages(is_alone, alloc, source, rows, turns, err);
@@ -91,7 +95,8 @@ fn put_stages<S: Sink>(
     }
 }
 
-// The lines on DO statements by stages. The `AllocError` comes where a growth was refused, now or while the program ran.
+// The lines on DO statements by stages. The `AllocError` comes where a growth was refused, now or
+// while the program ran.
 fn stage_lines(
     is_alone: bool,
     alloc: Global,
@@ -122,7 +127,8 @@ struct Outline {
 
 // That of the program that a source spells, nothing where it is refused.
 fn outline_in(alloc: Global, source: &[u8]) -> Result<Outline, AllocError>
-    ensures { IfOk result (λ o. IsOutlineOf source.now (are_named o.names.items) o.statements.items) }
+    ensures { IfOk result
+        (λ o. IsOutlineOf source.now (are_named o.names.items) o.statements.items) }
 {
     match program_in(alloc, source) {
         Ok(program) => {
@@ -157,7 +163,8 @@ pub fn tell_matter<S: Sink>(
     detail: Result<Vec<u8>, AllocError>,
     err: &mut S,
 )
-    ensures { Adds is_wanted (Explains file.now source.now matter) (S.told err.old) (S.told err.new) }
+    ensures { Adds is_wanted (Explains file.now source.now matter) (S.told err.old)
+        (S.told err.new) }
 {
     if is_wanted {
         if let Some(matter) = matter {
@@ -169,7 +176,8 @@ pub fn tell_matter<S: Sink>(
     drop(detail);
 }
 
-// What is known of a matter beside its line: of a fault what is given, and of a rule what breaks it.
+// What is known of a matter beside its line: of a fault what is given, and of a rule what breaks
+// it.
 fn known_for(
     alloc: Global,
     source: &[u8],
@@ -228,12 +236,14 @@ fn put_known<S: Sink>(
 
 // Writes what there is to explain, by what is known of it.
 fn put_by<S: Sink>(file: &str, source: &[u8], matter: Matter, known: &Known, err: &mut S)
-    ensures { Adds true (IsExplainedBy file.now source.now matter known.now) (S.told err.old) (S.told err.new) }
+    ensures { Adds true (IsExplainedBy file.now source.now matter known.now) (S.told err.old)
+        (S.told err.new) }
 {
     put_about(file, source, matter, about_of(source, matter, known), err);
 }
 
-/// Writes the pairs that a source breaks besides the least one, if that is wanted, and explains each, if that is.
+/// Writes the pairs that a source breaks besides the least one, if that is wanted, and explains
+/// each, if that is.
 pub fn tell_further<S: Sink>(
     is_wanted: bool,
     explain: bool,
@@ -242,7 +252,8 @@ pub fn tell_further<S: Sink>(
     source: &[u8],
     err: &mut S,
 )
-    ensures { Adds is_wanted (AreAlso explain file.now source.now) (S.told err.old) (S.told err.new) }
+    ensures { Adds is_wanted (AreAlso explain file.now source.now) (S.told err.old)
+        (S.told err.new) }
 {
     if is_wanted {
         put_further(explain, alloc, file, source, err);
@@ -268,7 +279,8 @@ fn put_pairs<S: Sink>(
     pairs: &[Broken],
     err: &mut S,
 )
-    ensures { Adds true (ArePairs explain file.now source.now pairs.now) (S.told err.old) (S.told err.new) }
+    ensures { Adds true (ArePairs explain file.now source.now pairs.now) (S.told err.old)
+        (S.told err.new) }
 {
     for pair in pairs {
         put_pair(explain, alloc, file, source, *pair, err);
@@ -284,7 +296,8 @@ fn put_pair<S: Sink>(
     pair: Broken,
     err: &mut S,
 )
-    ensures { Adds true (IsPair explain file.now source.now pair) (S.told err.old) (S.told err.new) }
+    ensures { Adds true (IsPair explain file.now source.now pair) (S.told err.old)
+        (S.told err.new) }
 {
     put_at("  ALSO ", pair.rule.name(), pair.line, err);
     let matter = matter_of_rule(pair.rule, pair.line);
@@ -302,7 +315,8 @@ fn put_explained<S: Sink>(
     matter: Matter,
     err: &mut S,
 )
-    ensures { Adds is_wanted (IsExplained file.now source.now matter) (S.told err.old) (S.told err.new) }
+    ensures { Adds is_wanted (IsExplained file.now source.now matter) (S.told err.old)
+        (S.told err.new) }
 {
     if is_wanted {
         let known = known_for(alloc, source, matter, Ok(Vec::new(alloc)));

@@ -10,16 +10,20 @@ use Rattle.whole_runs.specs.declared.trips.Advance.{Advance}
 use Rattle.whole_runs.specs.declared.trips.Remaining.{Remaining}
 use Rattle.whole_runs.specs.Trips.{IsQuietLoop, LeavesIn, trips_in}
 
--- a DO statement of the program without output, trips that are left of it, and as many cells as the program has
-pub record IsAsked (t : Tree) (l : Loop) (r : Repeat) (remaining : Remaining) (cells : List ℤ) : Type 0 where
+-- a DO statement of the program without output, trips that are left of it, and as many cells as the
+-- program has
+pub record IsAsked (t : Tree) (l : Loop) (r : Repeat) (remaining : Remaining) (cells : List ℤ) :
+    Type 0 where
   pub quiet : IsQuietLoop t l
   pub repeats : Repeats t r (shape_tree (out-Loop l).head.form.shape.value)
   pub moves : remaining.span.step ≢ pos 0
   pub sized : length cells ≡ count_in t
 
 -- what it does from these cells and turns
-pub record IsGiven (t : Tree) (l : Loop) (remaining : Remaining) (old new : List ℤ) (given left : ℕ) (a : Advance) : Type 0 where
+pub record IsGiven (t : Tree) (l : Loop) (remaining : Remaining) (old new : List ℤ) (given left : ℕ)
+    (a : Advance) : Type 0 where
   pub done : a.done ≤ remaining.trips
-  pub leaves : (first : ℤ) → LeavesIn t old new (trips_in t l first remaining.span.step a.done) given left a.outcome
+  pub leaves : (first : ℤ) →
+      LeavesIn t old new (trips_in t l first remaining.span.step a.done) given left a.outcome
   pub nothing : a.done ≡ 0 → (new ≡ old) × (left ≡ given)
   pub len : length new ≡ length old

@@ -1,11 +1,12 @@
-//! DO statements whose next executions are run in order at once, since none of them is worth a stage.
+//! DO statements whose next executions are run in order at once, since none of them is worth a
+//! stage.
 
 use stage_loop::Brief;
 use std::cell::Cell;
 use whole_runs::Remaining;
 
-/// Up to four of them, each kept by its line; and the turns that they used which aren't counted yet. It is seen in how long a run
-/// takes, and nowhere else.
+/// Up to four of them, each kept by its line; and the turns that they used which aren't counted
+/// yet. It is seen in how long a run takes, and nowhere else.
 #[derive(Drop)]
 pub(crate) struct Briefs {
     first: Cell<Brief>,

@@ -1,4 +1,5 @@
-//! The run of a source: from its bytes to the records that it writes into a sink (ANSI X3.9-1978, chapters 10 to 12).
+//! The run of a source: from its bytes to the records that it writes into a sink (ANSI X3.9-1978,
+//! chapters 10 to 12).
 #![tactic(auto)]
 
 mod briefs;

@@ -22,9 +22,10 @@ use std::sync::Wait;
 use std::thread::Threads;
 use whole_runs::{Advance, Remaining};
 
-/// Runs a source with the plan: each DO statement without output that stands in no other such one by stages, whose blocks enter the
-/// gate, and all else in order. With one worker it is `run_in_order`. What it promises is the same for each plan and gate. It may
-/// wait for the workers, and what is promised holds if it returns.
+/// Runs a source with the plan: each DO statement without output that stands in no other such one
+/// by stages, whose blocks enter the gate, and all else in order. With one worker it is
+/// `run_in_order`. What it promises is the same for each plan and gate. It may wait for the
+/// workers, and what is promised holds if it returns.
 pub fn run<R: Threads + Wait + Sync, S: Sink, G: Gate + Sync>(
     rt: &R,
     alloc: Global,
@@ -44,8 +45,9 @@ pub fn run<R: Threads + Wait + Sync, S: Sink, G: Gate + Sync>(
     run_watched(rt, alloc, source, plan, sink, gate, &Unwatched)
 }
 
-/// The same with a watcher, which is told of each DO statement that is run by stages, and of its stages; with one worker there are none. It is
-/// told of a fault that ends the program, too. What it does is never seen in the answer.
+/// The same with a watcher, which is told of each DO statement that is run by stages, and of its
+/// stages; with one worker there are none. It is told of a fault that ends the program, too. What
+/// it does is never seen in the answer.
 pub fn run_watched<R: Threads + Wait + Sync, S: Sink, G: Gate + Sync, W: Watcher>(
     rt: &R,
     alloc: Global,
@@ -72,8 +74,9 @@ pub fn run_watched<R: Threads + Wait + Sync, S: Sink, G: Gate + Sync, W: Watcher
     )
 }
 
-/// The same, where DO statements are tried only as far as that is worth it, by what their trips cost and what came of earlier stages. The
-/// plan's blocks say nothing then; its window is the most blocks of a stage, and its workers are the most workers.
+/// The same, where DO statements are tried only as far as that is worth it, by what their trips
+/// cost and what came of earlier stages. The plan's blocks say nothing then; its window is the most
+/// blocks of a stage, and its workers are the most workers.
 pub fn run_adaptive<R: Threads + Wait + Sync, S: Sink, G: Gate + Sync, W: Watcher>(
     rt: &R,
     alloc: Global,
@@ -120,7 +123,8 @@ fn run_keeping<R: Threads + Wait + Sync, S: Sink, G: Gate + Sync, W: Watcher>(
         drop(first);
         return run_by(alloc, &Watched { watcher }, source, plan.turns(), sink);
     }
-    // What one DO statement leaves for those behind it, and those that are run in order without asking that.
+    // What one DO statement leaves for those behind it, and those that are run in order without
+    // asking that.
     let kept = Cell::new(first);
     let briefs = Briefs::new();
     let staged = Staged {

@@ -1,10 +1,9 @@
 //! Numbers of subscripts and arguments (ANSI X3.9-1978, 5.4.2, 15.3 and 15.4).
 
-ghost use Rattle.std.specs.Prelude.{◌≡◌, ◌==◌, ◌&&◌, ◌||◌, ◌∷◌, [], length, nat_le, Some, IfOk};
+ghost use Rattle.std.specs.Prelude.{◌≡◌, ◌==◌, ◌&&◌, ◌||◌, ◌∷◌, [], length, nat_le, Some, OnOk};
 ghost use Rattle.std.specs.List.{list_any};
 ghost use Rattle.std.specs.Str.{bytes_eq};
 ghost use Rattle.meaning.specs.NameRules.{has_misuse, is_misused_array, is_misused_function, is_other_number};
-ghost use Rattle.meaning.specs.Refusals.{least};
 ghost use Rattle.meaning.specs.Scopes.{listed};
 ghost use Rattle.meaning.specs.Syntax.{exprs_tree};
 ghost use Rattle.meaning.specs.Uses.{count};
@@ -12,14 +11,14 @@ ghost use Rattle.roles.specs.Functions.{dummies_at};
 ghost use Rattle.roles.specs.RolesAt.{roles_at};
 ghost use Rattle.roles.specs.Stages.{IsBehind};
 ghost use Rattle.name_uses.specs.UsesAt.{arguments_at, use_at, uses_at};
-ghost use Rattle.rule_passes.specs.Telling.{IsLeast};
+ghost use Rattle.rule_passes.specs.Telling.{AddsTold};
 ghost use Rattle.function_rules.specs.Numbers.{are_as_many, has_misused as has_misused_among, is_other_count as is_other_count_of, is_other_reference as is_other_to, takes_other as takes_other_than};
 
 use meaning::refusal::{Broken, Rule};
 use meaning::syntax::{Exprs, Item};
 use name_uses::{Arguments, NameUse, Sought, has_passing, reads_of, uses_of};
 use roles::{Roles, Stage, function_named, is_intrinsic, is_other_name, rank_of_name};
-use rule_passes::{Behind, least_told};
+use rule_passes::{Behind, add_told};
 use std::alloc::{AllocError, Global};
 
 /// Whether there are so many subscripts.
@@ -220,18 +219,20 @@ impl Behind for Misuses<'_> {
     }
 }
 
-/// K8: the least line at which an array or a function has a wrong number of subscripts or arguments.
-pub fn misused_name(
+/// K8: adds the pair of each line at which an array or a function has a wrong number of subscripts or arguments.
+pub fn add_miscounts(
+    pairs: &mut Vec<Broken>,
     alloc: Global,
     roles: &Roles,
     items: &[&Item],
-) -> Result<Option<Broken>, AllocError>
-    ensures { IfOk result (IsLeast (has_misuse (roles_at roles.now)) Rule.K8 items.now) }
+) -> Result<(), AllocError>
+    ensures { OnOk result
+        (AddsTold (has_misuse (roles_at roles.now)) Rule.K8 items.now pairs.old.items pairs.new.items) }
 {
     let mut misuses = Misuses {
         alloc,
         roles,
         stage: Stage::new(),
     };
-    least_told(&mut misuses, Rule::K8, items)
+    add_told(pairs, &mut misuses, Rule::K8, items)
 }

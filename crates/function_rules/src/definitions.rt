@@ -3,14 +3,13 @@
 ghost use Rattle.std.specs.Prelude.{◌≡◌, ◌||◌, ◌&&◌, flat_map, length, nat_lt, IfOk, OnOk};
 ghost use Rattle.std.specs.List.{list_any};
 ghost use Rattle.meaning.specs.NameRules.{breaks_function_rules, has_bad_dummies as has_bad_dummies_by, is_no_name, sets_no_array as sets_no_array_by};
-ghost use Rattle.meaning.specs.Refusals.{least};
 ghost use Rattle.meaning.specs.Scopes.{dummy_name, listed};
 ghost use Rattle.meaning.specs.Syntax.{exprs_tree, shape_tree};
 ghost use Rattle.roles.specs.Functions.{definition_at, dummies_at};
 ghost use Rattle.roles.specs.RolesAt.{roles_at};
 ghost use Rattle.function_rules.specs.Earlier.{is_dummy_use, is_later_use, stands_twice};
 ghost use Rattle.function_rules.specs.Measured.{is_kept};
-ghost use Rattle.rule_passes.specs.Telling.{IsLeast};
+ghost use Rattle.rule_passes.specs.Telling.{AddsTold};
 ghost use Rattle.function_rules.specs.Behind.{DescribesAt, IsHere, KeepsLevel, KeepsNodes, is_bad as is_bad_behind, is_ill as is_ill_behind};
 
 use crate::measures::{Measure, keep_measure, measure_of};
@@ -19,7 +18,7 @@ use meaning::refusal::{Broken, Rule};
 use meaning::syntax::{Expr, Exprs, Item, Shape};
 use name_uses::{NameUse, Sought, add_uses, has_passing, is_bare, is_dummy};
 use roles::{Function, Roles, Stage, defined_by, is_function_name};
-use rule_passes::{Behind, least_told};
+use rule_passes::{Behind, add_told};
 use std::alloc::{AllocError, Global};
 
 /// Whether there are more expressions than a number.
@@ -237,13 +236,15 @@ impl Behind for Definitions<'_> {
     }
 }
 
-/// K12: the least line at which a statement function breaks the rule on them.
-pub fn misdefined_function(
+/// K12: adds the pair of each line at which a statement function breaks the rule on them.
+pub fn add_bad_definitions(
+    pairs: &mut Vec<Broken>,
     alloc: Global,
     roles: &Roles,
     items: &[&Item],
-) -> Result<Option<Broken>, AllocError>
-    ensures { IfOk result (IsLeast (breaks_function_rules (roles_at roles.now)) Rule.K12 items.now) }
+) -> Result<(), AllocError>
+    ensures { OnOk result
+        (AddsTold (breaks_function_rules (roles_at roles.now)) Rule.K12 items.now pairs.old.items pairs.new.items) }
 {
     let mut definitions = Definitions {
         alloc,
@@ -251,5 +252,5 @@ pub fn misdefined_function(
         stage: Stage::new(),
         kept: IndexMap::new(alloc),
     };
-    least_told(&mut definitions, Rule::K12, items)
+    add_told(pairs, &mut definitions, Rule::K12, items)
 }

@@ -1,17 +1,16 @@
 //! References to functions (ANSI X3.9-1978, 15.2 and 15.3).
 
-ghost use Rattle.std.specs.Prelude.{IfOk};
+ghost use Rattle.std.specs.Prelude.{OnOk};
 ghost use Rattle.meaning.specs.NameRules.{has_unknown_function, is_unknown_function};
-ghost use Rattle.meaning.specs.Refusals.{least};
 ghost use Rattle.roles.specs.RolesAt.{roles_at};
 ghost use Rattle.roles.specs.Stages.{IsBehind};
-ghost use Rattle.rule_passes.specs.Telling.{IsLeast};
+ghost use Rattle.rule_passes.specs.Telling.{AddsTold};
 
 use meaning::refusal::{Broken, Rule};
 use meaning::syntax::Item;
 use name_uses::{NameUse, Sought, add_reads, has_passing, is_function_use};
 use roles::{Roles, Stage, is_intrinsic};
-use rule_passes::{Behind, least_told};
+use rule_passes::{Behind, add_told};
 use std::alloc::{AllocError, Global};
 
 /// A reference to a function that isn't known.
@@ -60,18 +59,20 @@ impl Behind for UnknownFunctions<'_> {
     }
 }
 
-/// K13: the least line at which a function that isn't known is referred to.
-pub fn unknown_function(
+/// K13: adds the pair of each line at which a function that isn't known is referred to.
+pub fn add_unknown_functions(
+    pairs: &mut Vec<Broken>,
     alloc: Global,
     roles: &Roles,
     items: &[&Item],
-) -> Result<Option<Broken>, AllocError>
-    ensures { IfOk result (IsLeast (has_unknown_function (roles_at roles.now)) Rule.K13 items.now) }
+) -> Result<(), AllocError>
+    ensures { OnOk result
+        (AddsTold (has_unknown_function (roles_at roles.now)) Rule.K13 items.now pairs.old.items pairs.new.items) }
 {
     let mut unknown = UnknownFunctions {
         alloc,
         roles,
         stage: Stage::new(),
     };
-    least_told(&mut unknown, Rule::K13, items)
+    add_told(pairs, &mut unknown, Rule::K13, items)
 }

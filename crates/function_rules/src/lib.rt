@@ -1,5 +1,5 @@
-//! The rules on subscripts, arguments, and functions (ANSI X3.9-1978, chapters 5 and 15). K8: `misused_name`; K12: `misdefined_function`;
-//! K13: `unknown_function`.
+//! The rules on subscripts, arguments, and functions (ANSI X3.9-1978, chapters 5 and 15). K8: `add_miscounts`; K12: `add_bad_definitions`;
+//! K13: `add_unknown_functions`.
 #![tactic(auto)]
 
 mod arguments;
@@ -7,6 +7,6 @@ mod definitions;
 mod functions;
 mod measures;
 
-pub use arguments::misused_name;
-pub use definitions::misdefined_function;
-pub use functions::unknown_function;
+pub use arguments::add_miscounts;
+pub use definitions::add_bad_definitions;
+pub use functions::add_unknown_functions;

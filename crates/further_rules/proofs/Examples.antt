@@ -18,10 +18,15 @@ order : broken_pairs (codes "      ELSE\n") ≡ record { line = 1; rule = N2 } �
 unfolding all_definitions broken_pairs
 order = refl
 
--- each rule at its least line alone
-unit : broken_pairs (codes "      X=1\n      Y=2147483648\n      Z=2147483649\n      END\n") ≡ record { line = 1; rule = K3 } ∷ record { line = 2; rule = K6 } ∷ []
+-- each rule at each of its lines
+unit : broken_pairs (codes "      X=1\n      Y=2147483648\n      Z=2147483649\n      END\n") ≡ record { line = 1; rule = K3 } ∷ record { line = 2; rule = K3 } ∷ record { line = 3; rule = K3 } ∷ record { line = 2; rule = K6 } ∷ record { line = 3; rule = K6 } ∷ []
 unfolding all_definitions broken_pairs
 unit = refl
+
+-- but the one on DATA statements at its first alone
+data_first : broken_pairs (codes "      DATA I/1,2/\n      DATA J/1,2/\n      END\n") ≡ record { line = 1; rule = K10 } ∷ []
+unfolding all_definitions broken_pairs
+data_first = refl
 
 -- a number that is too great is one of the constants of a DATA statement, and so has the right type
 great_in_data : broken_pairs (codes "      DATA I/-2147483648/\n      END\n") ≡ record { line = 1; rule = K6 } ∷ []

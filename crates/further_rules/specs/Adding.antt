@@ -13,7 +13,7 @@ use Rattle.meaning.specs.Uses.{Roles}
 use Rattle.roles.specs.declared.names.Roles.{Roles as Known}
 use Rattle.roles.specs.RolesAt.{roles_at}
 use Rattle.rule_passes.specs.Listed.{tree_at}
-use Rattle.further_rules.specs.Parts.{leasts, parts_by, parts_in_lists}
+use Rattle.further_rules.specs.Parts.{bad_data_pairs, pairs_found}
 use Rattle.further_rules.specs.Phases.{refused_by}
 use Rattle.further_rules.specs.Texts.{read_by}
 
@@ -28,17 +28,10 @@ AddsBroken said old new = (r : Result ItemTree Broken) → Gives item_tree said 
 abbrev pub by_roles : {A : Type 0} → (Roles → List ItemTree → A) → Known → A
 by_roles f r = f (roles_at r) (map tree_at r.items.now)
 
--- the least pair of each of these rules, where there is one, comes behind the pairs before
-abbrev pub AddsLeasts : (Roles → List ItemTree → List (List Broken)) → Known → List Broken → List Broken → Type 0
-AddsLeasts parts r old new = new ≡ old ++ leasts (by_roles parts r)
+-- the least pair of the rule on DATA statements, if it is broken
+abbrev pub IsBadData : Known → Option Broken → Type 0
+IsBadData r b = b ≡ least (by_roles bad_data_pairs r)
 
--- the least pair of one rule, if it is broken
-abbrev pub IsLeastOf : (Roles → List ItemTree → List Broken) → Known → Option Broken → Type 0
-IsLeastOf pairs r b = b ≡ least (by_roles pairs r)
-
--- the rules on these lists, and all of them
-abbrev pub in_lists : List Member → Roles → List ItemTree → List (List Broken)
-in_lists members r all = parts_in_lists r all (members_tree members)
-
-abbrev pub all_parts : List Member → Roles → List ItemTree → List (List Broken)
-all_parts members r all = parts_by r all (members_tree members)
+-- the pairs of a program unit with these lists
+abbrev pub units_of : List Member → Roles → List ItemTree → List Broken
+units_of members r all = pairs_found r all (members_tree members)

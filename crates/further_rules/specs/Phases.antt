@@ -25,9 +25,13 @@ pairs_of_texts entries = filter_map refused_by (map member_of entries)
 abbrev pub is_first_of_rule : List Broken → Broken → Bool
 is_first_of_rule all b = list_all (λ c. nat_le b.line c.line || not (rank_of c.rule == rank_of b.rule)) all
 
--- K: of each rule that is broken the pair of the least line
+-- of the rule on DATA statements, the tenth, the first alone; of the others each
+abbrev pub is_told_of : List Broken → Broken → Bool
+is_told_of all b = not (rank_of b.rule == 10) || is_first_of_rule all b
+
+-- K
 abbrev pub pairs_of_unit : Nested → List Broken
-pairs_of_unit t = filter (is_first_of_rule (broken_rules t)) (broken_rules t)
+pairs_of_unit t = filter (is_told_of (broken_rules t)) (broken_rules t)
 
 -- the pairs of a phase that refuses, else those of the phases behind it
 abbrev pub told_or : {A : Type 0} → Result A Broken → List Broken → (A → List Broken) → List Broken

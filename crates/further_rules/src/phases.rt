@@ -72,8 +72,8 @@ fn phase_pairs(alloc: Global, source: &[u8]) -> Result<Vec<Broken>, AllocError>
 
 /// The pairs that are told of a refused source behind the least one: of the first phase in which a rule is broken every other
 /// pair, in the order of their lines and at one line in that of the rules, none twice. C: every rule on lines; G: the rule of
-/// each statement that has no reading; N: END where it is missing, and the first statement out of order; K: each rule at the
-/// least line that breaks it. None of a source that is accepted.
+/// each statement that has no reading; N: END where it is missing, and the first statement out of order; K: each rule at
+/// each line that breaks it, but that on DATA statements at its first alone. None of a source that is accepted.
 ///
 /// # Errors
 ///

@@ -1,4 +1,5 @@
-//! From the bytes of a source to a program, and its run in order (ANSI X3.9-1978, chapters 2 to 18).
+//! From the bytes of a source to a program, and its run in order (ANSI X3.9-1978, chapters 2 to
+//! 18).
 #![tactic(auto)]
 
 mod run;

@@ -67,8 +67,9 @@ fn members_in(alloc: Global, found: &[Statement]) -> Result<Vec<Item>, Refusal>
     }
 }
 
-/// The program unit that a source spells, whether or not it keeps the rules K, or why it spells none: the least broken rule of the
-/// first of the phases C, G and N that has one, or `Memory` where a growth was refused.
+/// The program unit that a source spells, whether or not it keeps the rules K, or why it spells
+/// none: the least broken rule of the first of the phases C, G and N that has one, or `Memory`
+/// where a growth was refused.
 pub fn unit_in(alloc: Global, source: &[u8]) -> Result<Tree, Refusal>
     ensures { Gives nested result (unit_of source.now) }
 {
@@ -77,8 +78,8 @@ pub fn unit_in(alloc: Global, source: &[u8]) -> Result<Tree, Refusal>
     tree(alloc, members)
 }
 
-/// The program that a source spells, or why it is refused: the least broken rule of the first phase that has one, or `Memory`
-/// where a growth was refused.
+/// The program that a source spells, or why it is refused: the least broken rule of the first phase
+/// that has one, or `Memory` where a growth was refused.
 #[tactic(auto, using(crate::proofs::Units::passes, crate::proofs::Units::refuses))]
 pub fn program_in(alloc: Global, source: &[u8]) -> Result<Program, Refusal>
     ensures { Gives tree_of result (program_of source.now) }

@@ -1,7 +1,8 @@
 -- The least pair of all rules, that on DATA statements last.
-use Rattle.std.proofs.Common.{◌≡◌, ℕ, Ok, Err, Result, ap₂, subst, Bool, true, false, List, [], ◌∷◌, ◌++◌, append_assoc, Option, Some, None, option_map, refl, sym, ap, ◌∙◌, arith}
+use Rattle.std.proofs.Common.{◌≡◌, ℕ, ◌+◌, ◌<◌, Ok, Err, Result, subst, Bool, true, false, List, [], ◌∷◌, ◌++◌, append_assoc, length, get_or, take, Option, Some, None, option_map, refl, sym, ap, ◌∙◌, arith}
 use Rattle.std.specs.Prelude.{if◌then◌else◌, ◌==◌}
 use Rattle.std.proofs.lemmas.Bool.Decides.{nat_tests}
+use Rattle.std.proofs.lemmas.List.{take_more}
 use Rattle.meaning.specs.declared.refusal.Broken.{Broken}
 use Rattle.meaning.specs.declared.refusal.Refusal.{Refusal}
 use Rattle.meaning.specs.declared.refusal.Refusal.TheVariants.{Memory, Rule as RuleTold}
@@ -23,7 +24,7 @@ use Rattle.meaning.specs.Trees.{Arms, Members, Nested, arm, block, flatten, loop
 use Rattle.meaning.specs.Uses.{Roles, roles_of}
 use Rattle.meaning.proofs.Least.{least-append, merge-merge}
 use Rattle.k_rules.specs.declared.verdict.Facts.{Facts}
-use Rattle.k_rules.specs.Judged.{IsDecided, rules_first, rules_last, with_data}
+use Rattle.k_rules.specs.Judged.{IsDecided, rules_but_data, rules_first, rules_last, with_data}
 use Rattle.data_rules.proofs.DataPairing.{Each}
 use Rattle.rule_passes.proofs.Merging.{told_of}
 
@@ -129,26 +130,14 @@ judged t =
     regroup : (a b c d e f g : List Broken) → (a ++ (b ++ (c ++ (d ++ (e ++ f))))) ++ g ≡ (a ++ (b ++ (c ++ d))) ++ (e ++ (f ++ g))
     regroup a b c d e f g = simp append_assoc
 
-pub first_four : (a b c d : List Broken) → least (a ++ (b ++ (c ++ d))) ≡ merge (least a) (merge (least b) (merge (least c) (least d)))
-first_four a b c d =
-    least-append a (b ++ (c ++ d)) ∙ ap (merge (least a)) (least-append b (c ++ d) ∙ ap (merge (least b)) (least-append c d))
-
-pub three : (a b c : List Broken) → least (a ++ (b ++ c)) ≡ merge (least a) (merge (least b) (least c))
-three a b c = least-append a (b ++ c) ∙ ap (merge (least a)) (least-append b c)
-
-pub six : (a b c d e f : List Broken) → least (a ++ (b ++ (c ++ (d ++ (e ++ f))))) ≡ merge (least a) (merge (least b) (merge (least c) (merge (least d) (merge (least e) (least f)))))
-six a b c d e f =
-    least-append a (b ++ (c ++ (d ++ (e ++ f))))
-    ∙ ap (merge (least a)) (least-append b (c ++ (d ++ (e ++ f))) ∙ ap (merge (least b)) (first_four c d e f))
-
 module _ (t : Nested) where
   abbrev least_by : Roles → List ItemTree → List ItemTree → Option Broken
   least_by r xs ys = merge (least (rules_first r xs)) (least (rules_last r ys t.body))
 
-  pub broken_all : (r : Roles) (xs ys : List ItemTree) (first last others : Option Broken) → r ≡ roles_of (flatten t) → xs ≡ flatten t → ys ≡ flatten t → first ≡ least (rules_first r xs) → last ≡ least (rules_last r ys t.body) → others ≡ merge first last → with_data xs others ≡ least (broken_rules t)
-  broken_all r xs ys first last others roles_are xs_are ys_are is_first is_last both =
-      ap (with_data xs) (both ∙ ap₂ merge is_first is_last ∙ ap (λ q. least_by q xs ys) roles_are
-      ∙ ap (λ zs. least_by (roles_of (flatten t)) zs ys) xs_are ∙ ap (least_by (roles_of (flatten t)) (flatten t)) ys_are)
+  pub broken_all : (r : Roles) (xs ys : List ItemTree) (others : Option Broken) → r ≡ roles_of (flatten t) → xs ≡ flatten t → ys ≡ flatten t → others ≡ least (rules_but_data r ys t.body) → with_data xs others ≡ least (broken_rules t)
+  broken_all r xs ys others roles_are xs_are ys_are is =
+      ap (with_data xs) (is ∙ least-append (rules_first r ys) (rules_last r ys t.body) ∙ ap (λ q. least_by q ys ys) roles_are
+      ∙ ap (λ zs. least_by (roles_of (flatten t)) zs zs) ys_are)
       ∙ ap (λ zs. with_data zs (least_by (roles_of (flatten t)) (flatten t) (flatten t))) xs_are
       ∙ sym (judged t)
 
@@ -173,3 +162,9 @@ module _ (t : Nested) where
   pub told_by : (result : Result Facts Refusal) (o : Option Broken) → o ≡ least (broken_rules t) → IsDecided o result → Gives (λ f. t) result (checked t)
   unfolding checked
   told_by result o is decided = subst (λ p. Gives (λ f. t) result (unless p t)) is (decided_at result o decided)
+
+-- the least of pairs, one pair more
+pub least_more : (bs : List Broken) (i : ℕ) (d : Broken) (best next : Option Broken) → i < length bs → best ≡ least (take i bs) → next ≡ merge best (Some (get_or bs i d)) → next ≡ least (take (i + 1) bs)
+least_more bs i d best next lt so_far added =
+    let b = get_or bs i d in
+    added ∙ ap (λ o. merge o (Some b)) so_far ∙ sym (least-append (take i bs) (b ∷ [])) ∙ ap least (sym (take_more bs i d lt))

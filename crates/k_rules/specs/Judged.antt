@@ -1,11 +1,9 @@
 -- What is known of a program unit, and the rules around that on DATA statements.
 use Rattle.std.specs.Prelude.{◌≡◌, ℕ, List, [], ◌++◌, map, Option, Result}
-use Rattle.std.specs.Borrow.{Bor}
 use Rattle.meaning.specs.declared.ending.Value.{Value}
 use Rattle.meaning.specs.declared.refusal.Broken.{Broken}
 use Rattle.meaning.specs.declared.refusal.Refusal.{Refusal}
 use Rattle.meaning.specs.declared.refusal.Rule.TheVariants.{K1, K2, K6, K7, K9, K10, K11}
-use Rattle.meaning.specs.declared.syntax.Item.{Item}
 use Rattle.meaning.specs.declared.syntax.Member.{Member}
 use Rattle.meaning.specs.Arrays.{Dimension}
 use Rattle.meaning.specs.Initial.{has_bad_data, starts_from}
@@ -41,28 +39,37 @@ arrays_in f n = arrays_kept f.arrays n
 abbrev pub starts_in : Facts → Found
 starts_in f = given_in f.starts
 
--- the rules in front of that on DATA statements, and those behind it
+-- the rules in front of that on DATA statements
 abbrev pub rules_first : Roles → List ItemTree → List Broken
 rules_first r all =
     told has_repeated_label K1 [] all ++ (broken_names r all ++ (told (has_bad_number r) K6 [] all ++ told (has_large_array r) K7 [] all))
 
+-- those on lists of statements, and with these those behind that on DATA statements
+abbrev pub rules_in_lists : Roles → List ItemTree → Members → List Broken
+rules_in_lists r all ms = told_in (breaks_transfers r all) K2 (in_body ms) ms ++ told_in (breaks_loops r) K9 (in_body ms) ms
+
 abbrev pub rules_last : Roles → List ItemTree → Members → List Broken
-rules_last r all ms =
-    told (has_bad_output r all) K11 [] all ++ (told_in (breaks_transfers r all) K2 (in_body ms) ms ++ told_in (breaks_loops r) K9 (in_body ms) ms)
+rules_last r all ms = told (has_bad_output r all) K11 [] all ++ rules_in_lists r all ms
 
--- the least pair of the rules on names, of those in front, and of those behind
-abbrev pub AreNamesLeast : Kept → List (Bor Item) → Option Broken → Type 0
-AreNamesLeast r items b = b ≡ least (broken_names (roles_at r) (map tree_at items))
+-- all but that on DATA statements
+abbrev pub rules_but_data : Roles → List ItemTree → Members → List Broken
+rules_but_data r all ms = rules_first r all ++ rules_last r all ms
 
-abbrev pub AreFirstLeast : Kept → List (Bor Item) → Option Broken → Type 0
-AreFirstLeast r items b = b ≡ least (rules_first (roles_at r) (map tree_at items))
+-- the pairs of the rules on names, of those in front, of those behind, of those on lists, of all of these, behind others
+abbrev pub AddsNames : Kept → List Broken → List Broken → Type 0
+AddsNames r old new = new ≡ old ++ broken_names (roles_at r) (map tree_at r.items.now)
 
-abbrev pub AreLastLeast : Kept → List Member → Option Broken → Type 0
-AreLastLeast r members b = b ≡ least (rules_last (roles_at r) (map tree_at r.items.now) (members_tree members))
+abbrev pub AddsFirst : Kept → List Broken → List Broken → Type 0
+AddsFirst r old new = new ≡ old ++ rules_first (roles_at r) (map tree_at r.items.now)
 
--- the least pair of the rule on units and formats
-abbrev pub IsOutputLeast : Kept → Option Broken → Type 0
-IsOutputLeast r b = b ≡ least (told (has_bad_output (roles_at r) (map tree_at r.items.now)) K11 [] (map tree_at r.items.now))
+abbrev pub AddsLast : Kept → List Member → List Broken → List Broken → Type 0
+AddsLast r members old new = new ≡ old ++ rules_last (roles_at r) (map tree_at r.items.now) (members_tree members)
+
+abbrev pub AddsInLists : Kept → List Member → List Broken → List Broken → Type 0
+AddsInLists r members old new = new ≡ old ++ rules_in_lists (roles_at r) (map tree_at r.items.now) (members_tree members)
+
+abbrev pub AddsOthers : Kept → List Member → List Broken → List Broken → Type 0
+AddsOthers r members old new = new ≡ old ++ rules_but_data (roles_at r) (map tree_at r.items.now) (members_tree members)
 
 -- the least pair of others and of the rule on DATA statements
 abbrev pub with_data : List ItemTree → Option Broken → Option Broken

@@ -7,24 +7,20 @@ ghost use Rattle.meaning.specs.Trees.{flatten, nested};
 ghost use Rattle.rule_passes.specs.Listed.{tree_at};
 ghost use Rattle.statement_rules.specs.FormatsFound.{HoldsFormats};
 ghost use Rattle.rule_passes.specs.InOrder.{AreInOrder};
-ghost use Rattle.k_rules.specs.Judged.{AreFirstLeast, AreLastLeast, AreNamesLeast, HasArrays, HasConstants, HasFormats, HasStarts, IsDecided, IsOutputLeast, with_data};
+ghost use Rattle.rule_passes.specs.InOrder.{AreInOrder};
+ghost use Rattle.k_rules.specs.Judged.{HasArrays, HasConstants, HasFormats, HasStarts, IsDecided, with_data};
 
+use crate::pairs::{add_all_but_data, least_of};
 use data_rules::{Filling, Passed, given_by_data};
 use declarations::{Declared, declared_in};
 use expressions::Dimensions;
-use function_rules::{misdefined_function, misused_name, unknown_function};
 use indexmap::IndexMap;
 use meaning::ending::Value;
-use meaning::refusal::{Broken, Refusal, lesser};
-use meaning::syntax::{Item, Member, Tree};
-use name_rules::disputed_name;
-use number_rules::{bad_number, large_array};
+use meaning::refusal::{Broken, Refusal};
+use meaning::syntax::{Item, Tree};
 use roles::{Roles, items_of};
-use statement_rules::{
-    Formats, Output, bad_output, missed_label, misused_variable, repeated_label,
-};
+use statement_rules::Formats;
 use std::alloc::{AllocError, Global};
-use type_rules::{real_name, wrong_type};
 
 /// What is known of a program unit that breaks no rule.
 pub struct Facts {
@@ -70,52 +66,6 @@ impl Facts {
         drop(starts);
         formats
     }
-}
-
-/// The least pair of the rules on names.
-fn broken_names(alloc: Global, roles: &Roles, items: &[&Item]) -> Result<Option<Broken>, AllocError>
-    ensures { IfOk result (AreNamesLeast roles.now items.now) }
-{
-    let real = real_name(alloc, roles, items)?;
-    let disputed = disputed_name(alloc, roles, items)?;
-    let wrong = wrong_type(roles, items)?;
-    let misused = misused_name(alloc, roles, items)?;
-    let misdefined = misdefined_function(alloc, roles, items)?;
-    let unknown = unknown_function(alloc, roles, items)?;
-    let last = lesser(misdefined, unknown);
-    let fourth = lesser(misused, last);
-    let third = lesser(wrong, fourth);
-    let second = lesser(disputed, third);
-    Ok(lesser(real, second))
-}
-
-/// The least pair of the rules on the statements in their order that stand before that on DATA statements.
-fn broken_first(alloc: Global, roles: &Roles, items: &[&Item]) -> Result<Option<Broken>, AllocError>
-    ensures { IfOk result (AreFirstLeast roles.now items.now) }
-{
-    let repeated = repeated_label(alloc, items)?;
-    let names = broken_names(alloc, roles, items)?;
-    let number = bad_number(alloc, roles, items)?;
-    let large = large_array(alloc, roles, items)?;
-    let last = lesser(number, large);
-    let second = lesser(names, last);
-    Ok(lesser(repeated, second))
-}
-
-/// The least pair of the rules that stand behind it, of which this is that of the rule on units and formats.
-fn broken_last(
-    alloc: Global,
-    roles: &Roles,
-    members: &[Member],
-    output: Option<Broken>,
-) -> Result<Option<Broken>, AllocError>
-    requires { IsOutputLeast roles.now output }
-    ensures { IfOk result (AreLastLeast roles.now members.now) }
-{
-    let missed = missed_label(alloc, roles, roles.items, members)?;
-    let misused = misused_variable(alloc, roles, members)?;
-    let last = lesser(missed, misused);
-    Ok(lesser(output, last))
 }
 
 /// What is known of statements whose formats these are, or the least of these pairs and of those of the rule on DATA statements.
@@ -189,15 +139,9 @@ fn judge_items(alloc: Global, tree: &Tree, items: &[&Item]) -> Result<Facts, Ref
     ensures formats { IfOk result (HasFormats (flatten (nested tree.now))) }
 {
     let roles = Roles::new(alloc, &*items)?;
-    let first = broken_first(alloc, &roles, items)?;
-    let Output { broken, formats } = bad_output(alloc, &roles)?;
-    match broken_last(alloc, &roles, &tree.body, broken) {
-        Ok(last) => facts_of(alloc, &roles, items, lesser(first, last), formats),
-        Err(AllocError) => {
-            drop(formats);
-            Err(Refusal::Memory)
-        }
-    }
+    let mut pairs = Vec::new(alloc);
+    let formats = add_all_but_data(&mut pairs, alloc, &roles, &tree.body)?;
+    facts_of(alloc, &roles, items, least_of(&pairs), formats)
 }
 
 /// What is known of a program unit, or the least pair of the rules that it breaks. Its statements stand in the order of their

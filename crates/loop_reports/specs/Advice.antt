@@ -1,5 +1,6 @@
 -- What to do about a loop of whose stages little was committed (own).
-use Rattle.std.specs.Prelude.{ℕ, ◌-◌, ◌*◌, ◌&&◌, Bool, true, false, List, [], ◌∷◌, ◌++◌, Option, Some, None, codes, nat_le, nat_lt, if◌then◌else◌}
+use Rattle.std.specs.Prelude.{ℕ, ◌-◌, ◌*◌, ◌&&◌, Bool, true, false, List, [], ◌∷◌, ◌++◌, Option}
+use Rattle.std.specs.Prelude.{Some, None, codes, nat_le, nat_lt, if◌then◌else◌}
 use Rattle.meaning.specs.Arrays.{Named}
 use Rattle.cell_names.specs.Told.{Told, told_at}
 use Rattle.loop_reports.specs.declared.counts.Counts.{Counts}
@@ -33,7 +34,8 @@ carried_text false = codes " is written in one trip and read in a later one: try
 
 abbrev pub carried_line : List Named → ℕ → List ℕ
 carried_line names cell =
-    codes "    ADVICE " ++ cell_text (told_at names cell) cell ++ carried_text (is_variable (told_at names cell))
+    codes "    ADVICE " ++ cell_text (told_at names cell) cell
+    ++ carried_text (is_variable (told_at names cell))
 
 abbrev pub other_advice : Counts → List ℕ
 other_advice c =
@@ -44,4 +46,5 @@ other_advice c =
 -- of a loop at whose stages this cell was cut most often, if one was
 abbrev pub advice_line : List Named → Counts → Option (ℕ × Carried) → List ℕ
 advice_line names c None = other_advice c
-advice_line names c (Some (cell, x)) = if is_carried c then carried_line names cell else other_advice c
+advice_line names c (Some (cell, x)) =
+    if is_carried c then carried_line names cell else other_advice c

@@ -7,8 +7,8 @@ use Rattle.loop_reports.specs.declared.trips.Trips.{Trips}
 abbrev pub capped : ℕ → ℕ
 capped n = min n (2 ^ 64 - 1)
 
--- a block's trips, counted from 1 over the whole execution: those of the blocks before it and those that were done before the stage
--- stand in front, and the last block may have fewer
+-- a block's trips, counted from 1 over the whole execution: those of the blocks before it and those
+-- that were done before the stage stand in front, and the last block may have fewer
 abbrev pub trips_of : ℕ → StageTold → ℕ → Trips
 trips_of done t block = record {
   first = capped (done + block * t.size + 1);

@@ -1,11 +1,13 @@
--- The cells at which stages of a DO statement are cut, since one block read what an earlier one wrote.
+-- The cells at which stages of a DO statement are cut, since one block read what an earlier one
+-- wrote.
 use Rattle.std.specs.Prelude.{ℕ, ◌+◌, List, Option, Some, None, nat_eq, nat_lt, fold, if◌then◌else◌}
 use Rattle.std.specs.Map.{lookup}
 use Rattle.indexmap.specs.IndexMap.{insert_entry}
 use Rattle.loop_reports.specs.declared.counts.Counts.{Counts}
 use Rattle.loop_reports.specs.declared.row.Carried.{Carried}
 use Rattle.block_stage.specs.declared.causes.Cause.{Cause}
-use Rattle.block_stage.specs.declared.causes.Cause.TheVariants.{Whole, Loss, Exit, Dependence, Turns}
+use Rattle.block_stage.specs.declared.causes.Cause.TheVariants.{Whole, Loss, Exit, Dependence}
+use Rattle.block_stage.specs.declared.causes.Cause.TheVariants.{Turns}
 use Rattle.block_stage.specs.declared.told.StageTold.{StageTold}
 use Rattle.loop_reports.specs.BlockTrips.{capped, trips_of}
 
@@ -42,10 +44,12 @@ again_or None fresh = fresh
 again_or (Some known) fresh = record known { cuts = capped (known.cuts + 1) }
 
 abbrev pub with_cell : List (ℕ × Carried) → ℕ → Carried → List (ℕ × Carried)
-with_cell cells cell fresh = insert_entry nat_eq cells cell (again_or (lookup (nat_eq cell) cells) fresh)
+with_cell cells cell fresh =
+    insert_entry nat_eq cells cell (again_or (lookup (nat_eq cell) cells) fresh)
 
 abbrev pub with_cause : List (ℕ × Carried) → ℕ → ℕ → StageTold → Cause → List (ℕ × Carried)
-with_cause cells execution done t (Dependence d) = with_cell cells d.cell (carried_of execution done t d.writer)
+with_cause cells execution done t (Dependence d) =
+    with_cell cells d.cell (carried_of execution done t d.writer)
 with_cause cells execution done t Whole = cells
 with_cause cells execution done t Loss = cells
 with_cause cells execution done t Exit = cells

@@ -1,5 +1,6 @@
 -- The lines on what speculation did.
-use Rattle.std.specs.Prelude.{ℕ, ◌+◌, ◌==◌, Bool, true, false, List, [], ◌∷◌, ◌++◌, Option, Some, None, codes, flat_map, nat_lt, option_map, sum_by, if◌then◌else◌}
+use Rattle.std.specs.Prelude.{ℕ, ◌+◌, ◌==◌, Bool, true, false, List, [], ◌∷◌, ◌++◌, Option, Some}
+use Rattle.std.specs.Prelude.{None, codes, flat_map, nat_lt, option_map, sum_by, if◌then◌else◌}
 use Rattle.std.specs.Borrow.{Bor}
 use Rattle.std.specs.BTreeMap.{BTreeMap, get}
 use Rattle.std.specs.Ordering.{nat_cmp}
@@ -38,7 +39,8 @@ cost_text c = counted (codes " TURNS ") c.turns ++ counted (codes " SPENT ") c.s
 
 -- which execution of a statement that was reached so often; of one alone it isn't said
 abbrev pub execution_text : ℕ → ℕ → List ℕ
-execution_text reached execution = if nat_lt 1 reached then counted (codes " OF EXECUTION ") execution else []
+execution_text reached execution =
+    if nat_lt 1 reached then counted (codes " OF EXECUTION ") execution else []
 
 abbrev pub times_text : ℕ → List ℕ
 times_text times = counted (codes ", ") times ++ (if times == 1 then codes " TIME\n" else codes " TIMES\n")
@@ -47,7 +49,8 @@ times_text times = counted (codes ", ") times ++ (if times == 1 then codes " TIM
 abbrev pub cuts_at : List Named → ℕ → ℕ → Carried → List ℕ
 cuts_at names reached cell x =
     codes "    " ++ cell_text (told_at names cell) cell ++ trips_text (codes " WRITTEN IN TRIPS ") x.writer
-    ++ trips_text (codes ", READ IN TRIPS ") x.reader ++ execution_text reached x.execution ++ times_text x.cuts
+    ++ trips_text (codes ", READ IN TRIPS ") x.reader ++ execution_text reached x.execution
+    ++ times_text x.cuts
 
 abbrev pub dependence_line : List Named → ℕ → Option (ℕ × Carried) → List ℕ
 dependence_line names reached None = []
@@ -56,7 +59,8 @@ dependence_line names reached (Some (cell, x)) = cuts_at names reached cell x
 abbrev pub speculated_lines : List Named → Row → List ℕ
 speculated_lines names r =
     (reached_text r.counts ++ blocks_text r.counts ++ cuts_text r.counts ++ cost_text r.counts)
-    ++ dependence_line names r.counts.reached (most_often r.cells.entries) ++ advice_line names r.counts (most_often r.cells.entries)
+    ++ dependence_line names r.counts.reached (most_often r.cells.entries)
+    ++ advice_line names r.counts (most_often r.cells.entries)
 
 -- ---- and one that wasn't
 
@@ -74,7 +78,8 @@ standing_text is_alone Apart = if is_alone then codes " ONEWORKER\n" else codes 
 -- ---- each of them
 
 abbrev pub row_lines : List Named → Row → List ℕ
-row_lines names r = if nat_lt 0 r.counts.stages then speculated_lines names r else untried_text r.counts
+row_lines names r =
+    if nat_lt 0 r.counts.stages then speculated_lines names r else untried_text r.counts
 
 abbrev pub row_if : Option (Bor Row) → Option Row
 row_if r = option_map (λ x. x.now) r
@@ -85,7 +90,8 @@ behind_line names is_alone standing (Some r) = row_lines names r
 
 abbrev pub lines_of : List Named → BTreeMap ℕ Row → Bool → DoStatement → List ℕ
 lines_of names rows is_alone s =
-    counted (codes "  LOOP ") s.line ++ behind_line names is_alone s.standing (get nat_cmp rows s.line)
+    counted (codes "  LOOP ") s.line
+    ++ behind_line names is_alone s.standing (get nat_cmp rows s.line)
 
 -- ---- all of them
 
@@ -101,7 +107,12 @@ totals_of rows = record {
 
 abbrev pub with_counts_of : Totals → Counts → Totals
 with_counts_of t c =
-    record { turns = capped (t.turns + c.turns); spent = capped (t.spent + c.spent); longest = capped (t.longest + c.longest) }
+    record {
+      turns = capped (t.turns + c.turns);
+      spent = capped (t.spent + c.spent);
+      longest =
+          capped (t.longest + c.longest);
+    }
 
 -- the turns of the whole run where they are known
 abbrev pub behind_turns : Option ℕ → List ℕ
@@ -115,4 +126,5 @@ speculation_line t turns =
 
 abbrev pub loop_lines : List Named → List DoStatement → BTreeMap ℕ Row → Bool → Option ℕ → List ℕ
 loop_lines names statements rows is_alone turns =
-    flat_map (lines_of names rows is_alone) statements ++ speculation_line (totals_of rows.entries) turns
+    flat_map (lines_of names rows is_alone) statements
+    ++ speculation_line (totals_of rows.entries) turns

@@ -32,7 +32,8 @@ abbrev pub ordered_once : ℕ → Noted → Noted
 ordered_once trips n = record n { counts = ordered_with n.counts trips }
 
 abbrev pub staged_once : ℕ → StageTold → Noted → Noted
-staged_once done t n = record { counts = staged_with n.counts t; cells = cells_with n.cells n.counts.reached done t }
+staged_once done t n =
+    record { counts = staged_with n.counts t; cells = cells_with n.cells n.counts.reached done t }
 
 -- of the statement at a line, and nothing of the others
 abbrev pub at_line : ℕ → (Noted → Noted) → (ℕ → Noted) → ℕ → Noted

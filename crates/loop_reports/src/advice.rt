@@ -3,7 +3,10 @@
 ghost use Rattle.std.specs.Prelude.{◌≡◌, ◌++◌, IfOk, OnOk};
 ghost use Rattle.cell_names.specs.Cells.{are_named};
 ghost use Rattle.cell_names.specs.Told.{told_at};
-ghost use Rattle.loop_reports.specs.Advice.{advice_line, are_light as are_light_by, carried_line, carried_text, is_carried as is_carried_by, is_left_early as is_left_early_by, is_variable as is_told_variable, other_advice};
+ghost use Rattle.loop_reports.specs.Advice.{advice_line, are_light as are_light_by, carried_line};
+ghost use Rattle.loop_reports.specs.Advice.{carried_text, is_carried as is_carried_by};
+ghost use Rattle.loop_reports.specs.Advice.{is_left_early as is_left_early_by};
+ghost use Rattle.loop_reports.specs.Advice.{is_variable as is_told_variable, other_advice};
 
 use crate::counts::Counts;
 use crate::row::Carried;
@@ -60,7 +63,8 @@ fn put_carried(
     names: &[Named],
     cell: usize,
 ) -> Result<(), AllocError>
-    ensures { OnOk result (text.new.items ≡ text.old.items ++ carried_line (are_named names.now) cell) }
+    ensures { OnOk result
+        (text.new.items ≡ text.old.items ++ carried_line (are_named names.now) cell) }
 {
     let is_variable = is_variable(alloc, names, cell)?;
     put(text, "    ADVICE ")?;
@@ -87,7 +91,8 @@ fn put_other(text: &mut Vec<u8>, counts: &Counts) -> Result<(), AllocError>
     }
 }
 
-/// Puts what to do about a DO statement behind what is there, if there is something; stages were cut at this cell most often, if at one.
+/// Puts what to do about a DO statement behind what is there, if there is something; stages were
+/// cut at this cell most often, if at one.
 pub(crate) fn put_advice(
     text: &mut Vec<u8>,
     alloc: Global,

@@ -79,8 +79,8 @@ pub fn counts_staged(counts: Counts, told: &StageTold) -> Counts
     }
 }
 
-// The counts of a statement of which one more stage was cut for a cause; one that isn't cut, and one at a block without a run, aren't
-// counted here.
+// The counts of a statement of which one more stage was cut for a cause; one that isn't cut, and
+// one at a block without a run, aren't counted here.
 fn cut_counted(counts: Counts, cause: Cause) -> Counts
     ensures { result ≡ cut_with counts cause }
 {

@@ -4,7 +4,11 @@ ghost use Rattle.std.specs.Prelude.{◌≡◌, ◌++◌, IfOk, OnOk};
 ghost use Rattle.std.specs.BTreeMap.{get};
 ghost use Rattle.std.specs.Ordering.{nat_cmp};
 ghost use Rattle.cell_names.specs.Cells.{are_named};
-ghost use Rattle.loop_reports.specs.Lines.{behind_line, behind_turns, blocks_text, cost_text, cuts_at, cuts_text, dependence_line, execution_text, lines_of, loop_lines, reached_text, row_if, row_lines, speculated_lines, speculation_line, standing_text, times_text, totals_of, untried_text, with_counts_of};
+ghost use Rattle.loop_reports.specs.Lines.{behind_line, behind_turns, blocks_text, cost_text};
+ghost use Rattle.loop_reports.specs.Lines.{cuts_at, cuts_text, dependence_line, execution_text};
+ghost use Rattle.loop_reports.specs.Lines.{lines_of, loop_lines, reached_text, row_if, row_lines};
+ghost use Rattle.loop_reports.specs.Lines.{speculated_lines, speculation_line, standing_text};
+ghost use Rattle.loop_reports.specs.Lines.{times_text, totals_of, untried_text, with_counts_of};
 
 use crate::advice::put_advice;
 use crate::counts::Counts;
@@ -15,9 +19,10 @@ use do_statements::{DoStatement, Standing};
 use std::alloc::{AllocError, Global};
 use std::collections::BTreeMap;
 
-/// The lines on DO statements, in their order, and the line on speculation: of a program with these statements and the cells of these
-/// names, of which that was noted, by one worker alone or by more, and so many turns, where they are known. The `AllocError` comes
-/// where a growth was refused.
+/// The lines on DO statements, in their order, and the line on speculation: of a program with these
+/// statements and the cells of these names, of which that was noted, by one worker alone or by
+/// more, and so many turns, where they are known. The `AllocError` comes where a growth was
+/// refused.
 pub fn told_loops(
     alloc: Global,
     names: &[Named],

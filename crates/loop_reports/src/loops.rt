@@ -8,7 +8,8 @@ use std::alloc::{AllocError, Global};
 use std::cell::Cell;
 use std::collections::BTreeMap;
 
-/// A watcher that notes what it is told while a program runs. Where that isn't wanted it notes nothing, and takes no memory.
+/// A watcher that notes what it is told while a program runs. Where that isn't wanted it notes
+/// nothing, and takes no memory.
 #[derive(Drop)]
 pub struct Loops {
     alloc: Global,
@@ -27,7 +28,8 @@ impl Loops {
         }
     }
 
-    /// What was noted, by the lines of the statements. The `AllocError` comes where memory was refused to something of it.
+    /// What was noted, by the lines of the statements. The `AllocError` comes where memory was
+    /// refused to something of it.
     pub fn into_rows(self) -> Result<BTreeMap<u32, Row>, AllocError> {
         let Loops {
             alloc: _,
@@ -37,7 +39,8 @@ impl Loops {
         rows.into_inner()
     }
 
-    // What was noted so far, if it is wanted and memory was never refused; until it is kept again, it counts as refused.
+    // What was noted so far, if it is wanted and memory was never refused; until it is kept again,
+    // it counts as refused.
     fn take_rows(&self) -> Option<BTreeMap<u32, Row>> {
         if self.is_wanted {
             self.rows.replace(Err(AllocError)).ok()

@@ -3,14 +3,16 @@
 ghost use Rattle.std.specs.Prelude.{◌≡◌, ℕ, IsSome, OnOk};
 ghost use Rattle.std.specs.BTreeMap.{get};
 ghost use Rattle.std.specs.Ordering.{nat_cmp};
-ghost use Rattle.loop_reports.specs.Noting.{at_line, noted_at, ordered_once, reached_once, staged_once};
+ghost use Rattle.loop_reports.specs.Noting.{at_line, noted_at, ordered_once, reached_once};
+ghost use Rattle.loop_reports.specs.Noting.{staged_once};
 
 use crate::row::Row;
 use block_stage::StageTold;
 use std::alloc::{AllocError, Global};
 use std::collections::BTreeMap;
 
-/// Notes that the DO statement at a line is reached, with so many trips. The `AllocError` comes where a growth was refused.
+/// Notes that the DO statement at a line is reached, with so many trips. The `AllocError` comes
+/// where a growth was refused.
 pub fn note_reached(
     rows: &mut BTreeMap<u32, Row>,
     alloc: Global,
@@ -27,7 +29,8 @@ pub fn note_reached(
     Ok(())
 }
 
-/// Notes that so many trips of the DO statement at a line were executed in order. The `AllocError` comes where a growth was refused.
+/// Notes that so many trips of the DO statement at a line were executed in order. The `AllocError`
+/// comes where a growth was refused.
 pub fn note_ordered(
     rows: &mut BTreeMap<u32, Row>,
     alloc: Global,
@@ -44,8 +47,8 @@ pub fn note_ordered(
     Ok(())
 }
 
-/// Notes a stage of the DO statement at a line, before which so many trips of the execution were done. The `AllocError` comes where
-/// a growth was refused.
+/// Notes a stage of the DO statement at a line, before which so many trips of the execution were
+/// done. The `AllocError` comes where a growth was refused.
 pub fn note_staged(
     rows: &mut BTreeMap<u32, Row>,
     alloc: Global,

@@ -1,7 +1,8 @@
 //! What is kept of a DO statement that is run by stages.
 
 ghost use Rattle.std.specs.Prelude.{◌≡◌, [], OnErr, OnOk};
-ghost use Rattle.loop_reports.specs.Carrying.{carried_of, cells_with, most_often, no_counts, oftener_of, with_cell};
+ghost use Rattle.loop_reports.specs.Carrying.{carried_of, cells_with, most_often, no_counts};
+ghost use Rattle.loop_reports.specs.Carrying.{oftener_of, with_cell};
 ghost use Rattle.loop_reports.specs.Counting.{ordered_with, reached_with, staged_with};
 
 use crate::counts::{Counts, counts_ordered, counts_reached, counts_staged};
@@ -10,7 +11,8 @@ use block_stage::{Cause, StageTold};
 use indexmap::IndexMap;
 use std::alloc::{AllocError, Global};
 
-/// What is kept of a cell at which stages of a DO statement were cut, since a block read what an earlier one wrote.
+/// What is kept of a cell at which stages of a DO statement were cut, since a block read what an
+/// earlier one wrote.
 #[derive(Clone, Copy, Debug, PartialEq, Eq)]
 pub struct Carried {
     /// How many stages.
@@ -60,8 +62,8 @@ impl Row {
         self.counts = counts_ordered(self.counts, trips);
     }
 
-    /// Notes a stage, before which so many trips of the execution were done. The `AllocError` comes where a growth was refused, and
-    /// the counts are what they were.
+    /// Notes a stage, before which so many trips of the execution were done. The `AllocError` comes
+    /// where a growth was refused, and the counts are what they were.
     pub fn add(&mut self, done: u64, told: &StageTold) -> Result<(), AllocError>
         ensures counts { OnOk result (self.new.counts ≡ staged_with self.old.counts told.now) }
         ensures cells { OnOk result (self.new.cells.entries
@@ -108,7 +110,8 @@ fn add_cell(
     Ok(())
 }
 
-/// The cell at which most stages of the statement were cut, of several the first; `None` where none was cut at one.
+/// The cell at which most stages of the statement were cut, of several the first; `None` where none
+/// was cut at one.
 pub fn dependence_of(row: &Row) -> Option<(usize, Carried)>
     ensures { result ≡ most_often row.now.cells.entries }
 {

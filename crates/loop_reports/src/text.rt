@@ -4,7 +4,8 @@ ghost use Rattle.std.specs.Prelude.{◌≡◌, ◌++◌, OnOk};
 ghost use Rattle.std.specs.Fmt.{signed_decimal};
 ghost use Rattle.cell_names.specs.Told.{told_at, told_by};
 ghost use Rattle.cell_names.specs.Cells.{are_named};
-ghost use Rattle.loop_reports.specs.Cells.{cell_text, counted, in_parentheses, more_subscripts, name_text, trips_text};
+ghost use Rattle.loop_reports.specs.Cells.{cell_text, counted, in_parentheses, more_subscripts};
+ghost use Rattle.loop_reports.specs.Cells.{name_text, trips_text};
 
 use crate::trips::Trips;
 use cell_names::{CellName, Named, name_of_cell};
@@ -34,7 +35,8 @@ pub(crate) fn put_trips(text: &mut Vec<u8>, word: &str, trips: Trips) -> Result<
     put_count(text, " TO ", trips.last)
 }
 
-/// Puts a cell behind what is there: its name with the subscripts of the element, or its number where no name has it.
+/// Puts a cell behind what is there: its name with the subscripts of the element, or its number
+/// where no name has it.
 pub(crate) fn put_cell(
     text: &mut Vec<u8>,
     alloc: Global,

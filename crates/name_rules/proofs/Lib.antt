@@ -1,3 +1,4 @@
 pub mod Parting
 pub mod Lettering
 pub mod GivenMore
+pub mod Conflicting

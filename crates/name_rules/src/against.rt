@@ -1,21 +1,18 @@
 //! Uses of names against what they are (ANSI X3.9-1978, 8.6 and 15.4).
 
-ghost use Rattle.std.specs.Prelude.{◌≡◌, ◌||◌, IfOk};
+ghost use Rattle.std.specs.Prelude.{◌≡◌, ◌||◌, []};
 ghost use Rattle.meaning.specs.NameRules.{is_against_role, sets_constant as sets_constant_by};
-ghost use Rattle.meaning.specs.Refusals.{least};
 ghost use Rattle.meaning.specs.Syntax.{shape_tree};
 ghost use Rattle.roles.specs.RolesAt.{roles_at};
 ghost use Rattle.roles.specs.Stages.{IsBehind};
 ghost use Rattle.name_uses.specs.UsesAt.{uses_at};
 ghost use Rattle.name_rules.specs.Disputed.{is_used_against};
-ghost use Rattle.rule_passes.specs.Telling.{IsLeast};
 ghost use Rattle.name_rules.specs.Disputed.{goes_against};
 
-use meaning::refusal::{Broken, Rule};
 use meaning::syntax::{Item, Shape};
 use name_uses::{Arguments, NameUse, Sought, has_passing, uses_of};
 use roles::{Roles, Stage, is_constant_name, is_function_name};
-use rule_passes::{Behind, least_told};
+use rule_passes::Behind;
 use std::alloc::{AllocError, Global};
 
 /// A use of a constant with parentheses, or of a statement function without.
@@ -57,10 +54,24 @@ fn is_against(roles: &Roles, uses: &[NameUse], shape: &Shape) -> bool
 
 /// The rule on such uses.
 #[derive(Drop)]
-struct Against<'a> {
+pub struct Against<'a> {
     alloc: Global,
     roles: &'a Roles<'a>,
     stage: Stage,
+}
+
+impl<'a> Against<'a> {
+    /// The rule, where no statement was passed yet.
+    pub fn new(alloc: Global, roles: &'a Roles<'a>) -> Against<'a>
+        ensures same { result.roles.now ≡ roles.now }
+        ensures none { IsBehind result.roles.now result.stage [] }
+    {
+        Against {
+            alloc,
+            roles,
+            stage: Stage::new(),
+        }
+    }
 }
 
 impl Behind for Against<'_> {
@@ -79,20 +90,4 @@ impl Behind for Against<'_> {
         self.stage.pass(self.roles, item);
         Ok(())
     }
-}
-
-/// The least line at which a name is used against what it is.
-pub fn used_against(
-    alloc: Global,
-    roles: &Roles,
-    items: &[&Item],
-) -> Result<Option<Broken>, AllocError>
-    ensures { IfOk result (IsLeast (is_used_against (roles_at roles.now)) Rule.K4 items.now) }
-{
-    let mut against = Against {
-        alloc,
-        roles,
-        stage: Stage::new(),
-    };
-    least_told(&mut against, Rule::K4, items)
 }

@@ -1,20 +1,17 @@
 //! Names that are given too much (ANSI X3.9-1978, 8.1, 8.4, 8.6, 15.4 and 18.2).
 
-ghost use Rattle.std.specs.Prelude.{◌≡◌, IfOk, OnOk};
-ghost use Rattle.meaning.specs.Refusals.{least};
+ghost use Rattle.std.specs.Prelude.{◌≡◌, IfOk, OnOk, []};
 ghost use Rattle.roles.specs.RolesAt.{roles_at};
 ghost use Rattle.name_rules.specs.Disputed.{is_given_too_much};
 ghost use Rattle.name_rules.specs.GivenAt.{are_given_twice, are_too_much, are_two_things, given_at};
-ghost use Rattle.rule_passes.specs.Telling.{IsLeast};
 ghost use Rattle.name_rules.specs.GivenAt.{Gains, KnowsGiven};
 
 use crate::given::{Given, given_by};
 use indexmap::IndexSet;
-use meaning::refusal::{Broken, Rule};
 use meaning::syntax::Item;
 use name_uses::{add_names, has_seen, repeats};
 use roles::{Roles, Stage};
-use rule_passes::{Behind, least_told};
+use rule_passes::Behind;
 use std::alloc::{AllocError, Global};
 
 /// The names that statements gave something.
@@ -86,7 +83,7 @@ fn add_given(names: &mut Names, alloc: Global, given: &Given) -> Result<(), Allo
 }
 
 /// The rule on what names are given.
-struct Givings<'a> {
+pub struct Givings<'a> {
     alloc: Global,
     roles: &'a Roles<'a>,
     stage: Stage,
@@ -102,6 +99,26 @@ impl Drop for Givings<'_> {
             names,
         } = self;
         drop(names);
+    }
+}
+
+impl<'a> Givings<'a> {
+    /// The rule, where no statement was passed yet.
+    pub fn new(alloc: Global, roles: &'a Roles<'a>) -> Givings<'a>
+        ensures same { result.roles.now ≡ roles.now }
+        ensures none { KnowsGiven result.roles.now result.stage result.names [] }
+    {
+        Givings {
+            alloc,
+            roles,
+            stage: Stage::new(),
+            names: Names {
+                typed: IndexSet::new(alloc),
+                bounded: IndexSet::new(alloc),
+                valued: IndexSet::new(alloc),
+                defined: IndexSet::new(alloc),
+            },
+        }
     }
 }
 
@@ -124,26 +141,4 @@ impl Behind for Givings<'_> {
         self.stage.pass(self.roles, item);
         Ok(())
     }
-}
-
-/// The least line at which a name is given too much.
-pub fn given_too_much(
-    alloc: Global,
-    roles: &Roles,
-    items: &[&Item],
-) -> Result<Option<Broken>, AllocError>
-    ensures { IfOk result (IsLeast (is_given_too_much (roles_at roles.now)) Rule.K4 items.now) }
-{
-    let mut givings = Givings {
-        alloc,
-        roles,
-        stage: Stage::new(),
-        names: Names {
-            typed: IndexSet::new(alloc),
-            bounded: IndexSet::new(alloc),
-            valued: IndexSet::new(alloc),
-            defined: IndexSet::new(alloc),
-        },
-    };
-    least_told(&mut givings, Rule::K4, items)
 }

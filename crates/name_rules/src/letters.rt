@@ -1,17 +1,14 @@
 //! Letters in IMPLICIT statements (ANSI X3.9-1978, 8.5).
 
-ghost use Rattle.std.specs.Prelude.{◌≡◌, ◌||◌, ◌+◌, ◌-◌, ◌≤◌, ◌==◌, map, IfOk, OnOk};
+ghost use Rattle.std.specs.Prelude.{◌≡◌, ◌||◌, ◌+◌, ◌-◌, ◌≤◌, ◌==◌, map, IfOk, OnOk, []};
 ghost use Rattle.meaning.specs.NameRules.{is_reversed as is_reversed_by, last_letter};
-ghost use Rattle.meaning.specs.Refusals.{least};
 ghost use Rattle.meaning.specs.Syntax.{implicit_tree, letters_tree, shape_tree};
 ghost use Rattle.meaning.specs.Types.{implied_in, is_among};
 ghost use Rattle.name_rules.specs.Disputed.{has_clashing_letters};
 ghost use Rattle.name_rules.specs.Lettered.{AddsLetters, AreLetters, KnowsLetters, Takes, any_among, any_from, are_among, clash_by, clash_from, count_in_range, has, letters_at, letters_of as letters_of_all};
-ghost use Rattle.rule_passes.specs.Telling.{IsLeast};
 
-use meaning::refusal::{Broken, Rule};
 use meaning::syntax::{ImplicitPart, Item, Letters, Shape};
-use rule_passes::{Behind, least_told};
+use rule_passes::Behind;
 use std::alloc::{AllocError, Global};
 use std::collections::BTreeSet;
 
@@ -159,7 +156,7 @@ fn take_all(taken: &mut BTreeSet<u32>, letters: &[&Letters]) -> Result<(), Alloc
 }
 
 /// The rule on letters in IMPLICIT statements.
-struct Implied {
+pub struct Implied {
     alloc: Global,
     /// The codes of the letters that have come.
     taken: BTreeSet<u32>,
@@ -169,6 +166,18 @@ impl Drop for Implied {
     fn drop(self) {
         let Implied { alloc: _, taken } = self;
         drop(taken);
+    }
+}
+
+impl Implied {
+    /// The rule, where no statement was passed yet.
+    pub fn new(alloc: Global) -> Implied
+        ensures { KnowsLetters result.taken [] }
+    {
+        Implied {
+            alloc,
+            taken: BTreeSet::new(alloc),
+        }
     }
 }
 
@@ -186,15 +195,4 @@ impl Behind for Implied {
         let letters = letters_in(self.alloc, &*item.form.shape)?;
         take_all(&mut self.taken, &letters)
     }
-}
-
-/// The least line at which letters of IMPLICIT statements clash.
-pub fn clashing_letters(alloc: Global, items: &[&Item]) -> Result<Option<Broken>, AllocError>
-    ensures { IfOk result (IsLeast has_clashing_letters Rule.K4 items.now) }
-{
-    let mut implied = Implied {
-        alloc,
-        taken: BTreeSet::new(alloc),
-    };
-    least_told(&mut implied, Rule::K4, items)
 }

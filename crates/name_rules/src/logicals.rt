@@ -1,26 +1,23 @@
 //! Intrinsic functions in LOGICAL statements (ANSI X3.9-1978, 8.4.1 and 15.3).
 
-ghost use Rattle.std.specs.Prelude.{◌≡◌, IfOk, OnOk};
+ghost use Rattle.std.specs.Prelude.{◌≡◌, IfOk, OnOk, []};
 ghost use Rattle.meaning.specs.NameRules.{is_intrinsic_use as is_intrinsic_use_by};
-ghost use Rattle.meaning.specs.Refusals.{least};
 ghost use Rattle.meaning.specs.Syntax.{shape_tree};
 ghost use Rattle.name_maps.specs.NameSets.{texts};
 ghost use Rattle.roles.specs.RolesAt.{roles_at};
 ghost use Rattle.name_rules.specs.Disputed.{is_logical_intrinsic};
-ghost use Rattle.rule_passes.specs.Telling.{IsLeast};
 ghost use Rattle.name_uses.specs.Held.{AreNames, Joins};
 ghost use Rattle.name_uses.specs.NamesIn.{logical as names_logical};
 ghost use Rattle.name_rules.specs.HeldNames.{IsLogical, KnowsLogical, intrinsics_at, is_logical as is_logical_by};
 
 use crate::given::declared_names;
 use indexmap::IndexSet;
-use meaning::refusal::{Broken, Rule};
 use meaning::syntax::{Item, Shape};
 use name_uses::{
     NameUse, Sought, add_names, has_seen, is_function_use, names_passing, reads_of, set_of,
 };
 use roles::{Roles, Stage, is_intrinsic};
-use rule_passes::{Behind, least_told};
+use rule_passes::Behind;
 use std::alloc::{AllocError, Global};
 
 /// A reference to an intrinsic function.
@@ -130,6 +127,22 @@ impl Drop for Logicals<'_> {
     }
 }
 
+impl<'a> Logicals<'a> {
+    /// The rule, where no statement was passed yet.
+    pub fn new(alloc: Global, roles: &'a Roles<'a>) -> Logicals<'a>
+        ensures same { result.roles.now ≡ roles.now }
+        ensures none { KnowsLogical result [] }
+    {
+        Logicals {
+            alloc,
+            roles,
+            stage: Stage::new(),
+            intrinsics: IndexSet::new(alloc),
+            logicals: IndexSet::new(alloc),
+        }
+    }
+}
+
 impl Behind for Logicals<'_> {
     ghost breaks = { λ s before x. is_logical_intrinsic (roles_at s.roles.now) before x };
 
@@ -151,22 +164,4 @@ impl Behind for Logicals<'_> {
         self.stage.pass(self.roles, item);
         Ok(())
     }
-}
-
-/// The least line at which an intrinsic function is used that a LOGICAL statement names.
-pub fn logical_intrinsic(
-    alloc: Global,
-    roles: &Roles,
-    items: &[&Item],
-) -> Result<Option<Broken>, AllocError>
-    ensures { IfOk result (IsLeast (is_logical_intrinsic (roles_at roles.now)) Rule.K4 items.now) }
-{
-    let mut logicals = Logicals {
-        alloc,
-        roles,
-        stage: Stage::new(),
-        intrinsics: IndexSet::new(alloc),
-        logicals: IndexSet::new(alloc),
-    };
-    least_told(&mut logicals, Rule::K4, items)
 }

@@ -1,24 +1,21 @@
 //! Names that are used as variables and as functions (ANSI X3.9-1978, 18.2).
 
-ghost use Rattle.std.specs.Prelude.{◌≡◌, IfOk, OnOk};
+ghost use Rattle.std.specs.Prelude.{◌≡◌, IfOk, OnOk, []};
 ghost use Rattle.meaning.specs.NameRules.{is_function_use as is_function_use_by, is_variable_use as is_variable_use_by};
-ghost use Rattle.meaning.specs.Refusals.{least};
 ghost use Rattle.name_maps.specs.NameSets.{texts};
 ghost use Rattle.roles.specs.RolesAt.{roles_at};
 ghost use Rattle.name_rules.specs.Disputed.{is_used_twofold};
 ghost use Rattle.name_uses.specs.Held.{AreNames, Joins};
-ghost use Rattle.rule_passes.specs.Telling.{IsLeast};
 ghost use Rattle.name_rules.specs.HeldNames.{IsTwofold, KnowsUsed, functions_at, is_twofold, variables_at};
 
 use indexmap::IndexSet;
-use meaning::refusal::{Broken, Rule};
 use meaning::syntax::{Item, Shape};
 use name_uses::{
     NameUse, Sought, add_names, has_seen, is_bare, is_function_use, names_passing, reads_of,
     set_of, uses_of,
 };
 use roles::{Roles, Stage, is_other_name};
-use rule_passes::{Behind, least_told};
+use rule_passes::Behind;
 use std::alloc::{AllocError, Global};
 
 /// A use as a variable.
@@ -150,6 +147,22 @@ impl Drop for Twofold<'_> {
     }
 }
 
+impl<'a> Twofold<'a> {
+    /// The rule, where no statement was passed yet.
+    pub fn new(alloc: Global, roles: &'a Roles<'a>) -> Twofold<'a>
+        ensures same { result.roles.now ≡ roles.now }
+        ensures none { KnowsUsed result [] }
+    {
+        Twofold {
+            alloc,
+            roles,
+            stage: Stage::new(),
+            variables: IndexSet::new(alloc),
+            functions: IndexSet::new(alloc),
+        }
+    }
+}
+
 impl Behind for Twofold<'_> {
     ghost breaks = { λ s before x. is_used_twofold (roles_at s.roles.now) before x };
 
@@ -171,22 +184,4 @@ impl Behind for Twofold<'_> {
         self.stage.pass(self.roles, item);
         Ok(())
     }
-}
-
-/// The least line at which a name is used in both ways.
-pub fn used_twofold(
-    alloc: Global,
-    roles: &Roles,
-    items: &[&Item],
-) -> Result<Option<Broken>, AllocError>
-    ensures { IfOk result (IsLeast (is_used_twofold (roles_at roles.now)) Rule.K4 items.now) }
-{
-    let mut twofold = Twofold {
-        alloc,
-        roles,
-        stage: Stage::new(),
-        variables: IndexSet::new(alloc),
-        functions: IndexSet::new(alloc),
-    };
-    least_told(&mut twofold, Rule::K4, items)
 }

@@ -1,9 +1,9 @@
 //! Constants and bounds (ANSI X3.9-1978, 4.3, 5.1.1 and 8.6).
 
-ghost use Rattle.std.specs.Prelude.{◌≡◌, IfOk};
+ghost use Rattle.std.specs.Prelude.{◌≡◌, IfOk, OnOk};
 ghost use Rattle.std.specs.List.{list_any};
 ghost use Rattle.meaning.specs.NumberRules.{has_bad_number};
-ghost use Rattle.rule_passes.specs.Telling.{IsLeast};
+ghost use Rattle.rule_passes.specs.Telling.{AddsTold};
 ghost use Rattle.number_rules.specs.BadNumbers.{are_bad_at, defines_bad_at, have_bad_bound_at, is_bad_at};
 ghost use Rattle.declarations.specs.Bounded.{exprs_in_bounds, exprs_in_declarator};
 ghost use Rattle.declarations.specs.Tables.{IsBehind};
@@ -16,7 +16,7 @@ use declarations::{
 use meaning::refusal::{Broken, Rule};
 use meaning::syntax::{Bounds, Declarator, Item, NamedConstant, Shape};
 use roles::{Roles, declarators_in};
-use rule_passes::{Behind, least_told};
+use rule_passes::{Behind, add_told};
 use std::alloc::{AllocError, Global};
 
 /// Whether one of the constants of a PARAMETER statement is none, each with those before it.
@@ -109,17 +109,19 @@ impl Behind for BadNumbers<'_> {
     }
 }
 
-/// K6: the least line at which a constant is too great, or no constant stands where one has to.
-pub fn bad_number(
+/// K6: adds the pair of each line at which a constant is too great, or no constant stands where one has to.
+pub fn add_bad_constants(
+    pairs: &mut Vec<Broken>,
     alloc: Global,
     roles: &Roles,
     items: &[&Item],
-) -> Result<Option<Broken>, AllocError>
-    ensures { IfOk result (IsLeast (has_bad_number (roles_at roles.now)) Rule.K6 items.now) }
+) -> Result<(), AllocError>
+    ensures { OnOk result
+        (AddsTold (has_bad_number (roles_at roles.now)) Rule.K6 items.now pairs.old.items pairs.new.items) }
 {
     let mut bad = BadNumbers {
         alloc,
         table: table_of(alloc, roles),
     };
-    least_told(&mut bad, Rule::K6, items)
+    add_told(pairs, &mut bad, Rule::K6, items)
 }

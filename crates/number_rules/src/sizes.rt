@@ -1,10 +1,10 @@
 //! The sizes of arrays (ANSI X3.9-1978, 5.1.2).
 
-ghost use Rattle.std.specs.Prelude.{◌≡◌, IfOk};
+ghost use Rattle.std.specs.Prelude.{◌≡◌, OnOk};
 ghost use Rattle.std.specs.List.{list_any};
 ghost use Rattle.meaning.specs.Arrays.{size};
 ghost use Rattle.meaning.specs.NumberRules.{has_large_array, is_reversed as is_reversed_in};
-ghost use Rattle.rule_passes.specs.Telling.{Finds, IsLeast};
+ghost use Rattle.rule_passes.specs.Telling.{AddsTold, Finds};
 ghost use Rattle.declarations.specs.Dimensioned.{dimension_at, dimensions_at};
 ghost use Rattle.number_rules.specs.CappedSizes.{IsCapped};
 ghost use Rattle.number_rules.specs.Sized.{AreBehind, capped_with, elements_at, has_too_many_at, have_too_large_at, is_too_large_at};
@@ -14,7 +14,7 @@ use declarations::{Table, dimension_of, lacks_bound, pass_constants, table_of};
 use meaning::refusal::{Broken, Rule};
 use meaning::syntax::{Bounds, Declarator, Item};
 use roles::{Roles, declarators_in};
-use rule_passes::{Behind, least_told};
+use rule_passes::{Behind, add_told};
 use std::alloc::{AllocError, Global};
 
 /// The most elements that the arrays of a program may have.
@@ -135,18 +135,20 @@ impl Behind for LargeArrays<'_> {
     }
 }
 
-/// K7: the least line at which an array is too large.
-pub fn large_array(
+/// K7: adds the pair of each line at which an array is too large.
+pub fn add_large_arrays(
+    pairs: &mut Vec<Broken>,
     alloc: Global,
     roles: &Roles,
     items: &[&Item],
-) -> Result<Option<Broken>, AllocError>
-    ensures { IfOk result (IsLeast (has_large_array (roles_at roles.now)) Rule.K7 items.now) }
+) -> Result<(), AllocError>
+    ensures { OnOk result
+        (AddsTold (has_large_array (roles_at roles.now)) Rule.K7 items.now pairs.old.items pairs.new.items) }
 {
     let mut large = LargeArrays {
         alloc,
         table: table_of(alloc, roles),
         elements: 0,
     };
-    least_told(&mut large, Rule::K7, items)
+    add_told(pairs, &mut large, Rule::K7, items)
 }

@@ -5,3 +5,4 @@ pub mod Merging
 pub mod Answering
 pub mod Membership
 pub mod Both
+pub mod Adding

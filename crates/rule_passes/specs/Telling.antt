@@ -32,6 +32,10 @@ Passes old new x = (before : List ItemTree) → old before → new (before ++ it
 abbrev pub IsLeast : (List ItemTree → ItemTree → Bool) → Rule → List (Bor Item) → Option Broken → Type 0
 IsLeast breaks rule items b = b ≡ least (told breaks rule [] (map tree_at items))
 
+-- the pair of each line at which one does, behind the pairs that were there
+abbrev pub AddsTold : (List ItemTree → ItemTree → Bool) → Rule → List (Bor Item) → List Broken → List Broken → Type 0
+AddsTold breaks rule items old new = new ≡ old ++ told breaks rule [] (map tree_at items)
+
 -- ---- within lists
 
 abbrev pub breaks_within : (Around → ItemTree → Bool) → Item → Around → Bool
@@ -64,3 +68,17 @@ LoopTells knows breaks rule outer b =
 
 abbrev pub ArmsTell : (Around → Type 0) → (Around → ItemTree → Bool) → Rule → List Arm → Option Broken → Type 0
 ArmsTell knows breaks rule arms b = (a : Around) → knows a → b ≡ least (told_in_arms breaks rule a (arms_tree arms))
+
+-- the pairs of all lines at which statements do, behind those that were there: of one, of a list, of a DO statement and its range, of arms
+abbrev pub AddsOne : (Around → Type 0) → (Around → ItemTree → Bool) → Rule → Item → List Broken → List Broken → Type 0
+AddsOne knows breaks rule x old new = (a : Around) → knows a → new ≡ old ++ broken_if (breaks a (item_tree x)) x.line rule
+
+abbrev pub AddsIn : (Around → Type 0) → (Around → ItemTree → Bool) → Rule → List Member → List Broken → List Broken → Type 0
+AddsIn knows breaks rule members old new = (a : Around) → knows a → new ≡ old ++ told_in breaks rule a (members_tree members)
+
+abbrev pub AddsLoop : (Around → Type 0) → (Around → ItemTree → Bool) → Rule → Loop → List Broken → List Broken → Type 0
+AddsLoop knows breaks rule outer old new =
+    (a : Around) → knows a → new ≡ old ++ (broken_if (breaks a (item_tree outer.head)) outer.head.line rule ++ told_in breaks rule (in_range a (item_tree outer.head) (members_tree outer.range.items)) (members_tree outer.range.items))
+
+abbrev pub AddsArms : (Around → Type 0) → (Around → ItemTree → Bool) → Rule → List Arm → List Broken → List Broken → Type 0
+AddsArms knows breaks rule arms old new = (a : Around) → knows a → new ≡ old ++ told_in_arms breaks rule a (arms_tree arms)

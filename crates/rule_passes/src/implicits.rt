@@ -1,6 +1,6 @@
 //! IMPLICIT NONE, which is the program's own, beside other IMPLICIT statements (ANSI X3.9-1978, 8.5).
 
-ghost use Rattle.std.specs.Prelude.{◌≡◌, IfOk};
+ghost use Rattle.std.specs.Prelude.{◌≡◌, [], IfOk};
 ghost use Rattle.meaning.specs.NameRules.{has_rival};
 ghost use Rattle.rule_passes.specs.Rivals.{KnowsImplicit};
 ghost use Rattle.rule_passes.specs.Telling.{IsLeast};
@@ -12,7 +12,7 @@ use std::alloc::AllocError;
 
 /// The rule on IMPLICIT NONE beside other IMPLICIT statements.
 #[derive(Drop)]
-struct Rivals {
+pub struct Rivals {
     /// An IMPLICIT statement of either kind was passed.
     any: bool,
     /// IMPLICIT NONE was passed.
@@ -47,14 +47,23 @@ impl Behind for Rivals {
     }
 }
 
+impl Rivals {
+    /// The rule, where no statement was passed yet.
+    pub fn new() -> Rivals
+        ensures { KnowsImplicit result.any result.none [] }
+    {
+        Rivals {
+            any: false,
+            none: false,
+        }
+    }
+}
+
 /// The least line at which IMPLICIT NONE stands beside another IMPLICIT statement, the later of the two. The `AllocError`
 /// is that of `least_told`.
 pub fn rival_implicit(items: &[&Item]) -> Result<Option<Broken>, AllocError>
     ensures { IfOk result (IsLeast has_rival Rule.K4 items.now) }
 {
-    let mut rivals = Rivals {
-        any: false,
-        none: false,
-    };
-    least_told(&mut rivals, Rule::K4, items)
+    let mut passed = Rivals::new();
+    least_told(&mut passed, Rule::K4, items)
 }

@@ -3,11 +3,13 @@
 #![tactic(auto)]
 
 mod broken;
+mod either;
 mod implicits;
 mod pass;
 mod within;
 
-pub use broken::broken_if;
-pub use implicits::rival_implicit;
-pub use pass::{Behind, least_told};
-pub use within::{Within, least_in};
+pub use broken::{add_broken, broken_if};
+pub use either::Either;
+pub use implicits::{Rivals, rival_implicit};
+pub use pass::{Behind, add_told, least_told};
+pub use within::{Within, add_in, least_in};

@@ -2,9 +2,9 @@
 
 ghost use Rattle.std.specs.Prelude.{◌≡◌, Bool, List, [], IfOk, OnOk};
 ghost use Rattle.meaning.specs.Syntax.{ItemTree};
-ghost use Rattle.rule_passes.specs.Telling.{Finds, IsLeast, Passes, breaks_behind};
+ghost use Rattle.rule_passes.specs.Telling.{AddsTold, Finds, IsLeast, Passes, breaks_behind};
 
-use crate::broken::broken_if;
+use crate::broken::{add_broken, broken_if};
 use meaning::refusal::{Broken, Rule, lesser};
 use meaning::syntax::Item;
 use std::alloc::AllocError;
@@ -44,4 +44,23 @@ pub fn least_told<B: Behind>(
         behind.pass(item)?;
     }
     Ok(best)
+}
+
+/// Adds the pair of each line at which a statement breaks a rule behind the others, in their order; `behind` has passed none so
+/// far. The `AllocError` comes where a growth was refused.
+pub fn add_told<B: Behind>(
+    pairs: &mut Vec<Broken>,
+    behind: &mut B,
+    rule: Rule,
+    items: &[&Item],
+) -> Result<(), AllocError>
+    requires { B.knows behind.old [] }
+    ensures { OnOk result (AddsTold (B.breaks behind.old) rule items.now pairs.old.items pairs.new.items) }
+{
+    for item in items {
+        let is_broken = behind.is_broken(item)?;
+        add_broken(pairs, is_broken, item.line, rule)?;
+        behind.pass(item)?;
+    }
+    Ok(())
 }

@@ -1,11 +1,16 @@
--- Statements and statement functions that codes can be made of (ANSI X3.9-1978, chapters 6, 10, 11 and 12, and 15.4).
+-- Statements and statement functions that codes can be made of (ANSI X3.9-1978, chapters 6, 10, 11
+-- and 12, and 15.4).
 use Rattle.std.specs.Prelude.{◌≡◌, ◌≤◌, ℕ, List, [], IsTrue, length, slice_get, Option, Some, None}
 use Rattle.std.specs.List.{AllByRecursion}
 use Rattle.meaning.specs.Arrays.{Dimension}
 use Rattle.meaning.specs.Characters.{number_of}
 use Rattle.meaning.specs.Scopes.{Definition}
 use Rattle.meaning.specs.Spelling.{is_simple}
-use Rattle.meaning.specs.Syntax.{ExprTree, name, ExprsTree, no_exprs, exprs, LimitsTree, ListItemTree, ListItemsTree, no_items, more_items, value_item, loop_item, ShapeTree, arithmetic_if, assignment, block_if, computed_going, doing, doing_while, else_if, going, logical_if, printing, writing}
+use Rattle.meaning.specs.Syntax.{ExprTree, name, ExprsTree, no_exprs, exprs, LimitsTree}
+use Rattle.meaning.specs.Syntax.{ListItemTree, ListItemsTree, no_items, more_items, value_item}
+use Rattle.meaning.specs.Syntax.{loop_item, ShapeTree, arithmetic_if, assignment, block_if}
+use Rattle.meaning.specs.Syntax.{computed_going, doing, doing_while, else_if, going, logical_if}
+use Rattle.meaning.specs.Syntax.{printing, writing}
 use Rattle.meaning.specs.Trees.{Nested, flatten}
 use Rattle.code_laws.specs.Meant.{Setting}
 use Rattle.compiler.specs.Ruly.{IsRuly, IsRulyPlace}
@@ -18,11 +23,25 @@ use Rattle.rule_laws.specs.Sized.{count_of}
 -- those of the statements of a program unit, and that of the statement function at a place
 abbrev pub setting_of : Nested → Setting
 setting_of t =
-    record { names = names_of t; numbers = numbers_of t; cells = count_of t; dummies = []; callable = length (names_of t).definitions }
+    record {
+      names = names_of t;
+      numbers = numbers_of t;
+      cells = count_of t;
+      dummies =
+          [];
+      callable = length (names_of t).definitions;
+    }
 
 abbrev pub setting_within : Nested → ℕ → Definition → Setting
 setting_within t at d =
-    record { names = names_of t; numbers = numbers_of t; cells = count_of t; dummies = d.dummies; callable = at }
+    record {
+      names = names_of t;
+      numbers = numbers_of t;
+      cells = count_of t;
+      dummies =
+          d.dummies;
+      callable = at;
+    }
 
 -- ---- loops and output lists
 
@@ -47,12 +66,14 @@ abbrev mutual
 
   pub IsItemCodable : Setting → ListItemTree → Type 0
   IsItemCodable s (value_item e) = IsValueCodable s e
-  IsItemCodable s (loop_item xs variable limits) = IsLoopCodable s variable limits × AreItemsCodable s xs
+  IsItemCodable s (loop_item xs variable limits) =
+      IsLoopCodable s variable limits × AreItemsCodable s xs
 
 -- ---- statements
 
 -- an element with its value; what is no array's defines a statement function
-abbrev pub IsElementCodable : Setting → List ℕ → ExprsTree → ExprTree → Option (List Dimension) → Type 0
+abbrev pub IsElementCodable : Setting → List ℕ → ExprsTree → ExprTree → Option (List Dimension) →
+    Type 0
 IsElementCodable s n es e (Some ds) = IsRulyPlace s n es × IsRuly s e
 IsElementCodable s n es e None = Unit {0}
 
@@ -83,4 +104,5 @@ AreCodable t = AllByRecursion (λ x. IsCodable (setting_of t) x.shape) (flatten 
 
 abbrev pub AreFunctionsCodable : Nested → Type 0
 AreFunctionsCodable t =
-    (at : ℕ) (d : Definition) → slice_get (names_of t).definitions at ≡ Some d → IsRuly (setting_within t at d) d.body
+    (at : ℕ) (d : Definition) → slice_get (names_of t).definitions at ≡ Some d →
+    IsRuly (setting_within t at d) d.body

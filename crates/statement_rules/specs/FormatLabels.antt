@@ -1,5 +1,5 @@
 -- Sets of the labels of FORMAT statements.
-use Rattle.std.specs.Prelude.{◌≡◌, ◌≤◌, ◌^◌, ℕ, Bool, true, false, not, ◌||◌, List, map, is_none, Option, Result}
+use Rattle.std.specs.Prelude.{◌≡◌, ◌≤◌, ◌^◌, ℕ, Bool, true, false, not, ◌||◌, List, [], map, is_none, Option, Result}
 use Rattle.std.specs.Result.{IfOk}
 use Rattle.std.specs.List.{list_any}
 use Rattle.std.specs.Ordering.{nat_cmp}
@@ -91,3 +91,12 @@ breaks_places r before x =
 pub record KnowsOutput (o : BadOutput) (before : List ItemTree) : Type 0 where
   pub table : IsBehind o.table before
   pub labels : AreFormats o.labels (map tree_at o.table.roles.now.items.now)
+
+-- what is known in front of all statements of a unit
+pub record IsOutput (r : Roles) (o : BadOutput) : Type 0 where
+  pub roles : o.table.roles.now ≡ r
+  pub known : KnowsOutput o []
+
+-- both parts of the rule
+abbrev pub breaks_either : BadOutput → List ItemTree → ItemTree → Bool
+breaks_either o before x = breaks_places o.table.roles.now before x || breaks_reading before x

@@ -1,5 +1,5 @@
 -- Transfers by the labels that stand in the lists around them.
-use Rattle.std.specs.Prelude.{◌≡◌, ◌≤◌, ◌^◌, ◌==◌, ℕ, Bool, not, ◌||◌, if◌then◌else◌, List, [], Option, count_by, map}
+use Rattle.std.specs.Prelude.{◌≡◌, ◌≤◌, ◌^◌, ◌==◌, ℕ, Bool, not, ◌||◌, if◌then◌else◌, List, [], ◌++◌, Option, count_by, map}
 use Rattle.std.specs.Borrow.{Bor}
 use Rattle.std.specs.BTreeSet.{BTreeSet, contains}
 use Rattle.std.specs.Global.{Vec}
@@ -13,7 +13,6 @@ use Rattle.meaning.specs.declared.syntax.Member.{Member}
 use Rattle.meaning.specs.declared.syntax.Shape.{Shape}
 use Rattle.meaning.specs.Characters.{number_of}
 use Rattle.meaning.specs.LabelRules.{breaks_transfers, has_label, is_label_at, not_executable, transfers_of}
-use Rattle.meaning.specs.Refusals.{least}
 use Rattle.meaning.specs.Scopes.{is_specification}
 use Rattle.meaning.specs.Surroundings.{Around, in_body, told_in}
 use Rattle.meaning.specs.Syntax.{ItemTree, ShapeTree, shape_tree}
@@ -70,11 +69,12 @@ abbrev pub AreClosed : Roles → List (Bor Item) → BTreeSet ℕ → Type 0
 AreClosed r items closed =
     (s : ℕ) → contains nat_cmp closed s ≡ list_any (has_label s) (not_executable (roles_at r) [] (map tree_at items))
 
--- the pair of the least line at which a statement of a body breaks a rule
-abbrev pub IsLeastIn : (Around → ItemTree → Bool) → Rule → List Member → Option Broken → Type 0
-IsLeastIn breaks rule members b =
-    b ≡ least (told_in breaks rule (in_body (members_tree members)) (members_tree members))
+-- the pair of each line at which a statement of a body breaks a rule, behind the pairs that were there
+abbrev pub AddsInBody : (Around → ItemTree → Bool) → Rule → List Member → List Broken → List Broken → Type 0
+AddsInBody breaks rule members old new =
+    new ≡ old ++ told_in breaks rule (in_body (members_tree members)) (members_tree members)
 
--- that of a transfer that misses a label, in a body of a unit with these statements
-abbrev pub MissesLeast : Roles → List (Bor Item) → List Member → Option Broken → Type 0
-MissesLeast r items members b = IsLeastIn (breaks_transfers (roles_at r) (map tree_at items)) K2 members b
+-- those of the transfers that miss a label, in a body of a unit with these statements
+abbrev pub AddsMissed : Roles → List (Bor Item) → List Member → List Broken → List Broken → Type 0
+AddsMissed r items members old new =
+    AddsInBody (breaks_transfers (roles_at r) (map tree_at items)) K2 members old new

@@ -1,7 +1,7 @@
 //! Variables of DO statements and implied DOs that are none, or that are set while they control one (ANSI X3.9-1978, 9.3, 11.10
 //! and 12.8.2.3).
 
-ghost use Rattle.std.specs.Prelude.{◌≡◌, [], map, reverse, IfOk};
+ghost use Rattle.std.specs.Prelude.{◌≡◌, [], map, reverse, OnOk};
 ghost use Rattle.std.specs.List.{list_any};
 ghost use Rattle.meaning.specs.LoopRules.{breaks_loops, has_nested_variable, resets_in};
 ghost use Rattle.meaning.specs.Surroundings.{loop_variables};
@@ -10,14 +10,14 @@ ghost use Rattle.meaning.specs.Uses.{is_one_of};
 ghost use Rattle.roles.specs.RolesAt.{roles_at};
 ghost use Rattle.statement_rules.specs.Counters.{counters, has_one_in, sets_one};
 ghost use Rattle.statement_rules.specs.Implied.{misuses_one, stands_in_own};
-ghost use Rattle.statement_rules.specs.Reached.{IsLeastIn};
+ghost use Rattle.statement_rules.specs.Reached.{AddsInBody};
 
 use crate::counters::{enter_counter, is_counter};
 use crate::loops::{counts_by_none, leave_counter};
 use meaning::refusal::{Broken, Rule};
 use meaning::syntax::{DataSet, Exprs, Item, ListItem, ListItems, Member, Shape};
 use roles::Roles;
-use rule_passes::{Within, least_in};
+use rule_passes::{Within, add_in};
 use std::alloc::{AllocError, Global};
 
 /// Whether a name is the variable of an implied DO in a list.
@@ -177,18 +177,21 @@ impl Within for Controlled<'_> {
     fn leave_arm(&mut self, _body: &[Member]) {}
 }
 
-/// K9: the least line at which a DO statement or an implied DO has no INTEGER variable, or one is set that controls one around.
-pub fn misused_variable(
+/// K9: adds the pair of each line at which a DO statement or an implied DO has no INTEGER variable, or one is set that controls
+/// one around.
+pub fn add_bad_loop_variables(
+    pairs: &mut Vec<Broken>,
     alloc: Global,
     roles: &Roles,
     members: &[Member],
-) -> Result<Option<Broken>, AllocError>
-    ensures { IfOk result (IsLeastIn (breaks_loops (roles_at roles.now)) Rule.K9 members.now) }
+) -> Result<(), AllocError>
+    ensures { OnOk result
+        (AddsInBody (breaks_loops (roles_at roles.now)) Rule.K9 members.now pairs.old.items pairs.new.items) }
 {
     let mut controlled = Controlled {
         alloc,
         roles,
         variables: Vec::new(alloc),
     };
-    least_in(&mut controlled, Rule::K9, members)
+    add_in(pairs, &mut controlled, Rule::K9, members)
 }

@@ -1,21 +1,21 @@
 //! Units and formats (ANSI X3.9-1978, 12.3, 12.4 and 13.1).
 
-ghost use Rattle.std.specs.Prelude.{◌≡◌, ◌^◌, ◌≤◌, ℕ, false, map, IfOk};
+ghost use Rattle.std.specs.Prelude.{◌≡◌, ◌||◌, ◌^◌, ◌≤◌, [], ℕ, false, map, IfOk, OnOk};
 ghost use Rattle.meaning.specs.Trees.{item_tree};
 ghost use Rattle.rule_passes.specs.Listed.{tree_at};
 ghost use Rattle.meaning.specs.LabelRules.{is_format_at, is_label_at, is_six as is_value_six};
-ghost use Rattle.rule_passes.specs.Telling.{Finds, IsLeast};
-ghost use Rattle.statement_rules.specs.FormatLabels.{AreFormats, HasFormats, KnowsOutput, breaks_output, breaks_places, is_format_of, is_found_by, is_misplaced_at, is_unit_at};
+ghost use Rattle.rule_passes.specs.Telling.{AddsTold, Finds};
+ghost use Rattle.statement_rules.specs.FormatLabels.{AreFormats, HasFormats, IsOutput, KnowsOutput, breaks_either, breaks_output, breaks_places, is_format_of, is_found_by, is_misplaced_at, is_unit_at};
 ghost use Rattle.statement_rules.specs.FormatsFound.{HoldsFormats};
 
-use crate::reading::{Formats, read_formats};
+use crate::reading::{Formats, read_item};
 use crate::transfers::label_of;
 use declarations::{Table, is_no_constant, pass_constants, table_of, value_of};
 use meaning::ending::Value;
-use meaning::refusal::{Broken, Rule, lesser};
+use meaning::refusal::{Broken, Rule};
 use meaning::syntax::{FormatSource, Item, Shape, Unit};
 use roles::Roles;
-use rule_passes::{Behind, least_told};
+use rule_passes::{Behind, add_broken};
 use std::alloc::{AllocError, Global};
 use std::collections::BTreeSet;
 
@@ -127,38 +127,59 @@ impl Behind for BadOutput<'_> {
     }
 }
 
-/// The least line at which a unit or the label of a format isn't allowed.
-fn misplaced(alloc: Global, roles: &Roles) -> Result<Option<Broken>, AllocError>
-    ensures { IfOk result (IsLeast (breaks_places roles.now) Rule.K11 roles.now.items.now) }
+/// What is known of units and of the labels of formats, where no statement was passed yet.
+fn output_of<'a>(alloc: Global, roles: &'a Roles<'a>) -> Result<BadOutput<'a>, AllocError>
+    ensures { IfOk result (IsOutput roles.now) }
 {
     let labels = format_labels(alloc, roles.items)?;
-    let mut output = BadOutput {
+    Ok(BadOutput {
         alloc,
         table: table_of(alloc, roles),
         labels,
-    };
-    least_told(&mut output, Rule::K11, roles.items)
-}
-
-/// What is found out about units and formats.
-#[derive(Drop)]
-pub struct Output {
-    /// The least line at which one isn't allowed.
-    pub broken: Option<Broken>,
-    /// The formats.
-    pub formats: Formats,
-}
-
-/// K11: the least line at which a unit, a format label or a format isn't allowed, and the formats, each of which is read once.
-pub fn bad_output(alloc: Global, roles: &Roles) -> Result<Output, AllocError>
-    ensures broken { IfOk result
-        (λ o. IsLeast (breaks_output roles.now) Rule.K11 roles.now.items.now o.broken) }
-    ensures formats { IfOk result (λ o. HoldsFormats (map tree_at roles.now.items.now) o.formats) }
-{
-    let places = misplaced(alloc, roles)?;
-    let (formats, texts) = read_formats(alloc, roles.items)?;
-    Ok(Output {
-        broken: lesser(places, texts),
-        formats,
     })
+}
+
+/// Whether a statement that is misplaced or whose format isn't read breaks the rule.
+fn is_bad(misplaced: bool, unread: bool) -> bool
+    ensures { result ≡ (misplaced || unread) }
+{
+    misplaced || unread
+}
+
+/// Adds the pair of each statement that breaks the rule, and reads the formats.
+fn add_and_read(
+    pairs: &mut Vec<Broken>,
+    alloc: Global,
+    output: &mut BadOutput,
+    items: &[&Item],
+) -> Result<Formats, AllocError>
+    requires { KnowsOutput output.old [] }
+    ensures told { OnOk result
+        (AddsTold (breaks_either output.old) Rule.K11 items.now pairs.old.items pairs.new.items) }
+    ensures formats { IfOk result (λ f. HoldsFormats (map tree_at items.now) f) }
+{
+    let mut formats = Formats::new(alloc);
+    for item in items {
+        let misplaced = output.is_broken(item)?;
+        let unread = read_item(&mut formats, alloc, item)?;
+        let broken = is_bad(misplaced, unread);
+        add_broken(pairs, broken, item.line, Rule::K11)?;
+        output.pass(item)?;
+    }
+    Ok(formats)
+}
+
+/// K11: adds the pair of each line at which a unit, a format label or a format isn't allowed; the formats, each of which is read
+/// once.
+pub fn add_bad_output(
+    pairs: &mut Vec<Broken>,
+    alloc: Global,
+    roles: &Roles,
+) -> Result<Formats, AllocError>
+    ensures told { OnOk result
+        (AddsTold (breaks_output roles.now) Rule.K11 roles.now.items.now pairs.old.items pairs.new.items) }
+    ensures formats { IfOk result (λ f. HoldsFormats (map tree_at roles.now.items.now) f) }
+{
+    let mut output = output_of(alloc, roles)?;
+    add_and_read(pairs, alloc, &mut output, roles.items)
 }

@@ -1,13 +1,13 @@
 //! Statement labels (ANSI X3.9-1978, 3.4).
 
-ghost use Rattle.std.specs.Prelude.{IfOk};
+ghost use Rattle.std.specs.Prelude.{OnOk};
 ghost use Rattle.meaning.specs.LabelRules.{has_repeated_label};
-ghost use Rattle.rule_passes.specs.Telling.{IsLeast};
+ghost use Rattle.rule_passes.specs.Telling.{AddsTold};
 ghost use Rattle.statement_rules.specs.Labels.{AreLabels};
 
 use meaning::refusal::{Broken, Rule};
 use meaning::syntax::Item;
-use rule_passes::{Behind, least_told};
+use rule_passes::{Behind, add_told};
 use std::alloc::{AllocError, Global};
 use std::collections::BTreeSet;
 
@@ -40,12 +40,17 @@ impl Behind for Labels {
     }
 }
 
-/// K1: the least line at which an earlier statement's label stands again.
-pub fn repeated_label(alloc: Global, items: &[&Item]) -> Result<Option<Broken>, AllocError>
-    ensures { IfOk result (IsLeast has_repeated_label Rule.K1 items.now) }
+/// K1: adds the pair of each line at which an earlier statement's label stands again.
+pub fn add_repeated_labels(
+    pairs: &mut Vec<Broken>,
+    alloc: Global,
+    items: &[&Item],
+) -> Result<(), AllocError>
+    ensures { OnOk result
+        (AddsTold has_repeated_label Rule.K1 items.now pairs.old.items pairs.new.items) }
 {
     let mut labels = Labels {
         known: BTreeSet::new(alloc),
     };
-    least_told(&mut labels, Rule::K1, items)
+    add_told(pairs, &mut labels, Rule::K1, items)
 }

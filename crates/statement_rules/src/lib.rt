@@ -1,6 +1,6 @@
 //! The rules on labels, transfers of control, the variables of DO statements, units and formats (ANSI X3.9-1978, chapters 3, 11, 12
-//! and 13). K1: `repeated_label`; K2: `missed_label`; K9: `misused_variable`; K11: `bad_output`,
-//! which hands on the formats that it read.
+//! and 13). K1: `add_repeated_labels`; K2: `add_missed_labels`; K9: `add_bad_loop_variables`; K11: `add_bad_output`, which hands on the
+//! formats that it read.
 #![tactic(auto)]
 
 mod control;
@@ -13,8 +13,8 @@ mod reach;
 mod reading;
 mod transfers;
 
-pub use control::misused_variable;
-pub use formats::{Output, bad_output};
-pub use labels::repeated_label;
+pub use control::add_bad_loop_variables;
+pub use formats::add_bad_output;
+pub use labels::add_repeated_labels;
 pub use reading::Formats;
-pub use transfers::missed_label;
+pub use transfers::add_missed_labels;

@@ -1,22 +1,19 @@
 //! The formats of a program unit, each read once (ANSI X3.9-1978, 12.4 and 13.1).
 
-ghost use Rattle.std.specs.Prelude.{◌≡◌, ◌^◌, ◌≤◌, ℕ, false, true, None, Some, IfOk, OnOk, is_none, is_some, map, option_map};
+ghost use Rattle.std.specs.Prelude.{◌≡◌, ◌^◌, ◌≤◌, [], ℕ, false, true, None, Some, IfOk, OnOk, is_none, is_some, option_map};
 ghost use Rattle.meaning.specs.Formats.{descriptors_of, format_in, undoubled};
 ghost use Rattle.meaning.specs.LabelRules.{is_label_at};
 ghost use Rattle.meaning.specs.Syntax.{format_tree, shape_tree};
 ghost use Rattle.meaning.specs.Trees.{item_tree};
 ghost use Rattle.format_edit.specs.Formatted.{descriptors};
 ghost use Rattle.name_maps.specs.Keeping.{kept_at};
-ghost use Rattle.rule_passes.specs.Listed.{tree_at};
-ghost use Rattle.rule_passes.specs.Telling.{IsLeast, Passes};
+ghost use Rattle.rule_passes.specs.Telling.{Passes};
 ghost use Rattle.statement_rules.specs.FormatLabels.{FindsOk, breaks_reading, is_unread, is_unread_source};
 ghost use Rattle.statement_rules.specs.FormatsFound.{AddsFormat, AddsTexts, HoldsFormats, HoldsTexts, format_text, text_of_source, texts_of_shape, the_text};
 
 use format_edit::{Format, FormatFault};
 use indexmap::IndexMap;
-use meaning::refusal::{Broken, Rule, lesser};
 use meaning::syntax::{FormatSource, Item, Shape};
-use rule_passes::broken_if;
 use std::alloc::{AllocError, Global};
 use std::collections::BTreeMap;
 
@@ -27,6 +24,18 @@ pub struct Formats {
     pub by_label: BTreeMap<u32, Format>,
     /// Those in character constants by the constants' texts.
     pub texts: IndexMap<Vec<u8>, Format>,
+}
+
+impl Formats {
+    /// Those of no statements.
+    pub(crate) fn new(alloc: Global) -> Formats
+        ensures { HoldsFormats [] result }
+    {
+        Formats {
+            by_label: BTreeMap::new(alloc),
+            texts: IndexMap::new(alloc),
+        }
+    }
 }
 
 /// Puts a format behind a label, unless one stands there.
@@ -182,7 +191,11 @@ fn label_in(item: &Item) -> Option<u32>
 }
 
 /// Reads the format of a statement, if it has one; whether what has to be one is none.
-fn read_item(formats: &mut Formats, alloc: Global, item: &Item) -> Result<bool, AllocError>
+pub(crate) fn read_item(
+    formats: &mut Formats,
+    alloc: Global,
+    item: &Item,
+) -> Result<bool, AllocError>
     ensures told { FindsOk (λ before. HoldsFormats before formats.old)
         (λ before. breaks_reading before (item_tree item.now)) result }
     ensures kept { OnOk result
@@ -194,24 +207,4 @@ fn read_item(formats: &mut Formats, alloc: Global, item: &Item) -> Result<bool, 
         Some(text) => read_labelled(&mut formats.by_label, alloc, label, text),
         None => read_shape(&mut formats.texts, alloc, &*item.form.shape),
     }
-}
-
-/// The formats of statements, and the least line at which what has to be a format is none.
-pub(crate) fn read_formats(
-    alloc: Global,
-    items: &[&Item],
-) -> Result<(Formats, Option<Broken>), AllocError>
-    ensures formats { IfOk result (λ r. HoldsFormats (map tree_at items.now) r.0) }
-    ensures broken { IfOk result (λ r. IsLeast breaks_reading Rule.K11 items.now r.1) }
-{
-    let mut formats = Formats {
-        by_label: BTreeMap::new(alloc),
-        texts: IndexMap::new(alloc),
-    };
-    let mut best = None;
-    for item in items {
-        let is_broken = read_item(&mut formats, alloc, item)?;
-        best = lesser(best, broken_if(is_broken, item.line, Rule::K11));
-    }
-    Ok((formats, best))
 }

@@ -5,7 +5,7 @@ ghost use Rattle.meaning.specs.Characters.{number_of};
 ghost use Rattle.roles.specs.Stages.{IsBehind};
 ghost use Rattle.rule_passes.specs.Telling.{Finds};
 ghost use Rattle.statement_rules.specs.Counted.{AreCounts};
-ghost use Rattle.statement_rules.specs.Reached.{AreClosed, Closes, IsAround, MissesLeast, is_not_executable, misses_by, misses_label, misses_one_of, shape_misses};
+ghost use Rattle.statement_rules.specs.Reached.{AddsMissed, AreClosed, Closes, IsAround, is_not_executable, misses_by, misses_label, misses_one_of, shape_misses};
 
 use crate::counts::{LinesByLabel, add_label, count_of};
 use crate::reach::{add_list, take_list};
@@ -13,7 +13,7 @@ use meaning::number::number;
 use meaning::refusal::{Broken, Rule};
 use meaning::syntax::{Item, Member, Shape};
 use roles::{Roles, Stage, is_specification};
-use rule_passes::{Within, least_in};
+use rule_passes::{Within, add_in};
 use std::alloc::{AllocError, Global};
 use std::collections::{BTreeMap, BTreeSet};
 
@@ -172,14 +172,17 @@ fn closed_labels(alloc: Global, roles: &Roles, items: &[&Item]) -> Result<BTreeS
     Ok(closed)
 }
 
-/// K2: the least line at which a transfer misses a label, in a list of statements that is the body of a unit with these items.
-pub fn missed_label(
+/// K2: adds the pair of each line at which a transfer misses a label, in a list of statements that is the body of a unit with
+/// these items.
+pub fn add_missed_labels(
+    pairs: &mut Vec<Broken>,
     alloc: Global,
     roles: &Roles,
     items: &[&Item],
     members: &[Member],
-) -> Result<Option<Broken>, AllocError>
-    ensures { IfOk result (MissesLeast roles.now items.now members.now) }
+) -> Result<(), AllocError>
+    ensures { OnOk result
+        (AddsMissed roles.now items.now members.now pairs.old.items pairs.new.items) }
 {
     let all = lines_of(alloc, items)?;
     let closed = closed_labels(alloc, roles, items)?;
@@ -191,5 +194,5 @@ pub fn missed_label(
         closed: &closed,
         reach,
     };
-    least_in(&mut transfers, Rule::K2, members)
+    add_in(pairs, &mut transfers, Rule::K2, members)
 }

@@ -1,12 +1,11 @@
 //! Names of type REAL (ANSI X3.9-1978, 4.1.2 and 4.4).
 
-ghost use Rattle.std.specs.Prelude.{◌≡◌, ◌||◌, Some, IfOk};
+ghost use Rattle.std.specs.Prelude.{◌≡◌, ◌||◌, Some, OnOk};
 ghost use Rattle.meaning.specs.NameRules.{has_real_name, is_real as is_real_by, is_real_use};
-ghost use Rattle.meaning.specs.Refusals.{least};
 ghost use Rattle.meaning.specs.Syntax.{exprs_tree, shape_tree};
 ghost use Rattle.roles.specs.RolesAt.{roles_at};
 ghost use Rattle.roles.specs.Stages.{IsBehind};
-ghost use Rattle.rule_passes.specs.Telling.{IsLeast};
+ghost use Rattle.rule_passes.specs.Telling.{AddsTold};
 ghost use Rattle.name_uses.specs.NamesIn.{constant, declared, valued};
 ghost use Rattle.type_rules.specs.RealNames.{any_defined_real, any_real, dummies as names_of, has_real as has_real_by, of_function};
 
@@ -14,7 +13,7 @@ use meaning::refusal::{Broken, Rule};
 use meaning::syntax::{Declarator, Expr, Exprs, Item, NamedConstant, Shape};
 use name_uses::{Arguments, NameUse, Sought, has_passing, uses_of};
 use roles::{Function, Roles, Stage, declarators_in, defined_by, is_other_name, type_of_name};
-use rule_passes::{Behind, least_told};
+use rule_passes::{Behind, add_told};
 use std::alloc::{AllocError, Global};
 
 /// Whether a name is that of data of type REAL.
@@ -155,18 +154,20 @@ impl Behind for Reals<'_> {
     }
 }
 
-/// K3: the least line at which a name of type REAL is defined or used.
-pub fn real_name(
+/// K3: adds the pair of each line at which a name of type REAL is defined or used.
+pub fn add_real_names(
+    pairs: &mut Vec<Broken>,
     alloc: Global,
     roles: &Roles,
     items: &[&Item],
-) -> Result<Option<Broken>, AllocError>
-    ensures { IfOk result (IsLeast (has_real_name (roles_at roles.now)) Rule.K3 items.now) }
+) -> Result<(), AllocError>
+    ensures { OnOk result
+        (AddsTold (has_real_name (roles_at roles.now)) Rule.K3 items.now pairs.old.items pairs.new.items) }
 {
     let mut reals = Reals {
         alloc,
         roles,
         stage: Stage::new(),
     };
-    least_told(&mut reals, Rule::K3, items)
+    add_told(pairs, &mut reals, Rule::K3, items)
 }

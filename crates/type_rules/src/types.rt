@@ -1,17 +1,16 @@
 //! Expressions of the wrong type (ANSI X3.9-1978, 6.1 to 6.4).
 
-ghost use Rattle.std.specs.Prelude.{IfOk};
+ghost use Rattle.std.specs.Prelude.{OnOk};
 ghost use Rattle.meaning.specs.NameRules.{is_wrongly_typed};
-ghost use Rattle.meaning.specs.Refusals.{least};
 ghost use Rattle.roles.specs.RolesAt.{roles_at};
 ghost use Rattle.roles.specs.Stages.{IsBehind};
-ghost use Rattle.rule_passes.specs.Telling.{IsLeast};
+ghost use Rattle.rule_passes.specs.Telling.{AddsTold};
 
 use crate::mistyped::has_wrong_type;
 use meaning::refusal::{Broken, Rule};
 use meaning::syntax::Item;
 use roles::{Roles, Stage};
-use rule_passes::{Behind, least_told};
+use rule_passes::{Behind, add_told};
 use std::alloc::AllocError;
 
 /// What is of the wrong type.
@@ -37,13 +36,18 @@ impl Behind for WrongType<'_> {
     }
 }
 
-/// K5: the least line at which an expression is of the wrong type.
-pub fn wrong_type(roles: &Roles, items: &[&Item]) -> Result<Option<Broken>, AllocError>
-    ensures { IfOk result (IsLeast (is_wrongly_typed (roles_at roles.now)) Rule.K5 items.now) }
+/// K5: adds the pair of each line at which an expression is of the wrong type.
+pub fn add_wrong_types(
+    pairs: &mut Vec<Broken>,
+    roles: &Roles,
+    items: &[&Item],
+) -> Result<(), AllocError>
+    ensures { OnOk result
+        (AddsTold (is_wrongly_typed (roles_at roles.now)) Rule.K5 items.now pairs.old.items pairs.new.items) }
 {
     let mut wrong = WrongType {
         roles,
         stage: Stage::new(),
     };
-    least_told(&mut wrong, Rule::K5, items)
+    add_told(pairs, &mut wrong, Rule::K5, items)
 }

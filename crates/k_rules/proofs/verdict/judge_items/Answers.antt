@@ -1,9 +1,10 @@
-use Rattle.std.proofs.Common.{map, sym, ap, subst, ◌∙◌}
+use Rattle.std.proofs.Common.{◌++◌, map, sym, ap, subst, ◌∙◌}
 use Rattle.meaning.specs.Refusals.{least}
 use Rattle.meaning.specs.Trees.{members_tree, nested}
 use Rattle.meaning.specs.Uses.{roles_of}
 use Rattle.roles.specs.RolesAt.{roles_at}
-use Rattle.k_rules.specs.Judged.{rules_last}
+use Rattle.k_rules.specs.Judged.{rules_but_data}
+use Rattle.rule_passes.specs.InOrder.{AreInOrder}
 use Rattle.rule_passes.specs.InOrder.{AreInOrder}
 use Rattle.rule_passes.specs.Listed.{tree_at}
 use Rattle.k_rules.proofs.Judging.{broken_all, told_by}
@@ -12,9 +13,15 @@ use Rattle.k_rules.proofs.verdict.judge_items.Goals as goal
 pub facts_of-requires-clause-ordered : goal.facts_of-requires-clause-ordered
 facts_of-requires-clause-ordered c = subst AreInOrder (sym c.requires.same) c.requires.ordered
 
-pub returns-in-Ok-clause-exact : goal.returns-in-Ok-clause-exact
-returns-in-Ok-clause-exact c =
+pub facts_of-requires-clause-ordered : goal.facts_of-requires-clause-ordered
+facts_of-requires-clause-ordered c = subst AreInOrder (sym c.requires.same) c.requires.ordered
+
+pub returns-clause-exact : goal.returns-clause-exact
+returns-clause-exact c =
     let t = nested c.args.tree.now in
     let roles = c.in_ok-roles.roles in
+    let all = map tree_at roles.items.now in
     let ys = ap (map tree_at) c.in_ok-roles.ensures ∙ c.requires.same in
-    told_by t c.facts_of.result _ (broken_all t (roles_at roles) (map tree_at c.args.items.now) (map tree_at roles.items.now) c.in_ok-first.first c.in-Ok.last c.lesser.result (ap roles_of ys) c.requires.same ys c.in_ok-first.ensures (c.in-Ok.ensures ∙ ap (λ ms. least (rules_last (roles_at roles) (map tree_at roles.items.now) (members_tree ms))) c.deref.ensures.value) c.lesser.ensures) c.facts_of.ensures.exact
+    told_by t c.facts_of.result _ (broken_all t (roles_at roles) (map tree_at c.args.items.now) all c.least_of.result (ap roles_of ys) c.requires.same ys
+    (c.least_of.ensures ∙ ap least (c.deref-2.ensures.value ∙ c.in_ok-formats.ensures.told ∙ ap (λ bs. bs ++ rules_but_data (roles_at roles) all (members_tree c.deref.result.now)) c.new-pairs.ensures.items)
+    ∙ ap (λ ms. least (rules_but_data (roles_at roles) all (members_tree ms))) c.deref.ensures.value)) c.facts_of.ensures.exact

@@ -1,4 +1,0 @@
-use Rattle.name_rules.proofs.against.used_against.Goals as goal
-
-pub least_told-requires : goal.least_told-requires
-least_told-requires c = c.new.ensures c.args.roles.now

@@ -1,9 +1,0 @@
-use Rattle.std.proofs.Common.{[]}
-use Rattle.roles.specs.RolesAt.{roles_at}
-use Rattle.roles.specs.Stages.{IsBehind}
-use Rattle.name_rules.proofs.GivenMore.{gives_none}
-use Rattle.name_rules.proofs.givings.given_too_much.Goals as goal
-
-pub least_told-requires : goal.least_told-requires
-least_told-requires c =
-    gives_none (IsBehind c.args.roles.now c.new.result []) (roles_at c.args.roles.now) c.new-2.result.keys c.new-3.result.keys c.new-4.result.keys c.new-5.result.keys (c.new.ensures c.args.roles.now) c.new-2.ensures.empty c.new-3.ensures.empty c.new-4.ensures.empty c.new-5.ensures.empty

@@ -1,9 +1,0 @@
-use Rattle.std.proofs.Common.{[]}
-use Rattle.roles.specs.RolesAt.{roles_at}
-use Rattle.roles.specs.Stages.{IsBehind}
-use Rattle.name_rules.proofs.Parting.{logical_none}
-use Rattle.name_rules.proofs.logicals.logical_intrinsic.Goals as goal
-
-pub least_told-requires : goal.least_told-requires
-least_told-requires c =
-    logical_none (IsBehind c.args.roles.now c.new.result []) (roles_at c.args.roles.now) c.new-2.result.keys c.new-3.result.keys (c.new.ensures c.args.roles.now) c.new-2.ensures.empty c.new-3.ensures.empty

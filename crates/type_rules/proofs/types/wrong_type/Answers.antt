@@ -1,4 +1,0 @@
-use Rattle.type_rules.proofs.types.wrong_type.Goals as goal
-
-pub least_told-requires : goal.least_told-requires
-least_told-requires c = c.new.ensures c.args.roles.now
