@@ -7,7 +7,6 @@ ghost use Rattle.meaning.specs.Trees.{flatten, nested};
 ghost use Rattle.rule_passes.specs.Listed.{tree_at};
 ghost use Rattle.statement_rules.specs.FormatsFound.{HoldsFormats};
 ghost use Rattle.rule_passes.specs.InOrder.{AreInOrder};
-ghost use Rattle.rule_passes.specs.InOrder.{AreInOrder};
 ghost use Rattle.k_rules.specs.Judged.{HasArrays, HasConstants, HasFormats, HasStarts, IsDecided, with_data};
 
 use crate::pairs::{add_all_but_data, least_of};

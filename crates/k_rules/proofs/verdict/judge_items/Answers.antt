@@ -5,13 +5,9 @@ use Rattle.meaning.specs.Uses.{roles_of}
 use Rattle.roles.specs.RolesAt.{roles_at}
 use Rattle.k_rules.specs.Judged.{rules_but_data}
 use Rattle.rule_passes.specs.InOrder.{AreInOrder}
-use Rattle.rule_passes.specs.InOrder.{AreInOrder}
 use Rattle.rule_passes.specs.Listed.{tree_at}
 use Rattle.k_rules.proofs.Judging.{broken_all, told_by}
 use Rattle.k_rules.proofs.verdict.judge_items.Goals as goal
-
-pub facts_of-requires-clause-ordered : goal.facts_of-requires-clause-ordered
-facts_of-requires-clause-ordered c = subst AreInOrder (sym c.requires.same) c.requires.ordered
 
 pub facts_of-requires-clause-ordered : goal.facts_of-requires-clause-ordered
 facts_of-requires-clause-ordered c = subst AreInOrder (sym c.requires.same) c.requires.ordered
