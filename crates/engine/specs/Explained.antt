@@ -1,8 +1,11 @@
 -- What --explain tells behind the line of an ending.
-use Rattle.std.specs.Prelude.{◌≡◌, ◌⊎◌, ℕ, List, [], ◌++◌, Option, Some, None, Err, codes}
+use Rattle.std.specs.Prelude.{◌≡◌, ◌⊎◌, ℕ, List, [], ◌++◌, Option, Some, None, Result, Err, codes}
 use Rattle.meaning.specs.declared.refusal.Broken.{Broken}
+use Rattle.meaning.specs.declared.refusal.Refusal.{Refusal}
 use Rattle.meaning.specs.declared.refusal.Rule.{Rule}
-use Rattle.meaning.specs.Trees.{Nested}
+use Rattle.meaning.specs.declared.syntax.Tree.{Tree}
+use Rattle.meaning.specs.Reports.{Gives}
+use Rattle.meaning.specs.Trees.{Nested, nested}
 use Rattle.rule_laws.specs.Units.{Spells, unit_of}
 use Rattle.word_places.specs.declared.places.Place.{Place}
 use Rattle.messages.specs.declared.explaining.Known.{Known}
@@ -17,6 +20,10 @@ use Rattle.messages.specs.Shown.{told_line}
 abbrev pub IsUnit : List ℕ → Option Nested → Type 0
 IsUnit source (Some t) = Spells source t
 IsUnit source None = (b : Broken) × (unit_of source ≡ Err b)
+
+-- it was read, or why there is none, or a growth was refused
+abbrev pub IsUnitRead : List ℕ → Result Tree Refusal → Type 0
+IsUnitRead source unit = Gives nested unit (unit_of source)
 
 abbrev pub IsKnownIf : List ℕ → Rule → ℕ → Option Nested → Known → Type 0
 IsKnownIf source rule line None known = IsNothing known

@@ -5,7 +5,7 @@ ghost use Rattle.std.specs.Prelude.{◌≡◌, IfOk, true};
 ghost use Rattle.cell_names.specs.Cells.{are_named};
 ghost use Rattle.messages.specs.Shown.{Adds, IsTold};
 ghost use Rattle.engine.specs.Explained.{Explains, IsExplained, IsExplainedBy, IsKnownFor};
-ghost use Rattle.engine.specs.Explained.{IsKnownIn};
+ghost use Rattle.engine.specs.Explained.{IsKnownIn, IsUnitRead};
 ghost use Rattle.engine.specs.Told.{AreAlso, ArePairs, AreStages, IsOutline, IsOutlineOf, IsPair};
 ghost use Rattle.engine.specs.Told.{is_alone, is_further, is_staged, not_told};
 
@@ -187,9 +187,12 @@ fn known_for(
     ensures { IfOk result (IsKnownFor source.now matter.rule matter.line) }
 {
     match matter.rule {
-        Some(rule) => {
+        Some(_) => {
             drop(detail);
-            known_in(alloc, source, rule, matter.line)
+            let unit = unit_in(alloc, source);
+            let known = known_by(alloc, source, &unit, matter);
+            drop(unit);
+            known
         }
         None => match detail {
             Ok(text) => Ok(Known { place: None, text }),
@@ -198,16 +201,35 @@ fn known_for(
     }
 }
 
+// What breaks the rule of a matter, by the program unit that the source spells.
+fn known_by(
+    alloc: Global,
+    source: &[u8],
+    unit: &Result<Tree, Refusal>,
+    matter: Matter,
+) -> Result<Known, AllocError>
+    requires { IsUnitRead source.now unit.now }
+    ensures { IfOk result (IsKnownFor source.now matter.rule matter.line) }
+{
+    match matter.rule {
+        Some(rule) => known_in(alloc, source, unit, rule, matter.line),
+        None => Ok(Known::nothing(alloc)),
+    }
+}
+
 // What breaks a rule at a line of a source, where it spells a program unit.
-fn known_in(alloc: Global, source: &[u8], rule: Rule, line: u32) -> Result<Known, AllocError>
+fn known_in(
+    alloc: Global,
+    source: &[u8],
+    unit: &Result<Tree, Refusal>,
+    rule: Rule,
+    line: u32,
+) -> Result<Known, AllocError>
+    requires { IsUnitRead source.now unit.now }
     ensures { IfOk result (IsKnownIn source.now rule line) }
 {
-    match unit_in(alloc, source) {
-        Ok(unit) => {
-            let known = known_of(alloc, source, &unit, rule, line);
-            drop(unit);
-            known
-        }
+    match unit {
+        Ok(unit) => known_of(alloc, source, unit, rule, line),
         Err(Refusal::Rule { rule: _, line: _ }) => Ok(Known::nothing(alloc)),
         Err(Refusal::Memory) => Err(AllocError),
     }
@@ -265,7 +287,11 @@ fn put_further<S: Sink>(explain: bool, alloc: Global, file: &str, source: &[u8],
     ensures { Adds true (AreAlso explain file.now source.now) (S.told err.old) (S.told err.new) }
 {
     match further_pairs(alloc, source) {
-        Ok(pairs) => put_pairs(explain, alloc, file, source, &pairs, err),
+        Ok(pairs) => {
+            let unit = unit_in(alloc, source);
+            put_pairs(explain, alloc, file, source, &unit, &pairs, err);
+            drop(unit);
+        }
         Err(_) => put_untold(err),
     }
 }
@@ -276,14 +302,16 @@ fn put_pairs<S: Sink>(
     alloc: Global,
     file: &str,
     source: &[u8],
+    unit: &Result<Tree, Refusal>,
     pairs: &[Broken],
     err: &mut S,
 )
+    requires { IsUnitRead source.now unit.now }
     ensures { Adds true (ArePairs explain file.now source.now pairs.now) (S.told err.old)
         (S.told err.new) }
 {
     for pair in pairs {
-        put_pair(explain, alloc, file, source, *pair, err);
+        put_pair(explain, alloc, file, source, unit, *pair, err);
     }
 }
 
@@ -293,15 +321,17 @@ fn put_pair<S: Sink>(
     alloc: Global,
     file: &str,
     source: &[u8],
+    unit: &Result<Tree, Refusal>,
     pair: Broken,
     err: &mut S,
 )
+    requires { IsUnitRead source.now unit.now }
     ensures { Adds true (IsPair explain file.now source.now pair) (S.told err.old)
         (S.told err.new) }
 {
     put_at("  ALSO ", pair.rule.name(), pair.line, err);
     let matter = matter_of_rule(pair.rule, pair.line);
-    put_explained(explain, alloc, file, source, matter, err);
+    put_explained(explain, alloc, file, source, unit, matter, err);
     let cause = Some(Cause::Rule(pair.rule, pair.line));
     tell_hint(explain, alloc, source, cause, err);
 }
@@ -312,14 +342,16 @@ fn put_explained<S: Sink>(
     alloc: Global,
     file: &str,
     source: &[u8],
+    unit: &Result<Tree, Refusal>,
     matter: Matter,
     err: &mut S,
 )
+    requires { IsUnitRead source.now unit.now }
     ensures { Adds is_wanted (IsExplained file.now source.now matter) (S.told err.old)
         (S.told err.new) }
 {
     if is_wanted {
-        let known = known_for(alloc, source, matter, Ok(Vec::new(alloc)));
+        let known = known_by(alloc, source, unit, matter);
         put_known(alloc, file, source, matter, known, err);
     }
 }

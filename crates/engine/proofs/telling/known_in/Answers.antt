@@ -5,9 +5,10 @@ use Rattle.engine.proofs.telling.known_in.Goals as goal
 
 pub returns-in-Ok : goal.returns-in-Ok
 returns-in-Ok c =
-    IfOk-weaker c.known_of-known.result _ _ (λ known h. (Some (nested c.in-Ok.unit), c.in-Ok.ensures, h)) c.known_of-known.ensures
+    let spelled = rw c.in-Ok.is at c.requires in
+    IfOk-weaker c.known_of.result _ _ (λ known h. (Some (nested c.in-Ok.unit), spelled, h)) c.known_of.ensures
 
 pub returns-in-Err-Rule : goal.returns-in-Err-Rule
 returns-in-Err-Rule c =
-    let refused = rw c.in-Err-Rule.field-0-is at c.in-Err-Rule.ensures in
+    let refused = rw c.in-Err-Rule.is at c.requires in
     (None, (_, refused), c.nothing.ensures)
