@@ -2,6 +2,7 @@
 
 ghost use Rattle.std.specs.Prelude.{◌≡◌, option_map};
 
+use function_culprits::FunctionCulprit;
 use list_culprits::ListCulprit;
 
 /// How many subscripts or arguments a name wants.
@@ -33,6 +34,10 @@ pub enum Culprit<'a> {
         wanted: Wanted,
         given: Option<usize>,
     },
+    /// K12: what breaks the rule on statement functions (15.4).
+    Function {
+        culprit: FunctionCulprit<'a>,
+    },
     /// K13: a name that is referred to as a function and is none (15.2).
     Unknown {
         name: &'a [u8],
@@ -55,6 +60,7 @@ impl<'a> Culprit<'a> {
             Culprit::Repeated { .. } => None,
             Culprit::Real { name, .. } => Some(name),
             Culprit::Miscounted { name, .. } => Some(name),
+            Culprit::Function { culprit } => Some(culprit.word()),
             Culprit::Unknown { name } => Some(name),
             Culprit::Listed { culprit } => Some(culprit.word()),
         }

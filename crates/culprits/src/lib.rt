@@ -4,6 +4,7 @@
 mod asked;
 mod counts;
 mod culprit;
+mod functions;
 mod labels;
 mod laws;
 mod names;

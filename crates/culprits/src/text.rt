@@ -6,6 +6,7 @@ ghost use Rattle.culprits.specs.Told.{told_at};
 ghost use Rattle.culprits.specs.Texts.{given_text, miscounted_text, told_text, untyped_text, wanted_text};
 
 use crate::culprit::{Culprit, Wanted};
+use function_culprits::add_function_text;
 use itoa::Buffer;
 use list_culprits::add_list_text;
 use std::alloc::AllocError;
@@ -132,6 +133,7 @@ pub fn add_text(bytes: &mut Vec<u8>, culprit: Culprit) -> Result<(), AllocError>
             wanted,
             given,
         } => add_miscounted(bytes, name, wanted, given),
+        Culprit::Function { culprit } => add_function_text(bytes, culprit),
         Culprit::Unknown { name } => {
             bytes.extend_from_slice(name)?;
             add(bytes, " is neither an array nor a function")
