@@ -4,9 +4,10 @@ use Rattle.std.specs.Prelude.{is_none, is_some, not}
 use Rattle.std.specs.List.{filter, find, list_any}
 use Rattle.std.proofs.lemmas.List.Folds.{list_any-append}
 use Rattle.meaning.specs.declared.refusal.Rule.{Rule}
-use Rattle.meaning.specs.declared.refusal.Rule.TheVariants.{K1, K2, K3, K8, K9, K12, K13}
+use Rattle.meaning.specs.declared.refusal.Rule.TheVariants.{K1, K2, K3, K6, K8, K9, K12, K13}
 use Rattle.meaning.specs.LabelRules.{has_label, is_label_at, is_repeated}
 use Rattle.meaning.specs.NameRules.{does_not_take, has_misuse, has_real_name, is_misused_array, is_misused_function, is_other_number, is_real, is_real_use, is_unknown_function, length_if, names_defined, names_used}
+use Rattle.meaning.specs.NumberRules.{has_bad_number}
 use Rattle.meaning.specs.Syntax.{ItemTree}
 use Rattle.meaning.specs.Trees.{Nested, flatten}
 use Rattle.meaning.specs.Types.{has_implicit_none}
@@ -19,10 +20,13 @@ use Rattle.culprits.specs.declared.culprit.Wanted.TheVariants.{Subscripts, Argum
 use Rattle.culprits.specs.Counts.{arguments_of, capped, miscounting, subscripts_of, wanted_by}
 use Rattle.culprits.specs.Culprits.{culprit_at, culprit_in, item_culprit_in, items_in, listed_in, names_in, repeated_in}
 use Rattle.culprits.specs.Placing.{at_line, seat_line}
-use Rattle.culprits.specs.Told.{Told, repeated, real, miscounted, defined, unknown, listed}
+use Rattle.culprits.specs.Told.{Told, repeated, real, miscounted, numbered, defined, unknown, listed}
 use Rattle.function_culprits.specs.Functions.{misdefined_at}
 use Rattle.function_culprits.specs.Told.{Told as FunctionTold}
 use Rattle.function_culprits.specs.Witness.{IsTold as IsFunctionTold, breaks_but_deep}
+use Rattle.number_culprits.specs.Numbers.{bad_in as numbered_part}
+use Rattle.number_culprits.specs.Witness.{IsBy as IsNumberBy}
+use Rattle.number_culprits.proofs.Telling.{numbers_told}
 use Rattle.function_culprits.proofs.Defining.{functions_told as definitions_told}
 use Rattle.finding.specs.Answers.{IsAnswer as IsPartAnswer}
 use Rattle.culprits.specs.Witness.{IsAnswer, IsBy, IsItemBy, IsMisused, breaks, breaks_covered, item_breaks}
@@ -261,6 +265,9 @@ part_silent f by b (Some j) answers is = absurd cc
 item_told_breaks : (rule : Rule) (all before : List ItemTree) (x : ItemTree) (k : Told) → item_culprit_in rule all before x ≡ Some k → IsBroken rule all before x k
 item_told_breaks K1 all before x k is = repeat_told all before x x.label k refl is
 item_told_breaks K3 all before x k is = real_found all before x _ k refl is
+item_told_breaks K6 all before x k is =
+    let w = part_told numbered (IsNumberBy (roles_of all) before x) (has_bad_number (roles_of all) before x) (numbered_part (roles_of all) before x) k (numbers_told (roles_of all) before x) is in
+    record { broken = w.0; by = subst (IsItemBy K6 all before x) w.1.1 w.1.2 }
 item_told_breaks K8 all before x k is = misuse_breaks all before x (arrays_told all before x) k refl is
 item_told_breaks K12 all before x k is =
     function_found all before x (misdefined_at (roles_of all) before x) k (definitions_told (roles_of all) before x) is
@@ -275,6 +282,8 @@ whole_rule rule = Unit {0}
 item_silent_keeps : (rule : Rule) → whole_rule rule → (all before : List ItemTree) (x : ItemTree) → item_culprit_in rule all before x ≡ None → item_breaks rule all before x ≡ false
 item_silent_keeps K1 whole all before x is = repeat_kept all before x x.label refl is
 item_silent_keeps K3 whole all before x is = real_missing all before x _ refl is
+item_silent_keeps K6 whole all before x is =
+    part_silent numbered (IsNumberBy (roles_of all) before x) (has_bad_number (roles_of all) before x) (numbered_part (roles_of all) before x) (numbers_told (roles_of all) before x) is
 item_silent_keeps K8 whole all before x is = misuse_kept all before x (arrays_told all before x) refl is
 item_silent_keeps K12 whole all before x is = absurd whole
 item_silent_keeps K13 whole all before x is = unknown_missing all before x _ refl is

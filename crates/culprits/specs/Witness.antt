@@ -2,9 +2,10 @@
 use Rattle.std.specs.Prelude.{◌≡◌, ℕ, ◌==◌, Bool, true, false, List, ◌∷◌, ◌++◌, Option, Some, None, option_map, IsTrue, ◌⊎◌}
 use Rattle.std.specs.List.{Contains, list_any}
 use Rattle.meaning.specs.declared.refusal.Rule.{Rule}
-use Rattle.meaning.specs.declared.refusal.Rule.TheVariants.{K1, K2, K3, K8, K9, K12, K13}
+use Rattle.meaning.specs.declared.refusal.Rule.TheVariants.{K1, K2, K3, K6, K8, K9, K12, K13}
 use Rattle.meaning.specs.LabelRules.{has_repeated_label}
 use Rattle.meaning.specs.NameRules.{breaks_function_rules, has_misuse, has_real_name, has_unknown_function, is_misused_array, is_misused_function, is_real, is_unknown_function}
+use Rattle.meaning.specs.NumberRules.{has_bad_number}
 use Rattle.meaning.specs.Syntax.{ItemTree}
 use Rattle.meaning.specs.Trees.{Nested, flatten}
 use Rattle.meaning.specs.Types.{has_implicit_none}
@@ -12,7 +13,8 @@ use Rattle.meaning.specs.Uses.{Roles, Use, is_defining, parts_at, roles_of, uses
 use Rattle.culprits.specs.declared.culprit.Wanted.{Wanted}
 use Rattle.culprits.specs.Counts.{arguments_of, capped, subscripts_of}
 use Rattle.culprits.specs.Culprits.{culprit_at, items_in, names_in}
-use Rattle.culprits.specs.Told.{Told, repeated, real, miscounted, defined, unknown, listed}
+use Rattle.culprits.specs.Told.{Told, repeated, real, miscounted, numbered, defined, unknown, listed}
+use Rattle.number_culprits.specs.Witness.{IsBy as IsNumberBy}
 use Rattle.function_culprits.specs.Witness.{IsBy as IsFunctionBy, breaks_but_deep}
 use Rattle.list_culprits.specs.Seats.{Seat, seats_of}
 use Rattle.list_culprits.specs.Witness.{IsLoopedBy, IsMissedBy, is_loop_broken, is_transfer_broken, unit_of}
@@ -23,6 +25,7 @@ abbrev pub is_covered : Rule → Bool
 is_covered K1 = true
 is_covered K2 = true
 is_covered K3 = true
+is_covered K6 = true
 is_covered K8 = true
 is_covered K9 = true
 is_covered K12 = true
@@ -33,6 +36,7 @@ is_covered rule = false
 abbrev pub item_breaks : Rule → List ItemTree → List ItemTree → ItemTree → Bool
 item_breaks K1 all before x = has_repeated_label before x
 item_breaks K3 all before x = has_real_name (roles_of all) before x
+item_breaks K6 all before x = has_bad_number (roles_of all) before x
 item_breaks K8 all before x = has_misuse (roles_of all) before x
 item_breaks K12 all before x = breaks_function_rules (roles_of all) before x
 item_breaks K13 all before x = has_unknown_function (roles_of all) before x
@@ -88,6 +92,7 @@ pub record IsUnknownHere (r : Roles) (before : List ItemTree) (x : ItemTree) (na
 abbrev pub IsItemBy : Rule → List ItemTree → List ItemTree → ItemTree → Told → Type 0
 IsItemBy K1 all before x (repeated label line) = Repeats before x label line
 IsItemBy K3 all before x (real name without_letters) = IsRealHere (roles_of all) before x name × (without_letters ≡ has_implicit_none all)
+IsItemBy K6 all before x (numbered k) = IsNumberBy (roles_of all) before x k
 IsItemBy K8 all before x (miscounted name wanted given) = IsMiscountedHere (roles_of all) before x name wanted given
 IsItemBy K12 all before x (defined k) = IsFunctionBy (roles_of all) before x k
 IsItemBy K13 all before x (unknown name) = IsUnknownHere (roles_of all) before x name

@@ -8,6 +8,7 @@ mod functions;
 mod labels;
 mod laws;
 mod names;
+mod others;
 mod text;
 
 pub use asked::culprit_of;
