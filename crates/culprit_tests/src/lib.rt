@@ -4,6 +4,8 @@
 #[cfg(test)]
 mod asking;
 #[cfg(test)]
+mod functions;
+#[cfg(test)]
 mod lists;
 #[cfg(test)]
 mod told;

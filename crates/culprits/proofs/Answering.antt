@@ -4,9 +4,10 @@ use Rattle.std.specs.Prelude.{is_none, is_some, not}
 use Rattle.std.specs.List.{filter, find, list_any}
 use Rattle.std.proofs.lemmas.List.Folds.{list_any-append}
 use Rattle.meaning.specs.declared.refusal.Rule.{Rule}
-use Rattle.meaning.specs.declared.refusal.Rule.TheVariants.{K1, K2, K3, K8, K9, K13}
+use Rattle.meaning.specs.declared.refusal.Rule.TheVariants.{K1, K2, K3, K6, K8, K9, K12, K13}
 use Rattle.meaning.specs.LabelRules.{has_label, is_label_at, is_repeated}
 use Rattle.meaning.specs.NameRules.{does_not_take, has_misuse, has_real_name, is_misused_array, is_misused_function, is_other_number, is_real, is_real_use, is_unknown_function, length_if, names_defined, names_used}
+use Rattle.meaning.specs.NumberRules.{has_bad_number}
 use Rattle.meaning.specs.Syntax.{ItemTree}
 use Rattle.meaning.specs.Trees.{Nested, flatten}
 use Rattle.meaning.specs.Types.{has_implicit_none}
@@ -19,9 +20,16 @@ use Rattle.culprits.specs.declared.culprit.Wanted.TheVariants.{Subscripts, Argum
 use Rattle.culprits.specs.Counts.{arguments_of, capped, miscounting, subscripts_of, wanted_by}
 use Rattle.culprits.specs.Culprits.{culprit_at, culprit_in, item_culprit_in, items_in, listed_in, names_in, repeated_in}
 use Rattle.culprits.specs.Placing.{at_line, seat_line}
-use Rattle.culprits.specs.Told.{Told, repeated, real, miscounted, unknown, listed}
+use Rattle.culprits.specs.Told.{Told, repeated, real, miscounted, numbered, defined, unknown, listed}
+use Rattle.function_culprits.specs.Functions.{misdefined_at}
+use Rattle.function_culprits.specs.Told.{Told as FunctionTold}
+use Rattle.function_culprits.specs.Witness.{IsTold as IsFunctionTold, breaks_but_deep}
+use Rattle.number_culprits.specs.Numbers.{bad_in as numbered_part}
+use Rattle.number_culprits.specs.Witness.{IsBy as IsNumberBy}
+use Rattle.number_culprits.proofs.Telling.{numbers_told}
+use Rattle.function_culprits.proofs.Defining.{functions_told as definitions_told}
 use Rattle.finding.specs.Answers.{IsAnswer as IsPartAnswer}
-use Rattle.culprits.specs.Witness.{IsAnswer, IsBy, IsItemBy, IsMisused, breaks, item_breaks}
+use Rattle.culprits.specs.Witness.{IsAnswer, IsBy, IsItemBy, IsMisused, breaks, breaks_covered, item_breaks}
 use Rattle.finding.proofs.Found.{any_found, found, none_found}
 use Rattle.list_culprits.specs.Seats.{Seat, seats_of}
 use Rattle.list_culprits.specs.Told.{Told as ListTold}
@@ -208,6 +216,20 @@ module _ (all before : List ItemTree) (x : ItemTree) where
       let r = roles_of all in
       ap₂ ◌||◌ (misuse_missing (subscripts_of r) (is_misused_array r) (wanted_array r) (uses_at r before x) _ refl first) (misuse_missing (arguments_of r) (is_misused_function r) (wanted_function r) (parts_at r before x).reads _ refl is)
 
+-- ---- K12, all but how deep statement functions go and how large they become
+
+module _ (all before : List ItemTree) (x : ItemTree) where
+  function_found : (o : Option FunctionTold) (k : Told) → IsFunctionTold (roles_of all) before x o → option_map defined o ≡ Some k → IsBroken K12 all before x k
+  function_found None k answers is = absurd cc
+  function_found (Some j) k answers is =
+      let e : defined j ≡ k = cc in
+      let P : Told → Type 0 = λ t. IsItemBy K12 all before x t in
+      record { broken = answers.0; by = subst P e answers.1 }
+
+  function_missing : (o : Option FunctionTold) → IsFunctionTold (roles_of all) before x o → option_map defined o ≡ None → breaks_but_deep (roles_of all) before x ≡ false
+  function_missing None answers is = answers
+  function_missing (Some j) answers is = absurd cc
+
 -- ---- K13
 
 module _ (all before : List ItemTree) (x : ItemTree) where
@@ -243,16 +265,29 @@ part_silent f by b (Some j) answers is = absurd cc
 item_told_breaks : (rule : Rule) (all before : List ItemTree) (x : ItemTree) (k : Told) → item_culprit_in rule all before x ≡ Some k → IsBroken rule all before x k
 item_told_breaks K1 all before x k is = repeat_told all before x x.label k refl is
 item_told_breaks K3 all before x k is = real_found all before x _ k refl is
+item_told_breaks K6 all before x k is =
+    let w = part_told numbered (IsNumberBy (roles_of all) before x) (has_bad_number (roles_of all) before x) (numbered_part (roles_of all) before x) k (numbers_told (roles_of all) before x) is in
+    record { broken = w.0; by = subst (IsItemBy K6 all before x) w.1.1 w.1.2 }
 item_told_breaks K8 all before x k is = misuse_breaks all before x (arrays_told all before x) k refl is
+item_told_breaks K12 all before x k is =
+    function_found all before x (misdefined_at (roles_of all) before x) k (definitions_told (roles_of all) before x) is
 item_told_breaks K13 all before x k is = unknown_found all before x _ k refl is
 item_told_breaks rule all before x k is = absurd cc
 
-item_silent_keeps : (rule : Rule) (all before : List ItemTree) (x : ItemTree) → item_culprit_in rule all before x ≡ None → item_breaks rule all before x ≡ false
-item_silent_keeps K1 all before x is = repeat_kept all before x x.label refl is
-item_silent_keeps K3 all before x is = real_missing all before x _ refl is
-item_silent_keeps K8 all before x is = misuse_kept all before x (arrays_told all before x) refl is
-item_silent_keeps K13 all before x is = unknown_missing all before x _ refl is
-item_silent_keeps rule all before x is = refl
+-- of a rule of which all is covered
+abbrev whole_rule : Rule → Type 0
+whole_rule K12 = ⊥
+whole_rule rule = Unit {0}
+
+item_silent_keeps : (rule : Rule) → whole_rule rule → (all before : List ItemTree) (x : ItemTree) → item_culprit_in rule all before x ≡ None → item_breaks rule all before x ≡ false
+item_silent_keeps K1 whole all before x is = repeat_kept all before x x.label refl is
+item_silent_keeps K3 whole all before x is = real_missing all before x _ refl is
+item_silent_keeps K6 whole all before x is =
+    part_silent numbered (IsNumberBy (roles_of all) before x) (has_bad_number (roles_of all) before x) (numbered_part (roles_of all) before x) (numbers_told (roles_of all) before x) is
+item_silent_keeps K8 whole all before x is = misuse_kept all before x (arrays_told all before x) refl is
+item_silent_keeps K12 whole all before x is = absurd whole
+item_silent_keeps K13 whole all before x is = unknown_missing all before x _ refl is
+item_silent_keeps rule whole all before x is = refl
 
 -- a statement in its seat breaks the rule, by what is told
 record IsBrokenHere (rule : Rule) (t : Nested) (front : List Seat) (z : Seat) (k : Told) : Type 0 where
@@ -275,13 +310,16 @@ module _ (t : Nested) (front : List Seat) (z : Seat) where
       let b = item_told_breaks rule (flatten t) (items_in front) z.item k (sym (or_none (item_culprit_in rule (flatten t) (items_in front) z.item)) ∙ is) in
       record { broken = b.broken; by = b.by }
 
-  silent_keeps : (rule : Rule) → culprit_in rule t front z ≡ None → breaks rule t (items_in front) z ≡ false
+  silent_keeps : (rule : Rule) → culprit_in rule t front z ≡ None → breaks_covered rule t (items_in front) z ≡ false
   silent_keeps K2 is =
       part_silent listed (IsMissedBy (unit_of t) z) (is_transfer_broken t z) (missed_in (unit_of t) z) (list_witnesses t z).missed is
   silent_keeps K9 is =
       part_silent listed (IsLoopedBy (roles_of (flatten t)) z) (is_loop_broken t z) (looped_in (roles_of (flatten t)) z) (list_witnesses t z).looped is
+  silent_keeps K12 is =
+      let r = roles_of (flatten t) in
+      function_missing (flatten t) (items_in front) z.item (misdefined_at r (items_in front) z.item) (definitions_told r (items_in front) z.item) (sym (or_none (item_culprit_in K12 (flatten t) (items_in front) z.item)) ∙ is)
   silent_keeps rule is =
-      item_silent_keeps rule (flatten t) (items_in front) z.item (sym (or_none (item_culprit_in rule (flatten t) (items_in front) z.item)) ∙ is)
+      item_silent_keeps rule _ (flatten t) (items_in front) z.item (sym (or_none (item_culprit_in rule (flatten t) (items_in front) z.item)) ∙ is)
 
 answer : (t : Nested) (rule : Rule) (line : ℕ) (c : Option Told) → culprit_at rule line t ≡ c → IsAnswer t rule line c
 answer t rule line (Some k) is =

@@ -3,6 +3,8 @@ use Rattle.std.specs.Prelude.{ℕ, Bool, List, Option, option_map}
 use Rattle.culprits.specs.declared.culprit.Culprit.{Culprit}
 use Rattle.culprits.specs.declared.culprit.Culprit.TheVariants as culprits
 use Rattle.culprits.specs.declared.culprit.Wanted.{Wanted}
+use Rattle.function_culprits.specs.Told.{Told as FunctionTold, told_at as function_told_at}
+use Rattle.number_culprits.specs.Told.{Told as NumberTold, told_at as number_told_at}
 use Rattle.list_culprits.specs.Told.{Told as ListTold, told_at as list_told_at}
 
 pub data Told : Type 0 where
@@ -12,6 +14,10 @@ pub data Told : Type 0 where
   real : List ℕ → Bool → Told
   -- K8: a name, how many subscripts or arguments it wants, and how many it has, if it has parentheses
   miscounted : List ℕ → Wanted → Option ℕ → Told
+  -- K6: what breaks the rule on integer constants and constant expressions
+  numbered : NumberTold → Told
+  -- K12: what breaks the rule on statement functions
+  defined : FunctionTold → Told
   -- K13: the name of a function
   unknown : List ℕ → Told
   -- K2 and K9: what breaks a rule on lists
@@ -22,6 +28,8 @@ abbrev pub told_at : Culprit → Told
 told_at (culprits.Repeated label earlier) = repeated label earlier
 told_at (culprits.Real name without_letters) = real name.now without_letters
 told_at (culprits.Miscounted name wanted given) = miscounted name.now wanted given
+told_at (culprits.Number culprit) = numbered (number_told_at culprit)
+told_at (culprits.Function culprit) = defined (function_told_at culprit)
 told_at (culprits.Unknown name) = unknown name.now
 told_at (culprits.Listed culprit) = listed (list_told_at culprit)
 

@@ -2,9 +2,10 @@
 use Rattle.std.specs.Prelude.{◌≡◌, ℕ, ◌==◌, Bool, true, false, List, ◌∷◌, ◌++◌, Option, Some, None, option_map, IsTrue, ◌⊎◌}
 use Rattle.std.specs.List.{Contains, list_any}
 use Rattle.meaning.specs.declared.refusal.Rule.{Rule}
-use Rattle.meaning.specs.declared.refusal.Rule.TheVariants.{K1, K2, K3, K8, K9, K13}
+use Rattle.meaning.specs.declared.refusal.Rule.TheVariants.{K1, K2, K3, K6, K8, K9, K12, K13}
 use Rattle.meaning.specs.LabelRules.{has_repeated_label}
-use Rattle.meaning.specs.NameRules.{has_misuse, has_real_name, has_unknown_function, is_misused_array, is_misused_function, is_real, is_unknown_function}
+use Rattle.meaning.specs.NameRules.{breaks_function_rules, has_misuse, has_real_name, has_unknown_function, is_misused_array, is_misused_function, is_real, is_unknown_function}
+use Rattle.meaning.specs.NumberRules.{has_bad_number}
 use Rattle.meaning.specs.Syntax.{ItemTree}
 use Rattle.meaning.specs.Trees.{Nested, flatten}
 use Rattle.meaning.specs.Types.{has_implicit_none}
@@ -12,7 +13,9 @@ use Rattle.meaning.specs.Uses.{Roles, Use, is_defining, parts_at, roles_of, uses
 use Rattle.culprits.specs.declared.culprit.Wanted.{Wanted}
 use Rattle.culprits.specs.Counts.{arguments_of, capped, subscripts_of}
 use Rattle.culprits.specs.Culprits.{culprit_at, items_in, names_in}
-use Rattle.culprits.specs.Told.{Told, repeated, real, miscounted, unknown, listed}
+use Rattle.culprits.specs.Told.{Told, repeated, real, miscounted, numbered, defined, unknown, listed}
+use Rattle.number_culprits.specs.Witness.{IsBy as IsNumberBy}
+use Rattle.function_culprits.specs.Witness.{IsBy as IsFunctionBy, breaks_but_deep}
 use Rattle.list_culprits.specs.Seats.{Seat, seats_of}
 use Rattle.list_culprits.specs.Witness.{IsLoopedBy, IsMissedBy, is_loop_broken, is_transfer_broken, unit_of}
 
@@ -22,8 +25,10 @@ abbrev pub is_covered : Rule → Bool
 is_covered K1 = true
 is_covered K2 = true
 is_covered K3 = true
+is_covered K6 = true
 is_covered K8 = true
 is_covered K9 = true
+is_covered K12 = true
 is_covered K13 = true
 is_covered rule = false
 
@@ -31,7 +36,9 @@ is_covered rule = false
 abbrev pub item_breaks : Rule → List ItemTree → List ItemTree → ItemTree → Bool
 item_breaks K1 all before x = has_repeated_label before x
 item_breaks K3 all before x = has_real_name (roles_of all) before x
+item_breaks K6 all before x = has_bad_number (roles_of all) before x
 item_breaks K8 all before x = has_misuse (roles_of all) before x
+item_breaks K12 all before x = breaks_function_rules (roles_of all) before x
 item_breaks K13 all before x = has_unknown_function (roles_of all) before x
 item_breaks rule all before x = false
 
@@ -40,6 +47,11 @@ abbrev pub breaks : Rule → Nested → List ItemTree → Seat → Bool
 breaks K2 t before z = is_transfer_broken t z
 breaks K9 t before z = is_loop_broken t z
 breaks rule t before z = item_breaks rule (flatten t) before z.item
+
+-- what of a rule is covered is broken: of K12 all but how deep statement functions go and how large they become
+abbrev pub breaks_covered : Rule → Nested → List ItemTree → Seat → Bool
+breaks_covered K12 t before z = breaks_but_deep (roles_of (flatten t)) before z.item
+breaks_covered rule t before z = breaks rule t before z
 
 -- ---- by what it is broken
 
@@ -80,7 +92,9 @@ pub record IsUnknownHere (r : Roles) (before : List ItemTree) (x : ItemTree) (na
 abbrev pub IsItemBy : Rule → List ItemTree → List ItemTree → ItemTree → Told → Type 0
 IsItemBy K1 all before x (repeated label line) = Repeats before x label line
 IsItemBy K3 all before x (real name without_letters) = IsRealHere (roles_of all) before x name × (without_letters ≡ has_implicit_none all)
+IsItemBy K6 all before x (numbered k) = IsNumberBy (roles_of all) before x k
 IsItemBy K8 all before x (miscounted name wanted given) = IsMiscountedHere (roles_of all) before x name wanted given
+IsItemBy K12 all before x (defined k) = IsFunctionBy (roles_of all) before x k
 IsItemBy K13 all before x (unknown name) = IsUnknownHere (roles_of all) before x name
 IsItemBy rule all before x told = ⊥
 
@@ -107,10 +121,10 @@ pub record IsCulprit (t : Nested) (rule : Rule) (line : ℕ) (told : Told) : Typ
   pub broken : IsTrue (breaks rule t (items_in front) statement)
   pub by : IsBy rule t (items_in front) statement told
 
--- of a rule that is covered nothing is told only where it doesn't break it
+-- of a rule that is covered nothing is told only where it doesn't break what of it is covered
 abbrev pub IsKept : Nested → Rule → ℕ → Type 0
 IsKept t rule line =
-    (front : List Seat) (z : Seat) → IsFirstAt (seats_of t) line front z → IsTrue (is_covered rule) → breaks rule t (items_in front) z ≡ false
+    (front : List Seat) (z : Seat) → IsFirstAt (seats_of t) line front z → IsTrue (is_covered rule) → breaks_covered rule t (items_in front) z ≡ false
 
 abbrev pub IsAnswer : Nested → Rule → ℕ → Option Told → Type 0
 IsAnswer t rule line (Some told) = IsCulprit t rule line told

@@ -2,7 +2,9 @@
 
 ghost use Rattle.std.specs.Prelude.{◌≡◌, option_map};
 
+use function_culprits::FunctionCulprit;
 use list_culprits::ListCulprit;
+use number_culprits::NumberCulprit;
 
 /// How many subscripts or arguments a name wants.
 #[derive(Clone, Copy, Debug, PartialEq, Eq)]
@@ -26,12 +28,20 @@ pub enum Culprit<'a> {
         name: &'a [u8],
         without_letters: bool,
     },
+    /// K6: what breaks the rule on integer constants and constant expressions (4.3, 5.1.1 and 8.6).
+    Number {
+        culprit: NumberCulprit<'a>,
+    },
     /// K8: a name that wants another number of subscripts or arguments than there are; none are given where it stands without
     /// parentheses (5.4.2, 15.3 and 15.4).
     Miscounted {
         name: &'a [u8],
         wanted: Wanted,
         given: Option<usize>,
+    },
+    /// K12: what breaks the rule on statement functions (15.4).
+    Function {
+        culprit: FunctionCulprit<'a>,
     },
     /// K13: a name that is referred to as a function and is none (15.2).
     Unknown {
@@ -54,7 +64,9 @@ impl<'a> Culprit<'a> {
         match self {
             Culprit::Repeated { .. } => None,
             Culprit::Real { name, .. } => Some(name),
+            Culprit::Number { culprit } => Some(culprit.word()),
             Culprit::Miscounted { name, .. } => Some(name),
+            Culprit::Function { culprit } => Some(culprit.word()),
             Culprit::Unknown { name } => Some(name),
             Culprit::Listed { culprit } => Some(culprit.word()),
         }

@@ -4,9 +4,11 @@
 mod asked;
 mod counts;
 mod culprit;
+mod functions;
 mod labels;
 mod laws;
 mod names;
+mod others;
 mod text;
 
 pub use asked::culprit_of;

@@ -6,8 +6,10 @@ ghost use Rattle.culprits.specs.Told.{told_at};
 ghost use Rattle.culprits.specs.Texts.{given_text, miscounted_text, told_text, untyped_text, wanted_text};
 
 use crate::culprit::{Culprit, Wanted};
+use function_culprits::add_function_text;
 use itoa::Buffer;
 use list_culprits::add_list_text;
+use number_culprits::add_number_text;
 use std::alloc::AllocError;
 
 /// Puts a text behind others.
@@ -132,6 +134,8 @@ pub fn add_text(bytes: &mut Vec<u8>, culprit: Culprit) -> Result<(), AllocError>
             wanted,
             given,
         } => add_miscounted(bytes, name, wanted, given),
+        Culprit::Number { culprit } => add_number_text(bytes, culprit),
+        Culprit::Function { culprit } => add_function_text(bytes, culprit),
         Culprit::Unknown { name } => {
             bytes.extend_from_slice(name)?;
             add(bytes, " is neither an array nor a function")

@@ -175,7 +175,7 @@ impl Hint {
             Hint::Then => "end the line behind THEN",
             Hint::Limits => "write a comma between the limits of the DO statement",
             Hint::Declare =>
-                "declare INTEGER X or LOGICAL X, or, without IMPLICIT NONE, write IMPLICIT INTEGER (A-Z)",
+                "declare the name INTEGER or LOGICAL, or, without IMPLICIT NONE, write IMPLICIT INTEGER (A-Z)",
             Hint::RealEdit => "write I for F, E, D and G: numbers are whole",
             Hint::TabEdit => "write nX for T: as many blanks as lead to its column",
             Hint::EditComma => "write a comma between edit descriptors",
