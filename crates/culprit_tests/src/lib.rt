@@ -8,4 +8,6 @@ mod functions;
 #[cfg(test)]
 mod lists;
 #[cfg(test)]
+mod numbers;
+#[cfg(test)]
 mod told;
