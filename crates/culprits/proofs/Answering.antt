@@ -4,10 +4,10 @@ use Rattle.std.specs.Prelude.{is_none, is_some, not}
 use Rattle.std.specs.List.{filter, find, list_any}
 use Rattle.std.proofs.lemmas.List.Folds.{list_any-append}
 use Rattle.meaning.specs.declared.refusal.Rule.{Rule}
-use Rattle.meaning.specs.declared.refusal.Rule.TheVariants.{K1, K2, K3, K6, K8, K9, K12, K13}
+use Rattle.meaning.specs.declared.refusal.Rule.TheVariants.{K1, K2, K3, K4, K6, K7, K8, K9, K12, K13}
 use Rattle.meaning.specs.LabelRules.{has_label, is_label_at, is_repeated}
-use Rattle.meaning.specs.NameRules.{does_not_take, has_misuse, has_real_name, is_misused_array, is_misused_function, is_other_number, is_real, is_real_use, is_unknown_function, length_if, names_defined, names_used}
-use Rattle.meaning.specs.NumberRules.{has_bad_number}
+use Rattle.meaning.specs.NameRules.{does_not_take, has_misuse, has_real_name, is_disputed, is_misused_array, is_misused_function, is_other_number, is_real, is_real_use, is_unknown_function, length_if, names_defined, names_used}
+use Rattle.meaning.specs.NumberRules.{has_bad_number, has_large_array}
 use Rattle.meaning.specs.Syntax.{ItemTree}
 use Rattle.meaning.specs.Trees.{Nested, flatten}
 use Rattle.meaning.specs.Types.{has_implicit_none}
@@ -20,13 +20,20 @@ use Rattle.culprits.specs.declared.culprit.Wanted.TheVariants.{Subscripts, Argum
 use Rattle.culprits.specs.Counts.{arguments_of, capped, miscounting, subscripts_of, wanted_by}
 use Rattle.culprits.specs.Culprits.{culprit_at, culprit_in, item_culprit_in, items_in, listed_in, names_in, repeated_in}
 use Rattle.culprits.specs.Placing.{at_line, seat_line}
-use Rattle.culprits.specs.Told.{Told, repeated, real, miscounted, numbered, defined, unknown, listed}
+use Rattle.culprits.specs.Told.{Told, repeated, real, miscounted, numbered, sized, disputed, defined, unknown, listed}
 use Rattle.function_culprits.specs.Functions.{misdefined_at}
+use Rattle.name_culprits.specs.Told.{Told as NameTold}
 use Rattle.function_culprits.specs.Told.{Told as FunctionTold}
 use Rattle.function_culprits.specs.Witness.{IsTold as IsFunctionTold, breaks_but_deep}
 use Rattle.number_culprits.specs.Numbers.{bad_in as numbered_part}
 use Rattle.number_culprits.specs.Witness.{IsBy as IsNumberBy}
 use Rattle.number_culprits.proofs.Telling.{numbers_told}
+use Rattle.size_culprits.specs.Sizes.{large_in as sized_part}
+use Rattle.size_culprits.specs.Witness.{IsBy as IsSizeBy}
+use Rattle.size_culprits.proofs.Telling.{sizes_told}
+use Rattle.name_culprits.specs.Names.{disputed_in as disputed_part}
+use Rattle.name_culprits.specs.Witness.{IsBy as IsNameBy, IsTold as IsNameTold, breaks_in_part}
+use Rattle.name_culprits.proofs.Telling.{names_told}
 use Rattle.function_culprits.proofs.Defining.{functions_told as definitions_told}
 use Rattle.finding.specs.Answers.{IsAnswer as IsPartAnswer}
 use Rattle.culprits.specs.Witness.{IsAnswer, IsBy, IsItemBy, IsMisused, breaks, breaks_covered, item_breaks}
@@ -230,6 +237,20 @@ module _ (all before : List ItemTree) (x : ItemTree) where
   function_missing None answers is = answers
   function_missing (Some j) answers is = absurd cc
 
+-- ---- K4, all but letters, variables that are functions too, and LOGICAL intrinsic functions
+
+module _ (all before : List ItemTree) (x : ItemTree) where
+  name_found : (o : Option NameTold) (k : Told) → IsNameTold (roles_of all) before x o → option_map disputed o ≡ Some k → IsBroken K4 all before x k
+  name_found None k answers is = absurd cc
+  name_found (Some j) k answers is =
+      let e : disputed j ≡ k = cc in
+      let P : Told → Type 0 = λ t. IsItemBy K4 all before x t in
+      record { broken = answers.0; by = subst P e answers.1 }
+
+  name_missing : (o : Option NameTold) → IsNameTold (roles_of all) before x o → option_map disputed o ≡ None → breaks_in_part (roles_of all) before x ≡ false
+  name_missing None answers is = answers
+  name_missing (Some j) answers is = absurd cc
+
 -- ---- K13
 
 module _ (all before : List ItemTree) (x : ItemTree) where
@@ -268,6 +289,10 @@ item_told_breaks K3 all before x k is = real_found all before x _ k refl is
 item_told_breaks K6 all before x k is =
     let w = part_told numbered (IsNumberBy (roles_of all) before x) (has_bad_number (roles_of all) before x) (numbered_part (roles_of all) before x) k (numbers_told (roles_of all) before x) is in
     record { broken = w.0; by = subst (IsItemBy K6 all before x) w.1.1 w.1.2 }
+item_told_breaks K7 all before x k is =
+    let w = part_told sized (IsSizeBy (roles_of all) before x) (has_large_array (roles_of all) before x) (sized_part (roles_of all) before x) k (sizes_told (roles_of all) before x) is in
+    record { broken = w.0; by = subst (IsItemBy K7 all before x) w.1.1 w.1.2 }
+item_told_breaks K4 all before x k is = name_found all before x (disputed_part (roles_of all) before x) k (names_told (roles_of all) before x) is
 item_told_breaks K8 all before x k is = misuse_breaks all before x (arrays_told all before x) k refl is
 item_told_breaks K12 all before x k is =
     function_found all before x (misdefined_at (roles_of all) before x) k (definitions_told (roles_of all) before x) is
@@ -276,6 +301,7 @@ item_told_breaks rule all before x k is = absurd cc
 
 -- of a rule of which all is covered
 abbrev whole_rule : Rule → Type 0
+whole_rule K4 = ⊥
 whole_rule K12 = ⊥
 whole_rule rule = Unit {0}
 
@@ -284,6 +310,9 @@ item_silent_keeps K1 whole all before x is = repeat_kept all before x x.label re
 item_silent_keeps K3 whole all before x is = real_missing all before x _ refl is
 item_silent_keeps K6 whole all before x is =
     part_silent numbered (IsNumberBy (roles_of all) before x) (has_bad_number (roles_of all) before x) (numbered_part (roles_of all) before x) (numbers_told (roles_of all) before x) is
+item_silent_keeps K7 whole all before x is =
+    part_silent sized (IsSizeBy (roles_of all) before x) (has_large_array (roles_of all) before x) (sized_part (roles_of all) before x) (sizes_told (roles_of all) before x) is
+item_silent_keeps K4 whole all before x is = absurd whole
 item_silent_keeps K8 whole all before x is = misuse_kept all before x (arrays_told all before x) refl is
 item_silent_keeps K12 whole all before x is = absurd whole
 item_silent_keeps K13 whole all before x is = unknown_missing all before x _ refl is
@@ -315,6 +344,9 @@ module _ (t : Nested) (front : List Seat) (z : Seat) where
       part_silent listed (IsMissedBy (unit_of t) z) (is_transfer_broken t z) (missed_in (unit_of t) z) (list_witnesses t z).missed is
   silent_keeps K9 is =
       part_silent listed (IsLoopedBy (roles_of (flatten t)) z) (is_loop_broken t z) (looped_in (roles_of (flatten t)) z) (list_witnesses t z).looped is
+  silent_keeps K4 is =
+      let r = roles_of (flatten t) in
+      name_missing (flatten t) (items_in front) z.item (disputed_part r (items_in front) z.item) (names_told r (items_in front) z.item) (sym (or_none (item_culprit_in K4 (flatten t) (items_in front) z.item)) ∙ is)
   silent_keeps K12 is =
       let r = roles_of (flatten t) in
       function_missing (flatten t) (items_in front) z.item (misdefined_at r (items_in front) z.item) (definitions_told r (items_in front) z.item) (sym (or_none (item_culprit_in K12 (flatten t) (items_in front) z.item)) ∙ is)

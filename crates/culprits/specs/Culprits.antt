@@ -4,7 +4,7 @@ use Rattle.std.specs.Prelude.{ℕ, ◌++◌, Bool, List, [], map, option_map, Op
 use Rattle.std.specs.List.{find}
 use Rattle.std.specs.Option.{option_or}
 use Rattle.meaning.specs.declared.refusal.Rule.{Rule}
-use Rattle.meaning.specs.declared.refusal.Rule.TheVariants.{K1, K2, K3, K6, K8, K9, K12, K13}
+use Rattle.meaning.specs.declared.refusal.Rule.TheVariants.{K1, K2, K3, K4, K6, K7, K8, K9, K12, K13}
 use Rattle.meaning.specs.LabelRules.{has_label}
 use Rattle.meaning.specs.NameRules.{is_real, is_real_use, is_unknown_function, names_defined, names_used}
 use Rattle.meaning.specs.Syntax.{ItemTree, ShapeTree}
@@ -14,8 +14,10 @@ use Rattle.meaning.specs.Uses.{Roles, is_defining, roles_of}
 use Rattle.name_uses.specs.UsesIn.{reads_in, uses_in}
 use Rattle.culprits.specs.Counts.{miscounted_in}
 use Rattle.culprits.specs.Placing.{at_line, seat_line}
-use Rattle.culprits.specs.Told.{Told, repeated, real, numbered, defined, unknown, listed}
+use Rattle.culprits.specs.Told.{Told, repeated, real, numbered, sized, disputed, defined, unknown, listed}
 use Rattle.function_culprits.specs.Functions.{misdefined_at}
+use Rattle.name_culprits.specs.Names.{disputed_in as disputed_part}
+use Rattle.size_culprits.specs.Sizes.{large_in as sized_part}
 use Rattle.number_culprits.specs.Numbers.{bad_in as numbered_part}
 use Rattle.list_culprits.specs.Loops.{looped_in}
 use Rattle.list_culprits.specs.Seats.{Seat, seats_of}
@@ -40,6 +42,14 @@ real_in r without_letters defines s = option_map (λ n. real n without_letters) 
 abbrev pub numbered_in : Roles → List ItemTree → ItemTree → Option Told
 numbered_in r before x = option_map numbered (numbered_part r before x)
 
+-- K7: what breaks the rule on the sizes of arrays
+abbrev pub sized_in : Roles → List ItemTree → ItemTree → Option Told
+sized_in r before x = option_map sized (sized_part r before x)
+
+-- K4: what breaks the rule on what names are
+abbrev pub disputed_in : Roles → List ItemTree → ItemTree → Option Told
+disputed_in r before x = option_map disputed (disputed_part r before x)
+
 -- K12: what breaks the rule on statement functions, but how deep they go and how large they become
 abbrev pub misdefined_function_in : Roles → List ItemTree → ItemTree → Option Told
 misdefined_function_in r before x = option_map defined (misdefined_at r before x)
@@ -57,6 +67,8 @@ item_culprit_in K3 all before x =
     real_in (roles_of all) (has_implicit_none all) (is_defining (roles_of all) before x) x.shape
 item_culprit_in K8 all before x = miscounted_in (roles_of all) (is_defining (roles_of all) before x) x.shape
 item_culprit_in K6 all before x = numbered_in (roles_of all) before x
+item_culprit_in K7 all before x = sized_in (roles_of all) before x
+item_culprit_in K4 all before x = disputed_in (roles_of all) before x
 item_culprit_in K12 all before x = misdefined_function_in (roles_of all) before x
 item_culprit_in K13 all before x = unknown_in (roles_of all) (is_defining (roles_of all) before x) x.shape
 item_culprit_in rule all before x = None

@@ -3,9 +3,11 @@ use Rattle.std.specs.Prelude.{ℕ, ◌++◌, Bool, true, false, List, codes, ◌
 use Rattle.std.specs.Fmt.{decimal}
 use Rattle.culprits.specs.declared.culprit.Wanted.{Wanted}
 use Rattle.culprits.specs.declared.culprit.Wanted.TheVariants.{Subscripts, Arguments, ArgumentsOrMore}
-use Rattle.culprits.specs.Told.{Told, repeated, real, miscounted, numbered, defined, unknown, listed}
+use Rattle.culprits.specs.Told.{Told, repeated, real, miscounted, numbered, sized, disputed, defined, unknown, listed}
 use Rattle.function_culprits.specs.Texts.{told_text as function_text, word_of as function_word}
 use Rattle.number_culprits.specs.Texts.{told_text as number_text, word_of as number_word}
+use Rattle.size_culprits.specs.Texts.{told_text as size_text, word_of as size_word}
+use Rattle.name_culprits.specs.Texts.{told_text as name_text, word_of as name_word}
 use Rattle.list_culprits.specs.Texts.{told_text as list_text, word_of as list_word}
 
 -- why a name has no type of the profile (4.1.2; IMPLICIT NONE is own)
@@ -30,6 +32,8 @@ told_text (repeated label line) = codes "label " ++ decimal label ++ codes " sta
 told_text (real name without_letters) = name ++ untyped_text without_letters
 told_text (miscounted name wanted given) = miscounted_text name wanted given
 told_text (numbered k) = number_text k
+told_text (sized k) = size_text k
+told_text (disputed k) = name_text k
 told_text (defined k) = function_text k
 told_text (unknown name) = name ++ codes " is neither an array nor a function"
 told_text (listed k) = list_text k
@@ -40,6 +44,8 @@ word_of (repeated label line) = None
 word_of (real name without_letters) = Some name
 word_of (miscounted name wanted given) = Some name
 word_of (numbered k) = Some (number_word k)
+word_of (sized k) = Some (size_word k)
+word_of (disputed k) = name_word k
 word_of (defined k) = Some (function_word k)
 word_of (unknown name) = Some name
 word_of (listed k) = Some (list_word k)

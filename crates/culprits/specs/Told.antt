@@ -5,6 +5,8 @@ use Rattle.culprits.specs.declared.culprit.Culprit.TheVariants as culprits
 use Rattle.culprits.specs.declared.culprit.Wanted.{Wanted}
 use Rattle.function_culprits.specs.Told.{Told as FunctionTold, told_at as function_told_at}
 use Rattle.number_culprits.specs.Told.{Told as NumberTold, told_at as number_told_at}
+use Rattle.size_culprits.specs.Told.{Told as SizeTold, told_at as size_told_at}
+use Rattle.name_culprits.specs.Told.{Told as NameTold, told_at as name_told_at}
 use Rattle.list_culprits.specs.Told.{Told as ListTold, told_at as list_told_at}
 
 pub data Told : Type 0 where
@@ -16,6 +18,10 @@ pub data Told : Type 0 where
   miscounted : List ℕ → Wanted → Option ℕ → Told
   -- K6: what breaks the rule on integer constants and constant expressions
   numbered : NumberTold → Told
+  -- K7: what breaks the rule on the sizes of arrays
+  sized : SizeTold → Told
+  -- K4: what breaks the rule on what names are
+  disputed : NameTold → Told
   -- K12: what breaks the rule on statement functions
   defined : FunctionTold → Told
   -- K13: the name of a function
@@ -29,6 +35,8 @@ told_at (culprits.Repeated label earlier) = repeated label earlier
 told_at (culprits.Real name without_letters) = real name.now without_letters
 told_at (culprits.Miscounted name wanted given) = miscounted name.now wanted given
 told_at (culprits.Number culprit) = numbered (number_told_at culprit)
+told_at (culprits.Size culprit) = sized (size_told_at culprit)
+told_at (culprits.Name culprit) = disputed (name_told_at culprit)
 told_at (culprits.Function culprit) = defined (function_told_at culprit)
 told_at (culprits.Unknown name) = unknown name.now
 told_at (culprits.Listed culprit) = listed (list_told_at culprit)

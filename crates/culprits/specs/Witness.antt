@@ -2,10 +2,10 @@
 use Rattle.std.specs.Prelude.{◌≡◌, ℕ, ◌==◌, Bool, true, false, List, ◌∷◌, ◌++◌, Option, Some, None, option_map, IsTrue, ◌⊎◌}
 use Rattle.std.specs.List.{Contains, list_any}
 use Rattle.meaning.specs.declared.refusal.Rule.{Rule}
-use Rattle.meaning.specs.declared.refusal.Rule.TheVariants.{K1, K2, K3, K6, K8, K9, K12, K13}
+use Rattle.meaning.specs.declared.refusal.Rule.TheVariants.{K1, K2, K3, K4, K6, K7, K8, K9, K12, K13}
 use Rattle.meaning.specs.LabelRules.{has_repeated_label}
-use Rattle.meaning.specs.NameRules.{breaks_function_rules, has_misuse, has_real_name, has_unknown_function, is_misused_array, is_misused_function, is_real, is_unknown_function}
-use Rattle.meaning.specs.NumberRules.{has_bad_number}
+use Rattle.meaning.specs.NameRules.{breaks_function_rules, has_misuse, has_real_name, has_unknown_function, is_disputed, is_misused_array, is_misused_function, is_real, is_unknown_function}
+use Rattle.meaning.specs.NumberRules.{has_bad_number, has_large_array}
 use Rattle.meaning.specs.Syntax.{ItemTree}
 use Rattle.meaning.specs.Trees.{Nested, flatten}
 use Rattle.meaning.specs.Types.{has_implicit_none}
@@ -13,8 +13,10 @@ use Rattle.meaning.specs.Uses.{Roles, Use, is_defining, parts_at, roles_of, uses
 use Rattle.culprits.specs.declared.culprit.Wanted.{Wanted}
 use Rattle.culprits.specs.Counts.{arguments_of, capped, subscripts_of}
 use Rattle.culprits.specs.Culprits.{culprit_at, items_in, names_in}
-use Rattle.culprits.specs.Told.{Told, repeated, real, miscounted, numbered, defined, unknown, listed}
+use Rattle.culprits.specs.Told.{Told, repeated, real, miscounted, numbered, sized, disputed, defined, unknown, listed}
 use Rattle.number_culprits.specs.Witness.{IsBy as IsNumberBy}
+use Rattle.size_culprits.specs.Witness.{IsBy as IsSizeBy}
+use Rattle.name_culprits.specs.Witness.{IsBy as IsNameBy, breaks_in_part}
 use Rattle.function_culprits.specs.Witness.{IsBy as IsFunctionBy, breaks_but_deep}
 use Rattle.list_culprits.specs.Seats.{Seat, seats_of}
 use Rattle.list_culprits.specs.Witness.{IsLoopedBy, IsMissedBy, is_loop_broken, is_transfer_broken, unit_of}
@@ -26,6 +28,8 @@ is_covered K1 = true
 is_covered K2 = true
 is_covered K3 = true
 is_covered K6 = true
+is_covered K7 = true
+is_covered K4 = true
 is_covered K8 = true
 is_covered K9 = true
 is_covered K12 = true
@@ -37,6 +41,8 @@ abbrev pub item_breaks : Rule → List ItemTree → List ItemTree → ItemTree �
 item_breaks K1 all before x = has_repeated_label before x
 item_breaks K3 all before x = has_real_name (roles_of all) before x
 item_breaks K6 all before x = has_bad_number (roles_of all) before x
+item_breaks K7 all before x = has_large_array (roles_of all) before x
+item_breaks K4 all before x = is_disputed (roles_of all) before x
 item_breaks K8 all before x = has_misuse (roles_of all) before x
 item_breaks K12 all before x = breaks_function_rules (roles_of all) before x
 item_breaks K13 all before x = has_unknown_function (roles_of all) before x
@@ -48,8 +54,10 @@ breaks K2 t before z = is_transfer_broken t z
 breaks K9 t before z = is_loop_broken t z
 breaks rule t before z = item_breaks rule (flatten t) before z.item
 
--- what of a rule is covered is broken: of K12 all but how deep statement functions go and how large they become
+-- what of a rule is covered is broken: of K4 all but letters, variables that are functions too, and LOGICAL intrinsic functions, of K12 all
+-- but how deep statement functions go and how large they become
 abbrev pub breaks_covered : Rule → Nested → List ItemTree → Seat → Bool
+breaks_covered K4 t before z = breaks_in_part (roles_of (flatten t)) before z.item
 breaks_covered K12 t before z = breaks_but_deep (roles_of (flatten t)) before z.item
 breaks_covered rule t before z = breaks rule t before z
 
@@ -93,6 +101,8 @@ abbrev pub IsItemBy : Rule → List ItemTree → List ItemTree → ItemTree → 
 IsItemBy K1 all before x (repeated label line) = Repeats before x label line
 IsItemBy K3 all before x (real name without_letters) = IsRealHere (roles_of all) before x name × (without_letters ≡ has_implicit_none all)
 IsItemBy K6 all before x (numbered k) = IsNumberBy (roles_of all) before x k
+IsItemBy K7 all before x (sized k) = IsSizeBy (roles_of all) before x k
+IsItemBy K4 all before x (disputed k) = IsNameBy (roles_of all) before x k
 IsItemBy K8 all before x (miscounted name wanted given) = IsMiscountedHere (roles_of all) before x name wanted given
 IsItemBy K12 all before x (defined k) = IsFunctionBy (roles_of all) before x k
 IsItemBy K13 all before x (unknown name) = IsUnknownHere (roles_of all) before x name

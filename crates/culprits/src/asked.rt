@@ -17,7 +17,7 @@ use crate::culprit::Culprit;
 use crate::functions::misdefined_function;
 use crate::labels::repeated_label;
 use crate::names::{real_name, unknown_function};
-use crate::others::number_culprit;
+use crate::others::{name_culprit, number_culprit, size_culprit};
 use list_culprits::{ItemTest, ListCulprit, Seat, looped_name, missed_label, seat_of};
 use meaning::refusal::Rule;
 use meaning::syntax::{Item, Tree};
@@ -57,13 +57,15 @@ fn culprit_in<'a>(
         Rule::K1 => Ok(repeated_label(before, item.label)),
         Rule::K3 => real_name(alloc, roles, is_defining(roles, before, item), shape),
         Rule::K6 => number_culprit(alloc, roles, before, item),
+        Rule::K7 => size_culprit(alloc, roles, before, item),
+        Rule::K4 => name_culprit(alloc, roles, before, item),
         Rule::K8 => miscounted_name(alloc, roles, is_defining(roles, before, item), shape),
         Rule::K12 => misdefined_function(alloc, roles, before, item),
         Rule::K13 => unknown_function(alloc, roles, is_defining(roles, before, item), shape),
         Rule::C1 | Rule::C2 | Rule::C3 | Rule::C4 | Rule::C5 | Rule::C6 | Rule::C7 => Ok(None),
         Rule::G1 | Rule::G2 | Rule::G3 => Ok(None),
         Rule::N1 | Rule::N2 | Rule::N3 | Rule::N4 | Rule::N5 => Ok(None),
-        Rule::K2 | Rule::K4 | Rule::K5 | Rule::K7 => Ok(None),
+        Rule::K2 | Rule::K5 => Ok(None),
         Rule::K9 | Rule::K10 | Rule::K11 => Ok(None),
     }
 }

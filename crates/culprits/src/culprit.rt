@@ -4,7 +4,9 @@ ghost use Rattle.std.specs.Prelude.{◌≡◌, option_map};
 
 use function_culprits::FunctionCulprit;
 use list_culprits::ListCulprit;
+use name_culprits::NameCulprit;
 use number_culprits::NumberCulprit;
+use size_culprits::SizeCulprit;
 
 /// How many subscripts or arguments a name wants.
 #[derive(Clone, Copy, Debug, PartialEq, Eq)]
@@ -31,6 +33,14 @@ pub enum Culprit<'a> {
     /// K6: what breaks the rule on integer constants and constant expressions (4.3, 5.1.1 and 8.6).
     Number {
         culprit: NumberCulprit<'a>,
+    },
+    /// K7: what breaks the rule on the sizes of arrays (5.1).
+    Size {
+        culprit: SizeCulprit<'a>,
+    },
+    /// K4: what breaks the rule on what names are (8.1, 8.4 to 8.6 and 15.4).
+    Name {
+        culprit: NameCulprit<'a>,
     },
     /// K8: a name that wants another number of subscripts or arguments than there are; none are given where it stands without
     /// parentheses (5.4.2, 15.3 and 15.4).
@@ -65,6 +75,8 @@ impl<'a> Culprit<'a> {
             Culprit::Repeated { .. } => None,
             Culprit::Real { name, .. } => Some(name),
             Culprit::Number { culprit } => Some(culprit.word()),
+            Culprit::Size { culprit } => Some(culprit.word()),
+            Culprit::Name { culprit } => culprit.word(),
             Culprit::Miscounted { name, .. } => Some(name),
             Culprit::Function { culprit } => Some(culprit.word()),
             Culprit::Unknown { name } => Some(name),

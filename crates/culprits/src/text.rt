@@ -9,7 +9,9 @@ use crate::culprit::{Culprit, Wanted};
 use function_culprits::add_function_text;
 use itoa::Buffer;
 use list_culprits::add_list_text;
+use name_culprits::add_name_text;
 use number_culprits::add_number_text;
+use size_culprits::add_size_text;
 use std::alloc::AllocError;
 
 /// Puts a text behind others.
@@ -135,6 +137,8 @@ pub fn add_text(bytes: &mut Vec<u8>, culprit: Culprit) -> Result<(), AllocError>
             given,
         } => add_miscounted(bytes, name, wanted, given),
         Culprit::Number { culprit } => add_number_text(bytes, culprit),
+        Culprit::Size { culprit } => add_size_text(bytes, culprit),
+        Culprit::Name { culprit } => add_name_text(bytes, culprit),
         Culprit::Function { culprit } => add_function_text(bytes, culprit),
         Culprit::Unknown { name } => {
             bytes.extend_from_slice(name)?;

@@ -1,0 +1,5 @@
+use Rattle.roles.specs.Listed.{trees_at}
+use Rattle.name_culprits.proofs.used.is_defining.Goals as goal
+
+pub returns : goal.returns
+returns c = c.is_defining.ensures (trees_at c.args.before.now) c.stage_behind.ensures
