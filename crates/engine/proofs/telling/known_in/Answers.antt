@@ -10,5 +10,6 @@ returns-in-Ok c =
 
 pub returns-in-Err-Rule : goal.returns-in-Err-Rule
 returns-in-Err-Rule c =
-    let refused = rw c.in-Err-Rule.is at c.requires in
+    let told = rw c.in-Err-Rule.is at c.requires in
+    let refused = rw c.in-Err-Rule.field-0-is at told in
     (None, (_, refused), c.nothing.ensures)
