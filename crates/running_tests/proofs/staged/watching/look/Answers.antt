@@ -1,7 +1,7 @@
 use Rattle.std.proofs.Common.{◌<◌, pos, ◌+ℤ◌, ◌*ℤ◌, FitsSigned, rules, sym, subst}
 use Rattle.std.specs.Int.{w32}
 use Rattle.std.proofs.lemmas.Int.{to_z-of_z}
-use Rattle.stage_loop.proofs.Values.{each_fits}
+use Rattle.expressions.proofs.TripValues.{each_fits}
 use Rattle.running_tests.proofs.staged.watching.look.Goals as goal
 
 pub look_at-requires-clause-fits : goal.look_at-requires-clause-fits
