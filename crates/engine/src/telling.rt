@@ -230,8 +230,10 @@ fn known_in(
 {
     match unit {
         Ok(unit) => known_of(alloc, source, unit, rule, line),
-        Err(Refusal::Rule { rule: _, line: _ }) => Ok(Known::nothing(alloc)),
-        Err(Refusal::Memory) => Err(AllocError),
+        Err(refusal) => match *refusal {
+            Refusal::Rule { rule: _, line: _ } => Ok(Known::nothing(alloc)),
+            Refusal::Memory => Err(AllocError),
+        },
     }
 }
 
