@@ -19,9 +19,9 @@ use Rattle.meaning.proofs.Ranges.{left_more}
 use Rattle.rule_laws.specs.Read.{HeadsExecute}
 use Rattle.meaning.specs.Values.{Arrays}
 use Rattle.name_maps.specs.Keeping.{kept_at}
-use Rattle.numbering.specs.declared.parts.FunctionAt.{FunctionAt}
+use Rattle.storage.specs.declared.parts.FunctionAt.{FunctionAt}
 use Rattle.appearances.specs.FunctionsFound.{AreFound, Finding, IsExecutable, IsFoundAt, IsNone, IsOne, PassesItem, PassesMember, defined_in}
-use Rattle.numbering.specs.Kept.{shown_at, shown_by}
+use Rattle.storage.specs.Kept.{shown_at, shown_by}
 
 first_is : (arrays : Arrays) (x : ItemTree) (xs : List ItemTree) → definitions_of arrays (x ∷ xs) ≡ defined_before (defined_by arrays x.shape) (is_specification x.shape) (definitions_of arrays xs)
 unfolding definitions_of

@@ -11,11 +11,11 @@ use Rattle.meaning.specs.Syntax.{shape_tree}
 use Rattle.meaning.specs.Scopes.{Definition, defined_by, definitions_of, is_specification}
 use Rattle.meaning.specs.Trees.{flat, members_tree}
 use Rattle.meaning.specs.Values.{Arrays}
-use Rattle.roles.specs.declared.names.Roles.{Roles}
+use Rattle.symbols.specs.declared.names.Symbols.{Symbols}
 use Rattle.name_maps.specs.Keeping.{kept_at}
-use Rattle.roles.specs.RolesAt.{roles_at}
-use Rattle.numbering.specs.declared.parts.FunctionAt.{FunctionAt}
-use Rattle.numbering.specs.Kept.{shown_at}
+use Rattle.symbols.specs.SymbolsAt.{symbols_at}
+use Rattle.storage.specs.declared.parts.FunctionAt.{FunctionAt}
+use Rattle.storage.specs.Kept.{shown_at}
 
 -- the member at this place defines one of them
 pub record IsShown (ds : List Definition) (n : List ℕ) (members : List Member) (a : FunctionAt) :
@@ -79,13 +79,14 @@ module _ {S : Type 0} (arrays : Arrays) (m new : IndexMap (Vec ℕ) FunctionAt S
 
 -- ---- in a program unit of which this is known
 
-abbrev pub Passes : {S : Type 0} → Roles → IndexMap (Vec ℕ) FunctionAt S →
+abbrev pub Passes : {S : Type 0} → Symbols → IndexMap (Vec ℕ) FunctionAt S →
     IndexMap (Vec ℕ) FunctionAt S → ℕ → ℕ → Item → Option ℕ → Type 0
-Passes r m new at member x = PassesItem (roles_at r).names.arrays m new at member x
+Passes r m new at member x = PassesItem (symbols_at r).names.arrays m new at member x
 
-abbrev pub PassesOne : {S : Type 0} → Roles → IndexMap (Vec ℕ) FunctionAt S →
+abbrev pub PassesOne : {S : Type 0} → Symbols → IndexMap (Vec ℕ) FunctionAt S →
     IndexMap (Vec ℕ) FunctionAt S → ℕ → ℕ → Member → Option ℕ → Type 0
-PassesOne r m new at member one = PassesMember (roles_at r).names.arrays m new at member one
+PassesOne r m new at member one = PassesMember (symbols_at r).names.arrays m new at member one
 
-abbrev pub AreFoundIn : {S : Type 0} → Roles → List Member → IndexMap (Vec ℕ) FunctionAt S → Type 0
-AreFoundIn r members m = AreFound (defined_in (roles_at r).names.arrays members) members m
+abbrev pub AreFoundIn : {S : Type 0} → Symbols → List Member → IndexMap (Vec ℕ) FunctionAt S →
+    Type 0
+AreFoundIn r members m = AreFound (defined_in (symbols_at r).names.arrays members) members m

@@ -8,7 +8,7 @@ use Rattle.meaning.specs.Execution.{Ran}
 use Rattle.meaning.specs.Maps.{Map}
 use Rattle.meaning.specs.Stores.{Cells, overlay}
 use Rattle.meaning.proofs.Stores.{does_then}
-use Rattle.numbering.specs.Checked.{items_in}
+use Rattle.storage.specs.Checked.{items_in}
 use Rattle.values.specs.Programs.{map_at}
 use Rattle.private_view.specs.Views.{Seen, new_view, world_seen}
 use Rattle.evaluator.specs.Over.{RunsOver, SetsOver, repeated_as, trips_as}
@@ -27,10 +27,10 @@ module _ (j : JobParts) (s : Seen) (r : Run) (first step : ℤ) (trips : ℕ) wh
   rest m t = repeated_as (items_in j.program) j.repeated first step trips m t
 
   abbrev pub Done : Seen → Seen → Type 0
-  Done before after = RunsOver j.program (world_seen before) (world_seen after) rest j.turns r
+  Done before after = RunsOver j.program (world_seen before) (world_seen after) rest j.turns_left r
 
   abbrev pub Runs : Seen → Seen → Type 0
-  Runs before after = RunsOver j.program (world_seen before) (world_seen after) (trips_as (items_in j.program) j.repeated (variable_in j.repeated) first step trips) j.turns r
+  Runs before after = RunsOver j.program (world_seen before) (world_seen after) (trips_as (items_in j.program) j.repeated (variable_in j.repeated) first step trips) j.turns_left r
 
   abbrev pub Set : Seen → Seen → Type 0
   Set before after = SetsOver j.program (world_seen before) (world_seen after) (variable_in j.repeated) first
@@ -38,18 +38,18 @@ module _ (j : JobParts) (s : Seen) (r : Run) (first step : ℤ) (trips : ℕ) wh
   -- the variable is set, and then the trips are run
   both : (before between : Seen) → Set before between → Runs between s → Done before s
   both before between sets does =
-      does_then (world_seen before) (world_seen between) (world_seen s) _ _ _ sets does (λ m k n e x. ap (λ q. trips_as (items_in j.program) j.repeated (variable_in j.repeated) first step trips q j.turns) (sym e) ∙ x)
+      does_then (world_seen before) (world_seen between) (world_seen s) _ _ _ sets does (λ m k n e x. ap (λ q. trips_as (items_in j.program) j.repeated (variable_in j.repeated) first step trips q j.turns_left) (sym e) ∙ x)
 
   module _ (before between : Seen) (fresh : before ≡ new_view j.base) (sets : Set before between) (does : Runs between s) (kept : s.lost ≡ false) where
     done : Done (new_view j.base) s
     done = subst (λ t. Done t s) fresh (both before between sets does)
 
-    pub faithful : (i : ℕ) → i < j.blocks → first ≡ start_of (data_of j) i → step ≡ j.step → trips ≡ count_of (data_of j) i → r.turns_used ≤ j.turns → IsFaithful (data_of j) (record { block = i; outcome = r.outcome; used = r.turns_used; seen = s })
+    pub faithful : (i : ℕ) → i < j.blocks → first ≡ start_of (data_of j) i → step ≡ j.step → trips ≡ count_of (data_of j) i → r.turns_used ≤ j.turns_left → IsFaithful (data_of j) (record { index = i; outcome = r.outcome; used = r.turns_used; seen = s })
     faithful i below first_is step_is trips_are within =
         record {
           below = below;
           cells = done.grows.cells;
           kept = kept;
           within = within;
-          gives = λ m same. sym (λ k. repeated_as (items_in j.program) j.repeated (first_is k) (step_is k) (trips_are k) (map_at j.program m) j.turns) ∙ subst (λ q. rest (map_at j.program q) j.turns ≡ ran_by r (map_at j.program (overlay m (map.get s.written)))) (overlay-empty m) (done.means kept m (λ c shown. same c shown ∙ sym (ap (λ f. f c) done.grows.base)));
+          gives = λ m same. sym (λ k. repeated_as (items_in j.program) j.repeated (first_is k) (step_is k) (trips_are k) (map_at j.program m) j.turns_left) ∙ subst (λ q. rest (map_at j.program q) j.turns_left ≡ ran_by r (map_at j.program (overlay m (map.get s.written)))) (overlay-empty m) (done.means kept m (λ c shown. same c shown ∙ sym (ap (λ f. f c) done.grows.base)));
         }

@@ -123,30 +123,30 @@ module _ (d : JobData) where
   -- the fold over the trips of the blocks below c
   abbrev pub IsRun : Places → ℕ → Type 0
   IsRun places c =
-      trips_of d d.first (trips_before d c) (base_of d) d.turns ≡ ran d (outcome_to places c) (overlay_all (base_of d) (take c places)) (turns_to places c)
+      trips_of d d.first (trips_before d c) (base_of d) d.turns_left ≡ ran d (outcome_to places c) (overlay_all (base_of d) (take c places)) (turns_to places c)
 
-  run_first : (places : Places) (r : RunData) → slice_get places 0 ≡ Some (Some r) → r.block ≡ 0 → IsFaithful d r → IsRun places 1
+  run_first : (places : Places) (r : RunData) → slice_get places 0 ≡ Some (Some r) → r.index ≡ 0 → IsFaithful d r → IsRun places 1
   run_first places r at is ok =
       let g = ok.gives (base_of d) (λ c shown. refl) in
-      let start : start_of d r.block ≡ d.first = ap (start_of d) is ∙ first_start d.first d.step in
-      let n : count_of d r.block ≡ trips_before d 1 = ap (count_of d) is ∙ omega arith in
-      let g2 : trips_of d d.first (trips_before d 1) (base_of d) d.turns ≡ ran d r.outcome (overlay (base_of d) (map.get r.seen.written)) r.used = sym (λ i. trips_of d (start i) (n i) (base_of d) d.turns) ∙ g in
+      let start : start_of d r.index ≡ d.first = ap (start_of d) is ∙ first_start d.first d.step in
+      let n : count_of d r.index ≡ trips_before d 1 = ap (count_of d) is ∙ omega arith in
+      let g2 : trips_of d d.first (trips_before d 1) (base_of d) d.turns_left ≡ ran d r.outcome (overlay (base_of d) (map.get r.seen.written)) r.used = sym (λ i. trips_of d (start i) (n i) (base_of d) d.turns_left) ∙ g in
       let maps : overlay_all (base_of d) (take (0 + 1) places) ≡ overlay (base_of d) (map.get r.seen.written) = all_more (base_of d) places 0 (Some r) at in
       let turns : turns_to places (0 + 1) ≡ r.used = turns_next places 0 (Some r) at ∙ none_before r.used in
       let o : outcome_to places 1 ≡ r.outcome = ap (λ p. outcome_in (at_place p)) at in
       g2 ∙ sym (λ i. ran d (o i) (maps i) (turns i))
     where
-      first_start : (a s : ℤ) → a +ℤ pos (0 * d.block) *ℤ s ≡ a
+      first_start : (a s : ℤ) → a +ℤ pos (0 * d.block_size) *ℤ s ≡ a
       first_start a s = search rules
 
       none_before : (n : ℕ) → 0 + n ≡ n
       none_before n = omega arith
 
-  module _ (long : 0 < d.block) (last : (d.blocks - 1) * d.block < d.trips) (unset : NeverSets d.variable d.range) where
-    block_below : (c : ℕ) → c < d.blocks → c * d.block < d.trips
-    block_below c lt = let le = mul-le-mul_right d.block (let e : c ≤ d.blocks - 1 = omega arith in e) in omega (arith, last)
+  module _ (long : 0 < d.block_size) (last : (d.blocks - 1) * d.block_size < d.trips) (unset : NeverSets d.variable d.range) where
+    block_below : (c : ℕ) → c < d.blocks → c * d.block_size < d.trips
+    block_below c lt = let le = mul-le-mul_right d.block_size (let e : c ≤ d.blocks - 1 = omega arith in e) in omega (arith, last)
 
-    run_next : (places : Places) (c : ℕ) (r : RunData) → 0 < c → c < d.blocks → slice_get places c ≡ Some (Some r) → r.block ≡ c → IsFaithful d r → stops_later d.turns places c ≡ false → IsRun places c → IsRun places (c + 1)
+    run_next : (places : Places) (c : ℕ) (r : RunData) → 0 < c → c < d.blocks → slice_get places c ≡ Some (Some r) → r.index ≡ c → IsFaithful d r → stops_later d.turns_left places c ≡ false → IsRun places c → IsRun places (c + 1)
     run_next places c r some lt at is ok not_later old =
         let base = base_of d in
         let m = overlay_all base (take c places) in
@@ -154,34 +154,34 @@ module _ (d : JobData) where
         let n = trips_before d c in
         let k = count_of d c in
         let start = start_of d c in
-        let p1 = or_parts (clashes places c || nat_lt d.turns (turns_to places (c + 1)) || is_limit (outcome_in (place_at places c))) (is_early (outcome_in (place_at places (c - 1)))) not_later in
-        let p2 = or_parts (clashes places c || nat_lt d.turns (turns_to places (c + 1))) (is_limit (outcome_in (place_at places c))) p1.0 in
-        let p3 = or_parts (clashes places c) (nat_lt d.turns (turns_to places (c + 1))) p2.0 in
+        let p1 = or_parts (clashes places c || nat_lt d.turns_left (turns_to places (c + 1)) || is_limit (outcome_in (place_at places c))) (is_early (outcome_in (place_at places (c - 1)))) not_later in
+        let p2 = or_parts (clashes places c || nat_lt d.turns_left (turns_to places (c + 1))) (is_limit (outcome_in (place_at places c))) p1.0 in
+        let p3 = or_parts (clashes places c) (nat_lt d.turns_left (turns_to places (c + 1))) p2.0 in
         let well : outcome_to places c ≡ Normal = normal_end (outcome_to places c) p1.1 in
         let here : place_at places c ≡ Some r = ap at_place at in
         let apart : list_any (reads_place r) (take c places) ≡ false = sym (ap (clashes_at places c) here) ∙ p3.0 in
         let no_limit : met_limit (outcome_of r.outcome) ≡ false = sym (ap (λ p. is_limit (outcome_in p)) here) ∙ p2.1 in
         let turns : turns_to places (c + 1) ≡ u + r.used = turns_next places c (Some r) at in
-        let fits : turns_to places (c + 1) ≤ d.turns = ltb-false d.turns (turns_to places (c + 1)) p3.1 in
-        let old2 : fold d.first n (put (map_in_job d base) d.variable [] d.first) d.turns ≡ ran d Normal m u = old ∙ ap (λ o. ran d o m u) well in
+        let fits : turns_to places (c + 1) ≤ d.turns_left = ltb-false d.turns_left (turns_to places (c + 1)) p3.1 in
+        let old2 : fold d.first n (put (map_in_job d base) d.variable [] d.first) d.turns_left ≡ ran d Normal m u = old ∙ ap (λ o. ran d o m u) well in
         let below = block_below c lt in
-        let place_is : n ≡ c * d.block = omega arith in
+        let place_is : n ≡ c * d.block_size = omega arith in
         let size : trips_before d (c + 1) ≡ n + k = omega arith in
         let g = ok.gives m (λ q shown. all_apart r q shown base (take c places) apart) in
-        let g1 : fold start k (put (map_in_job d m) d.variable [] start) d.turns ≡ ran d r.outcome (overlay m (map.get r.seen.written)) r.used = sym (λ i. trips_of d (start_of d (is i)) (count_of d (is i)) m d.turns) ∙ g in
-        let value : map_in_job d m d.variable [] ≡ d.first +ℤ pos (length (values_by d.first d.step n)) *ℤ d.step = sym (ap (λ (q : Ran). q.map d.variable []) old2) ∙ fold_trips-goes_on d.items d.line d.variable d.step d.range unset (values_by d.first d.step n) (put (map_in_job d base) d.variable [] d.first) d.turns (ap (λ (q : Ran). q.outcome) old2) ∙ ap (λ z. z +ℤ pos (length (values_by d.first d.step n)) *ℤ d.step) (put_here (map_in_job d base) d.variable d.first) in
+        let g1 : fold start k (put (map_in_job d m) d.variable [] start) d.turns_left ≡ ran d r.outcome (overlay m (map.get r.seen.written)) r.used = sym (λ i. trips_of d (start_of d (is i)) (count_of d (is i)) m d.turns_left) ∙ g in
+        let value : map_in_job d m d.variable [] ≡ d.first +ℤ pos (length (values_by d.first d.step n)) *ℤ d.step = sym (ap (λ (q : Ran). q.map d.variable []) old2) ∙ fold_trips-goes_on d.items d.line d.variable d.step d.range unset (values_by d.first d.step n) (put (map_in_job d base) d.variable [] d.first) d.turns_left (ap (λ (q : Ran). q.outcome) old2) ∙ ap (λ z. z +ℤ pos (length (values_by d.first d.step n)) *ℤ d.step) (put_here (map_in_job d base) d.variable d.first) in
         let at_start : map_in_job d m d.variable [] ≡ start = value ∙ ap (λ j. d.first +ℤ pos j *ℤ d.step) (length-values d.first d.step n ∙ place_is) in
-        let g2 : fold start k (map_in_job d m) d.turns ≡ ran d r.outcome (overlay m (map.get r.seen.written)) r.used = ap (λ q. fold start k q d.turns) (sym (put_again (map_in_job d m) d.variable [] start at_start)) ∙ g1 in
-        let used : (fold start k (map_in_job d m) d.turns).used ≡ r.used = ap (λ (q : Ran). q.used) g2 in
-        let unlimited : met_limit (fold start k (map_in_job d m) d.turns).outcome ≡ false = ap (λ (q : Ran). met_limit q.outcome) g2 ∙ no_limit in
-        let g3 : fold start k (map_in_job d m) (d.turns - u) ≡ ran d r.outcome (overlay m (map.get r.seen.written)) r.used = (fold_trips-bounded (exec d.items) d.line d.variable d.step d.range (exec-bounded d.items) (values_by start d.step k) (map_in_job d m)).frugal (d.turns - u) d.turns (omega arith) (omega arith) unlimited ∙ g2 in
-        let split = fold_split d.first start n k (put (map_in_job d base) d.variable [] d.first) d.turns in
+        let g2 : fold start k (map_in_job d m) d.turns_left ≡ ran d r.outcome (overlay m (map.get r.seen.written)) r.used = ap (λ q. fold start k q d.turns_left) (sym (put_again (map_in_job d m) d.variable [] start at_start)) ∙ g1 in
+        let used : (fold start k (map_in_job d m) d.turns_left).used ≡ r.used = ap (λ (q : Ran). q.used) g2 in
+        let unlimited : met_limit (fold start k (map_in_job d m) d.turns_left).outcome ≡ false = ap (λ (q : Ran). met_limit q.outcome) g2 ∙ no_limit in
+        let g3 : fold start k (map_in_job d m) (d.turns_left - u) ≡ ran d r.outcome (overlay m (map.get r.seen.written)) r.used = (fold_trips-bounded (exec d.items) d.line d.variable d.step d.range (exec-bounded d.items) (values_by start d.step k) (map_in_job d m)).frugal (d.turns_left - u) d.turns_left (omega arith) (omega arith) unlimited ∙ g2 in
+        let split = fold_split d.first start n k (put (map_in_job d base) d.variable [] d.first) d.turns_left in
         let maps : overlay_all base (take (c + 1) places) ≡ overlay m (map.get r.seen.written) = all_more base places c (Some r) at in
         let o : outcome_to places (c + 1) ≡ r.outcome = ap (λ j. outcome_in (place_at places j)) (one_back c) ∙ ap outcome_in here in
-        ap (λ j. fold d.first j (put (map_in_job d base) d.variable [] d.first) d.turns) size
+        ap (λ j. fold d.first j (put (map_in_job d base) d.variable [] d.first) d.turns_left) size
         ∙ split
-        ∙ ap (λ q. goes_on q d.turns (λ w t. fold start k w t)) old2
-        ∙ goes_on-ran m u d.turns (λ w t. fold start k w t)
+        ∙ ap (λ q. goes_on q d.turns_left (λ w t. fold start k w t)) old2
+        ∙ goes_on-ran m u d.turns_left (λ w t. fold start k w t)
         ∙ ap (λ q. more [] u q) g3
         ∙ more-ran r.outcome (overlay m (map.get r.seen.written)) u r.used (turns_to places (c + 1)) (sym turns)
         ∙ sym (λ i. ran d (o i) (maps i) (turns_to places (c + 1)))
@@ -190,34 +190,34 @@ module _ (d : JobData) where
         one_back c = omega arith
 
     -- the theorem of the commit
-    pub committed : (places : Places) → ((i : ℕ) (r : RunData) → slice_get places i ≡ Some (Some r) → (r.block ≡ i) × IsFaithful d r) → (c : ℕ) → 0 < c → c ≤ d.blocks → ((p : ℕ) → p < c → stops d.turns places p ≡ false) → IsRun places c
+    pub committed : (places : Places) → ((i : ℕ) (r : RunData) → slice_get places i ≡ Some (Some r) → (r.index ≡ i) × IsFaithful d r) → (c : ℕ) → 0 < c → c ≤ d.blocks → ((p : ℕ) → p < c → stops d.turns_left places p ≡ false) → IsRun places c
     committed places ok zero some le go = absurd (omega arith)
     committed places ok (suc zero) some le go =
-        let h = run_here d.turns places 0 (go 0 (omega arith)) in
+        let h = run_here d.turns_left places 0 (go 0 (omega arith)) in
         let f = ok 0 h.0 h.1 in
         run_first places h.0 h.1 f.0 f.1
     committed places ok (suc (suc c)) some le go =
         let old = committed places ok (suc c) (omega arith) (omega arith) (λ p lt. go p (omega arith)) in
-        let h = run_here d.turns places (suc c) (go (suc c) (omega arith)) in
+        let h = run_here d.turns_left places (suc c) (go (suc c) (omega arith)) in
         let f = ok (suc c) h.0 h.1 in
         let n : suc c + 1 ≡ suc (suc c) = omega arith in
-        subst (IsRun places) n (run_next places (suc c) h.0 (omega arith) (omega arith) h.1 f.0 f.1 (later_not d.turns places (suc c) (omega arith) (go (suc c) (omega arith))) old)
+        subst (IsRun places) n (run_next places (suc c) h.0 (omega arith) (omega arith) h.1 f.0 f.1 (later_not d.turns_left places (suc c) (omega arith) (go (suc c) (omega arith))) old)
 
     -- the turns before a cut are within those that are left
-    pub turns_fit : (places : Places) → ((i : ℕ) (r : RunData) → slice_get places i ≡ Some (Some r) → (r.block ≡ i) × IsFaithful d r) → (c : ℕ) → 0 < c → ((p : ℕ) → p < c → stops d.turns places p ≡ false) → turns_to places c ≤ d.turns
+    pub turns_fit : (places : Places) → ((i : ℕ) (r : RunData) → slice_get places i ≡ Some (Some r) → (r.index ≡ i) × IsFaithful d r) → (c : ℕ) → 0 < c → ((p : ℕ) → p < c → stops d.turns_left places p ≡ false) → turns_to places c ≤ d.turns_left
     turns_fit places ok zero some go = absurd (omega arith)
     turns_fit places ok (suc zero) some go =
-        let h = run_here d.turns places 0 (go 0 (omega arith)) in
+        let h = run_here d.turns_left places 0 (go 0 (omega arith)) in
         let f = (ok 0 h.0 h.1).1 in
         let e : turns_to places (0 + 1) ≡ 0 + h.0.used = turns_next places 0 (Some h.0) h.1 in
         omega (arith, e, f.within)
     turns_fit places ok (suc (suc c)) some go =
-        let l = later_not d.turns places (suc c) (omega arith) (go (suc c) (omega arith)) in
-        let p1 = or_parts (clashes places (suc c) || nat_lt d.turns (turns_to places (suc c + 1)) || is_limit (outcome_in (place_at places (suc c)))) (is_early (outcome_in (place_at places (suc c - 1)))) l in
-        let p2 = or_parts (clashes places (suc c) || nat_lt d.turns (turns_to places (suc c + 1))) (is_limit (outcome_in (place_at places (suc c)))) p1.0 in
-        let p3 = or_parts (clashes places (suc c)) (nat_lt d.turns (turns_to places (suc c + 1))) p2.0 in
+        let l = later_not d.turns_left places (suc c) (omega arith) (go (suc c) (omega arith)) in
+        let p1 = or_parts (clashes places (suc c) || nat_lt d.turns_left (turns_to places (suc c + 1)) || is_limit (outcome_in (place_at places (suc c)))) (is_early (outcome_in (place_at places (suc c - 1)))) l in
+        let p2 = or_parts (clashes places (suc c) || nat_lt d.turns_left (turns_to places (suc c + 1))) (is_limit (outcome_in (place_at places (suc c)))) p1.0 in
+        let p3 = or_parts (clashes places (suc c)) (nat_lt d.turns_left (turns_to places (suc c + 1))) p2.0 in
         let n : suc c + 1 ≡ suc (suc c) = omega arith in
-        subst (λ j. turns_to places j ≤ d.turns) n (ltb-false d.turns (turns_to places (suc c + 1)) p3.1)
+        subst (λ j. turns_to places j ≤ d.turns_left) n (ltb-false d.turns_left (turns_to places (suc c + 1)) p3.1)
 
 pub cut_within : (t : ℕ) (places : Places) (c : ℕ) → IsCut t places c → c ≤ length places
 cut_within t places c h =

@@ -4,31 +4,31 @@ use denote.Param.Send.{IsSync, enum_sync, sendable}
 use Rattle.std.proofs.Crossing.{crosses}
 use Rattle.std.proofs.MapsCrossing as maps
 use Rattle.block_stage.proofs.Crossing.{Tree_field, Exprs_field}
-use Rattle.block_stage.proofs.CrossingStores.{Format_field, Landmarks_field}
-use Rattle.numbering.specs.contracts.parts.Storage as Storage
-use Rattle.numbering.specs.contracts.parts.Entry as Entry
-use Rattle.numbering.specs.contracts.parts.FunctionAt as FunctionAt
-use Rattle.numbering.specs.contracts.parts.Parts as Parts
-use Rattle.numbering.specs.contracts.program.Program as Checked
+use Rattle.block_stage.proofs.CrossingStores.{Format_field, LabelTargets_field}
+use Rattle.storage.specs.contracts.parts.Storage as Storage
+use Rattle.storage.specs.contracts.parts.Entry as Entry
+use Rattle.storage.specs.contracts.parts.FunctionAt as FunctionAt
+use Rattle.storage.specs.contracts.parts.Parts as Parts
+use Rattle.storage.specs.contracts.program.CheckedProgram as Checked
 use Rattle.postfix.specs.contracts.addends.Addends as Addends
 use Rattle.postfix.specs.contracts.instruction.VariableSubscript as VariableSubscript
 use Rattle.postfix.specs.contracts.instruction.Step as Step
 use Rattle.postfix.specs.contracts.instruction.Change as Change
 use Rattle.postfix.specs.contracts.instruction.Combiner as Combiner
 use Rattle.postfix.specs.contracts.code.Code as Code
-use Rattle.postfix.specs.contracts.ending.Ending as Ending
-use Rattle.postfix.specs.contracts.order.Order as Order
+use Rattle.postfix.specs.contracts.ending.Terminator as Terminator
+use Rattle.postfix.specs.contracts.order.Opcode as Opcode
 use Rattle.postfix.specs.contracts.orders.Orders as Orders
-use Rattle.programs.specs.contracts.action.Target as Target
-use Rattle.programs.specs.contracts.action.Repeat as Repeat
-use Rattle.programs.specs.contracts.action.ListCodes as ListCodes
-use Rattle.programs.specs.contracts.action.Action as Action
-use Rattle.programs.specs.contracts.actions.Actions as Actions
-use Rattle.programs.specs.contracts.lists.Lists as Lists
-use Rattle.programs.specs.contracts.program.Parts as Whole
-use Rattle.programs.specs.contracts.program.Program as Program
-use Rattle.programs.proofs.action.ListCode.TheLaws.TheKnot as list_code
-use Rattle.programs.proofs.action.Action.TheLaws.TheKnot as action
+use Rattle.program.specs.contracts.action.Target as Target
+use Rattle.program.specs.contracts.action.Repeat as Repeat
+use Rattle.program.specs.contracts.action.ListCodes as ListCodes
+use Rattle.program.specs.contracts.action.Action as Action
+use Rattle.program.specs.contracts.actions.Actions as Actions
+use Rattle.program.specs.contracts.lists.Lists as Lists
+use Rattle.program.specs.contracts.program.Parts as Whole
+use Rattle.program.specs.contracts.program.Program as Program
+use Rattle.program.proofs.action.ListCode.TheLaws.TheKnot as list_code
+use Rattle.program.proofs.action.Action.TheLaws.TheKnot as action
 
 Storage_field : IsSync Storage.the_field.row
 Storage_field = search (crosses, sendable) depth 60 fits 20000
@@ -40,7 +40,7 @@ FunctionAt_field : IsSync FunctionAt.the_field.row
 FunctionAt_field = search (crosses, sendable) depth 60 fits 20000
 
 Parts_field : IsSync Parts.the_field.row
-Parts_field = search (crosses, maps.crosses, Tree_field, Exprs_field, Format_field, Landmarks_field, Entry_field, FunctionAt_field, sendable) depth 60 fits 20000
+Parts_field = search (crosses, maps.crosses, Tree_field, Exprs_field, Format_field, LabelTargets_field, Entry_field, FunctionAt_field, sendable) depth 60 fits 20000
 
 Checked_field : IsSync Checked.the_field.row
 Checked_field = search (Parts_field, sendable) depth 60 fits 20000
@@ -60,14 +60,14 @@ Change_field = search (crosses, Subscript_field, Addends_field, sendable) depth 
 Combiner_field : IsSync Combiner.the_field.row
 Combiner_field = search (crosses, Step_field, sendable) depth 60 fits 20000
 
-Ending_field : IsSync Ending.the_field.row
+Ending_field : IsSync Terminator.the_field.row
 Ending_field = search (crosses, Subscript_field, sendable) depth 60 fits 20000
 
 ruleset parts = (Subscript_field, Addends_field, Step_field, Change_field, Combiner_field, Ending_field, sendable)
 
 -- of its many forms the first ones by themselves
-Order_field : IsSync Order.the_field.row
-Order_field = enum_sync (shape Order.the_type) (search parts, (search parts, (search parts, (search parts, (search parts, (search parts, (search parts, (search parts, (search parts, (search parts, (search parts, (search parts, (search parts, (search parts, (search parts, (search parts, (search parts, (search parts, (search parts, (search parts, (search parts, (search parts, (search parts, (search parts, (search parts, (search parts, (search parts, (search parts, (search parts, (search parts, (search parts, (search parts, (search parts, (search parts, (search parts, (search parts, (search parts, (search parts, (search parts, (search parts, (search parts, (search parts, (search parts, (search parts, (search parts, (search parts, (search parts, (search parts, (search parts, (search parts, search parts depth 200 fits 200000))))))))))))))))))))))))))))))))))))))))))))))))))
+Order_field : IsSync Opcode.the_field.row
+Order_field = enum_sync (shape Opcode.the_type) (search parts, (search parts, (search parts, (search parts, (search parts, (search parts, (search parts, (search parts, (search parts, (search parts, (search parts, (search parts, (search parts, (search parts, (search parts, (search parts, (search parts, (search parts, (search parts, (search parts, (search parts, (search parts, (search parts, (search parts, (search parts, (search parts, (search parts, (search parts, (search parts, (search parts, (search parts, (search parts, (search parts, (search parts, (search parts, (search parts, (search parts, (search parts, (search parts, (search parts, (search parts, (search parts, (search parts, (search parts, (search parts, (search parts, (search parts, (search parts, (search parts, (search parts, search parts depth 200 fits 200000))))))))))))))))))))))))))))))))))))))))))))))))))
 
 Code_field : IsSync Code.the_field.row
 Code_field = search (crosses, Order_field, sendable) depth 60 fits 20000

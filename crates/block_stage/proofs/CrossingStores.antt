@@ -8,7 +8,7 @@ use Rattle.marks.specs.contracts.marks.Marks as Marks
 use Rattle.private_view.specs.contracts.view.View as View
 use Rattle.format_edit.specs.contracts.format.Format as Format
 use Rattle.format_edit.proofs.format.Part.TheLaws.TheKnot as part
-use Rattle.landmarks.specs.contracts.landmarks.Landmarks as Landmarks
+use Rattle.label_targets.specs.contracts.label_targets.LabelTargets as LabelTargets
 
 pub Whole_field : IsSync Whole.the_field.row
 Whole_field = search (crosses, sendable) depth 60 fits 20000
@@ -22,5 +22,5 @@ View_send κ = search (crosses, maps.crosses, Marks_send, Whole_field, sendable)
 pub Format_field : IsSync Format.the_field.row
 Format_field = search (crosses, part.crosses, sendable) depth 60 fits 20000
 
-pub Landmarks_field : IsSync Landmarks.the_field.row
-Landmarks_field = search (crosses, maps.crosses, sendable) depth 60 fits 20000
+pub LabelTargets_field : IsSync LabelTargets.the_field.row
+LabelTargets_field = search (crosses, maps.crosses, sendable) depth 60 fits 20000

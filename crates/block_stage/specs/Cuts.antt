@@ -1,5 +1,7 @@
 -- Where a stage is cut, and what stands before the cut (own; after Dang, Yu and Rauchwerger).
-use Rattle.std.specs.Prelude.{◌≡◌, ℕ, ◌+◌, ◌*◌, ◌-◌, ◌<◌, ◌^◌, ◌==◌, ◌&&◌, ◌||◌, Bool, true, false, List, [], ◌∷◌, length, nat_lt, min, take, sum_by, slice_get, is_some, is_none, Option, Some, None, fold, max}
+use Rattle.std.specs.Prelude.{◌≡◌, ℕ, ◌+◌, ◌*◌, ◌-◌, ◌<◌, ◌^◌, ◌==◌, ◌&&◌, ◌||◌, Bool, true, false}
+use Rattle.std.specs.Prelude.{List, [], ◌∷◌, length, nat_lt, min, take, sum_by, slice_get, is_some}
+use Rattle.std.specs.Prelude.{is_none, Option, Some, None, fold, max}
 use Rattle.std.specs.List.{list_any}
 use Rattle.std.specs.FinSet as set
 use Rattle.std.specs.FinMap as map
@@ -77,13 +79,16 @@ is_early (Fault f) = true
 -- a place past the first at which the stage may be cut
 abbrev pub stops_later : ℕ → Places → ℕ → Bool
 stops_later t places j =
-    clashes places j || nat_lt t (turns_to places (j + 1)) || is_limit (outcome_in (place_at places j)) || is_early (outcome_in (place_at places (j - 1)))
+    clashes places j || nat_lt t (turns_to places (j + 1))
+    || is_limit (outcome_in (place_at places j))
+    || is_early (outcome_in (place_at places (j - 1)))
 
--- a place at which the stage may be cut: behind all blocks; where a block is missing; and, past the first, where a dependence is
--- broken, where the turns of the blocks up to it exceed those that are left or it met the limit, and behind a block that didn't
--- end normally
+-- a place at which the stage may be cut: behind all blocks; where a block is missing; and, past the
+-- first, where a dependence is broken, where the turns of the blocks up to it exceed those that are
+-- left or it met the limit, and behind a block that didn't end normally
 abbrev pub stops : ℕ → Places → ℕ → Bool
-stops t places j = (j == length places) || is_none (place_at places j) || (nat_lt 0 j && stops_later t places j)
+stops t places j =
+    (j == length places) || is_none (place_at places j) || (nat_lt 0 j && stops_later t places j)
 
 -- the least of them
 pub record IsCut (t : ℕ) (places : Places) (c : ℕ) : Type 0 where
@@ -103,7 +108,7 @@ overlay_all m (p ∷ ps) = overlay_all (overlay_by m p) ps
 
 -- how many trips the blocks below c have
 abbrev pub trips_before : JobData → ℕ → ℕ
-trips_before d c = min (c * d.block) d.trips
+trips_before d c = min (c * d.block_size) d.trips
 
 -- how the last block before the cut ended
 abbrev pub outcome_to : Places → ℕ → Outcome

@@ -1,4 +1,5 @@
--- What the blocks of a stage wrote, without the values that they stood on (own; after Rauchwerger and Padua).
+-- What the blocks of a stage wrote, without the values that they stood on (own; after Rauchwerger
+-- and Padua).
 use Rattle.std.specs.Prelude.{◌≡◌, ℕ, List, [], ◌∷◌, length, slice_get, Some, None, refl}
 use Rattle.std.specs.Coded.{Coded, code_by, coded×, coded_list, coded_ℕ}
 use Rattle.std.specs.FinMap as map
@@ -27,7 +28,8 @@ overlay_each m (w ∷ ws) = overlay_each (overlay m (map.get w.written)) ws
 abbrev pub AreSized : ℕ → List Wrote → Type 0
 AreSized n ws = (i : ℕ) (w : Wrote) → slice_get ws i ≡ Some w → w.cells ≡ n
 
--- what is taken of a stage: over how many cells, how the blocks before the cut ended and the turns that they used, and what each wrote
+-- what is taken of a stage: over how many cells, how the blocks before the cut ended and the turns
+-- that they used, and what each wrote
 pub record TakenParts : Type 0 where
   pub cells : ℕ
   pub outcome : Outcome
@@ -36,4 +38,13 @@ pub record TakenParts : Type 0 where
 
 abbrev pub coded_taken : Coded TakenParts
 coded_taken =
-    code_by (ℕ × (Outcome × (ℕ × List Wrote))) (coded× coded_ℕ (coded× outcomes.the_row.coded (coded× coded_ℕ (coded_list coded_wrote)))) (λ t. (t.cells, (t.outcome, (t.used, t.written)))) (λ p. record { cells = p.0; outcome = p.1.0; used = p.1.1.0; written = p.1.1.1 }) (λ _. refl)
+    code_by (ℕ × (Outcome × (ℕ × List Wrote)))
+    (coded× coded_ℕ
+    (coded× outcomes.the_row.coded (coded× coded_ℕ (coded_list coded_wrote)))) (λ t.
+    (t.cells, (t.outcome, (t.used, t.written)))) (λ p. record {
+      cells = p.0;
+      outcome =
+          p.1.0;
+      used = p.1.1.0;
+      written = p.1.1.1;
+    }) (λ _. refl)

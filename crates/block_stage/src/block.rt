@@ -8,18 +8,19 @@ ghost use Rattle.block_stage.specs.Faithful.{IsFaithful};
 use crate::gate::Gate;
 use crate::job::{Job, JobKey, Parts};
 use crate::place::{place_of, value_at};
-use crate::trace::Trace;
+use crate::trace::BlockResult;
 use evaluator::{run_further_trips, set_variable};
 use meaning::ending::Run;
 use private_view::View;
 use std::alloc::Global;
 use std::marker::{Model, PhantomData};
 
-/// The run of a block. Its type keeps that it is faithful to J's job there: for all values that agree with the base in the cells
-/// that it exposed, the block's trips end so, after so many turns, and leave these values with what it wrote put in.
+/// The run of a block. Its type keeps that it is faithful to J's job there: for all values that
+/// agree with the base in the cells that it exposed, the block's trips end so, after so many turns,
+/// and leave these values with what it wrote put in.
 #[derive(Drop)]
 pub struct BlockRun<'a, J: JobKey> {
-    trace: Trace<'a>,
+    trace: BlockResult<'a>,
     of: PhantomData<J>,
 }
 
@@ -36,11 +37,11 @@ impl<'a, J: JobKey> Model for BlockRun<'a, J> {
 }
 
 impl<'a, J: JobKey> BlockRun<'a, J> {
-    /// The block.
-    pub fn block(&self) -> u32
-        ensures { result ≡ self.now.block }
+    /// The block's number.
+    pub fn index(&self) -> u32
+        ensures { result ≡ self.now.index }
     {
-        self.trace.block()
+        self.trace.index()
     }
 
     /// How its trips ended, and how many turns they used.
@@ -61,7 +62,7 @@ impl<'a, J: JobKey> BlockRun<'a, J> {
     }
 
     // The bare run, which is faithful to J's job.
-    pub(crate) fn into_trace(self) -> Trace<'a>
+    pub(crate) fn into_trace(self) -> BlockResult<'a>
         ensures trace { result ≡ self.entry }
         ensures faithful { IsFaithful J.job result }
     {
@@ -80,16 +81,16 @@ fn run_alone<'a, G: Gate>(
     block: u32,
     gate: &G,
     view: View<'a>,
-) -> Result<Trace<'a>, Lost>
+) -> Result<BlockResult<'a>, Lost>
     requires below { block < job.now.blocks }
     requires fresh { view ≡ new_view job.now.base }
-    ensures block { IfOk result (λ t. t.block ≡ block) }
+    ensures block { IfOk result (λ t. t.index ≡ block) }
     ensures faithful { IfOk result (λ t. IsFaithful (data_of job.now) t) }
 {
     let parts: Parts<'a> = job.parts();
-    let place = place_of(block, parts.block, parts.blocks, parts.trips);
+    let place = place_of(block, parts.block_size, parts.blocks, parts.trips);
     let first = value_at(parts.first, parts.step, place);
-    let trips = parts.block.min(parts.trips - place);
+    let trips = parts.block_size.min(parts.trips - place);
     let mut view = view;
     match set_variable(parts.program, parts.repeat.variable, first, &mut view) {
         Ok(()) => {}
@@ -103,20 +104,20 @@ fn run_alone<'a, G: Gate>(
         parts.step,
         trips,
         &mut view,
-        parts.turns,
+        parts.turns_left,
     ) {
         Ok(run) => {
             if view.is_lost() {
                 return Err(Lost);
             }
-            Ok(Trace::new(block, run.outcome, run.turns_used, view))
+            Ok(BlockResult::new(block, run.outcome, run.turns_used, view))
         }
         Err(_) => Err(Lost),
     }
 }
 
-/// Runs a block of a job on a view of its own, which enters the gate when the DO variable has its first value. It is lost only
-/// where the view was refused memory.
+/// Runs a block of a job on a view of its own, which enters the gate when the DO variable has its
+/// first value. It is lost only where the view was refused memory.
 pub fn run_block<'a, J: JobKey, G: Gate>(
     alloc: Global,
     job: &Job<'a>,
@@ -125,7 +126,7 @@ pub fn run_block<'a, J: JobKey, G: Gate>(
 ) -> Result<BlockRun<'a, J>, Lost>
     requires key { data_of job.now ≡ J.job }
     requires below { block < J.job.blocks }
-    ensures { IfOk result (λ r. r.block ≡ block) }
+    ensures { IfOk result (λ r. r.index ≡ block) }
 {
     run_block_in(job, block, gate, job.fresh_view(alloc, None))
 }
@@ -140,7 +141,7 @@ pub fn run_block_in<'a, J: JobKey, G: Gate>(
     requires key { data_of job.now ≡ J.job }
     requires below { block < J.job.blocks }
     requires fresh { view ≡ new_view job.now.base }
-    ensures { IfOk result (λ r. r.block ≡ block) }
+    ensures { IfOk result (λ r. r.index ≡ block) }
 {
     match run_alone(job, block, gate, view) {
         Ok(trace) => Ok(BlockRun {

@@ -1,7 +1,9 @@
 //! The board of a job's stage.
 
-ghost use Rattle.std.specs.Prelude.{◌≡◌, ◌↔◌, ◌<◌, ◌≤◌, ◌++◌, [], ◌∷◌, ℕ, Some, IfOk, IfSome, IsTrue, length, map, slice_get, if◌then◌else◌, vec_len, vec_capacity};
-ghost use Rattle.schedules.specs.declared.place.Place.{Place};
+ghost use Rattle.std.specs.Prelude.{◌≡◌, ◌↔◌, ◌<◌, ◌≤◌, ◌++◌, [], ◌∷◌, ℕ, Some, IfOk, IfSome};
+ghost use Rattle.std.specs.Prelude.{IsTrue, length, map, slice_get, if◌then◌else◌, vec_len};
+ghost use Rattle.std.specs.Prelude.{vec_capacity};
+ghost use Rattle.schedules.specs.declared.place.BlockSlot.{BlockSlot};
 ghost use Rattle.schedules.specs.Boards.{AreNumbered, Claims, first_stage, with_run, without_run};
 ghost use Rattle.schedules.specs.Schedules.{IsIdle, IsOut};
 ghost use Rattle.block_stage.specs.Jobs.{data_of};
@@ -11,28 +13,29 @@ ghost use Rattle.block_stage.specs.Stages.{AreRunsOf, LeadTo, block_in, run_in};
 use crate::block::BlockRun;
 use crate::job::{Job, JobKey, Parts};
 use crate::posted::Posted;
-use crate::trace::Trace;
-use private_view::Changes;
-use schedules::{Closed, Numbered, Place, Ticket};
+use crate::trace::BlockResult;
+use private_view::WriteSet;
+use schedules::{BlockSlot, Closed, Numbered, Ticket};
 use std::alloc::{AllocError, Global};
 use std::marker::Model;
 use std::mem::replace;
 
 impl<'a, J: JobKey> Numbered for BlockRun<'a, J> {
-    ghost number = { λ r. r.block };
+    ghost number = { λ r. r.index };
 
     ghost blocks = { J.job.blocks };
 }
 
-/// The board of the stage of J's job: which blocks are given out to which workers, and what came of them. Its type keeps that the list of
-/// what happened leads to what it shows; each run that is posted is faithful to J's job, by the run's own type.
+/// The board of the stage of J's job: which blocks are given out to which workers, and what came of
+/// them. Its type keeps that the list of what happened leads to what it shows; each run that is
+/// posted is faithful to J's job, by the run's own type.
 #[derive(Drop)]
 pub struct Board<'a, J: JobKey> {
     pub(crate) job: Job<'a>,
     pub(crate) blocks: schedules::Board<BlockRun<'a, J>>,
     // Room for the runs when it is closed, and for what they wrote when they let the cells go.
-    pub(crate) room: Vec<Option<Trace<'a>>>,
-    pub(crate) changes: Vec<Changes>,
+    pub(crate) room: Vec<Option<BlockResult<'a>>>,
+    pub(crate) changes: Vec<WriteSet>,
 }
 
 impl<'a, J: JobKey> Model for Board<'a, J> {
@@ -47,30 +50,38 @@ impl<'a, J: JobKey> Model for Board<'a, J> {
 
     ghost Value = { BoardParts };
 
-    ghost coded = { Prim.hlevel (codes, trees.the_row.coded, loops.the_row.coded, events.the_row.coded, coded_run) };
+    ghost coded = { Prim.hlevel
+        (codes, trees.the_row.coded, loops.the_row.coded, events.the_row.coded, coded_run) };
 
     ghost view = { λ b. record { job = b.job; stage = b.blocks } };
 
-    ghost invariant = { λ b. (data_of b.job ≡ J.job) × (b.room.items ≡ []) × (b.job.blocks ≤ vec_capacity b.room) × (b.changes.items ≡ []) × (b.job.blocks ≤ vec_capacity b.changes) };
+    ghost invariant = { λ b. (data_of b.job ≡ J.job) × (b.room.items ≡ [])
+        × (b.job.blocks ≤ vec_capacity b.room) × (b.changes.items ≡ [])
+        × (b.job.blocks ≤ vec_capacity b.changes) };
 }
 
 // Takes the run that a board has for a block, and leaves the block as given up.
-fn taken<'a, J: JobKey>(places: &mut Vec<Place<BlockRun<'a, J>>>, at: usize) -> Option<Trace<'a>>
+fn taken<'a, J: JobKey>(
+    places: &mut Vec<BlockSlot<BlockRun<'a, J>>>,
+    at: usize,
+) -> Option<BlockResult<'a>>
     requires { at < length places.old.items }
-    ensures run { (p : Place RunData) → slice_get places.old.items at ≡ Some p → result ≡ run_in p }
+    ensures run { (p : BlockSlot RunData) → slice_get places.old.items at ≡ Some p → result
+        ≡ run_in p }
     ensures faithful { IfSome result (IsFaithful J.job) }
-    ensures others { (k : ℕ) → at < k → slice_get places.new.items k ≡ slice_get places.old.items k }
+    ensures others { (k : ℕ) → at < k → slice_get places.new.items k
+        ≡ slice_get places.old.items k }
     ensures len { length places.new.items ≡ length places.old.items }
 {
-    match replace(&mut places[at], Place::Lost) {
-        Place::Open => None,
-        Place::Posted(run) => Some(run.into_trace()),
-        Place::Lost => None,
+    match replace(&mut places[at], BlockSlot::Lost) {
+        BlockSlot::Open => None,
+        BlockSlot::Posted(run) => Some(run.into_trace()),
+        BlockSlot::Lost => None,
     }
 }
 
 // Puts a run behind others; there is room.
-fn put<'a>(runs: &mut Vec<Option<Trace<'a>>>, run: Option<Trace<'a>>)
+fn put<'a>(runs: &mut Vec<Option<BlockResult<'a>>>, run: Option<BlockResult<'a>>)
     requires room { vec_len runs.old < vec_capacity runs.old }
     ensures items { runs.new.items ≡ runs.old.items ++ run.entry ∷ [] }
     ensures capacity { vec_capacity runs.old ≤ vec_capacity runs.new }
@@ -82,9 +93,9 @@ fn put<'a>(runs: &mut Vec<Option<Trace<'a>>>, run: Option<Trace<'a>>)
 
 // The runs of the blocks, none where a block is missing, in the room for them.
 fn runs_of<'a, J: JobKey>(
-    places: Vec<Place<BlockRun<'a, J>>>,
-    room: Vec<Option<Trace<'a>>>,
-) -> Vec<Option<Trace<'a>>>
+    places: Vec<BlockSlot<BlockRun<'a, J>>>,
+    room: Vec<Option<BlockResult<'a>>>,
+) -> Vec<Option<BlockResult<'a>>>
     requires numbered { AreNumbered block_in places.items }
     requires empty { room.items ≡ [] }
     requires room { length places.items ≤ vec_capacity room }
@@ -102,12 +113,13 @@ fn runs_of<'a, J: JobKey>(
 }
 
 impl<'a, J: JobKey> Board<'a, J> {
-    /// A board of which nothing was given out, with room for all that can happen. The `AllocError` comes where memory was refused;
-    /// later calls take none.
+    /// A board of which nothing was given out, with room for all that can happen. The `AllocError`
+    /// comes where memory was refused; later calls take none.
     pub fn new(alloc: Global, job: &Job<'a>, workers: u32) -> Result<Board<'a, J>, AllocError>
         requires key { data_of job.now ≡ J.job }
         requires workers { 0 < workers }
-        ensures { IfOk result (λ b. b ≡ record { job = job.now; stage = first_stage job.now.blocks workers }) }
+        ensures { IfOk
+            result (λ b. b ≡ record { job = job.now; stage = first_stage job.now.blocks workers }) }
     {
         let parts: Parts<'a> = job.parts();
         let blocks = schedules::Board::new(alloc, parts.blocks, workers)?;
@@ -138,20 +150,24 @@ impl<'a, J: JobKey> Board<'a, J> {
         self.blocks.claim_in(worker)
     }
 
-    /// Puts a block's run at its place. It answers false, and changes nothing, exactly where the block is not out in the worker's name.
+    /// Puts a block's run at its place. It answers false, and changes nothing, exactly where the
+    /// block is not out in the worker's name.
     pub fn post_in(&mut self, ticket: Ticket, run: BlockRun<'a, J>) -> bool
-        requires { run.block ≡ ticket.block }
+        requires { run.index ≡ ticket.block }
         ensures is { IsTrue result ↔ IsOut self.old.stage.outs ticket }
-        ensures put { self.new.stage ≡ (if result then with_run ticket run.entry self.old.stage else self.old.stage) }
+        ensures put { self.new.stage
+            ≡ (if result then with_run ticket run.entry self.old.stage else self.old.stage) }
         ensures job { self.new.job ≡ self.old.job }
     {
         self.blocks.post_in(ticket, run)
     }
 
-    /// Gives a block up. It answers false, and changes nothing, exactly where the block is not out in the worker's name.
+    /// Gives a block up. It answers false, and changes nothing, exactly where the block is not out
+    /// in the worker's name.
     pub fn lose_in(&mut self, ticket: Ticket) -> bool
         ensures is { IsTrue result ↔ IsOut self.old.stage.outs ticket }
-        ensures gone { self.new.stage ≡ (if result then without_run ticket self.old.stage else self.old.stage) }
+        ensures gone { self.new.stage
+            ≡ (if result then without_run ticket self.old.stage else self.old.stage) }
         ensures job { self.new.job ≡ self.old.job }
     {
         self.blocks.lose_in(ticket)
@@ -169,7 +185,7 @@ impl<'a, J: JobKey> Board<'a, J> {
     }
 
     // The same, with the spares that no block was handed.
-    pub(crate) fn close_with(self, spares: Vec<Changes>) -> Posted<'a>
+    pub(crate) fn close_with(self, spares: Vec<WriteSet>) -> Posted<'a>
         ensures job { result.job ≡ self.entry.job }
         ensures places { result.places ≡ map run_in self.entry.stage.places }
         ensures events { result.events ≡ self.entry.stage.events }

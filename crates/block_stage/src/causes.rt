@@ -7,7 +7,7 @@ ghost use Rattle.block_stage.specs.Cuts.{IsCut, reads_place};
 
 use crate::cuts::ended_early;
 use crate::posted::Posted;
-use crate::trace::Trace;
+use crate::trace::BlockResult;
 
 /// A cell that one block of a stage wrote and a later one read before it wrote it.
 #[derive(Clone, Copy, Debug, PartialEq, Eq)]
@@ -29,14 +29,16 @@ pub enum Cause {
     Exit,
     /// The block behind the cut read a cell that an earlier one wrote.
     Dependence(Dependence),
-    /// The blocks up to the one behind the cut used more turns than there are, or that one met the limit.
+    /// The blocks up to the one behind the cut used more turns than there are, or that one met the
+    /// limit.
     Turns,
 }
 
-/// Why the stage is cut there; where several causes hold, the first of loss, exit, dependence and turns.
+/// Why the stage is cut there; where several causes hold, the first of loss, exit, dependence and
+/// turns.
 pub fn cause_of(posted: &Posted, cut: usize) -> Cause
-    requires { IsCut posted.now.job.turns posted.now.places cut }
-    ensures { IsCause posted.now.job.turns posted.now.places cut result }
+    requires { IsCut posted.now.job.turns_left posted.now.places cut }
+    ensures { IsCause posted.now.job.turns_left posted.now.places cut result }
 {
     let places = posted.places();
     let Some(place) = places.get(cut) else {
@@ -55,8 +57,9 @@ pub fn cause_of(posted: &Posted, cut: usize) -> Cause
 }
 
 // Why a stage is cut behind its last block.
-fn cause_behind(places: &[Option<Trace<'_>>]) -> Cause
-    ensures { result ≡ if has_ended places.now (length places.now) then Cause.Exit else Cause.Whole }
+fn cause_behind(places: &[Option<BlockResult<'_>>]) -> Cause
+    ensures { result ≡ if has_ended places.now (length places.now) then Cause.Exit
+        else Cause.Whole }
 {
     match places.last() {
         Some(last) => {
@@ -71,7 +74,7 @@ fn cause_behind(places: &[Option<Trace<'_>>]) -> Cause
 }
 
 // A cell that it exposed and an earlier block wrote, and the first such block.
-fn carried(trace: &Trace<'_>, earlier: &[Option<Trace<'_>>]) -> Option<Dependence>
+fn carried(trace: &BlockResult<'_>, earlier: &[Option<BlockResult<'_>>]) -> Option<Dependence>
     ensures { MatchOption result
         (list_any (reads_place trace.now) earlier.now ≡ false)
         (IsCarried earlier.now trace.now) }

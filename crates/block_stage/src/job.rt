@@ -2,18 +2,20 @@
 
 ghost use Rattle.std.specs.Prelude.{◌≡◌};
 ghost use Rattle.private_view.specs.Views.{new_view};
-ghost use Rattle.programs.specs.Acts.{Repeats};
+ghost use Rattle.program.specs.Acts.{Repeats};
 ghost use Rattle.block_stage.specs.Jobs.{JobParts, IsJob, shape_in};
 
+use crate::place::TripsLeft;
 use array_store::Whole;
 use evaluator::repeat_in;
 use meaning::syntax::Loop;
-use private_view::{Changes, View};
-use programs::{Program, Repeat};
+use private_view::{View, WriteSet};
+use program::{Program, Repeat};
 use std::alloc::Global;
 use std::marker::{Brand, Model};
 
-/// One stage of a DO statement over a whole store: its next trips in blocks, and the turns that are left. Contracts see its parts.
+/// One stage of a DO statement over a whole store: its next trips in blocks, and the turns that are
+/// left. Contracts see its parts.
 #[derive(Drop)]
 pub struct Job<'a> {
     program: &'a Program,
@@ -24,14 +26,14 @@ pub struct Job<'a> {
     first: i32,
     step: i32,
     trips: u64,
-    block: u64,
+    block_size: u64,
     blocks: u32,
-    turns: u64,
+    turns_left: u64,
 }
 
 impl<'a> Model for Job<'a> {
     ghost use Rattle.block_stage.specs.Jobs.{JobParts, IsJob, shape_in};
-    ghost use Rattle.programs.specs.Acts.{Repeats};
+    ghost use Rattle.program.specs.Acts.{Repeats};
     ghost use Rattle.std.specs.Coded.{codes};
     ghost use Rattle.meaning.specs.contracts.syntax.Tree as trees;
     ghost use Rattle.meaning.specs.contracts.syntax.Loop as loops;
@@ -47,9 +49,9 @@ impl<'a> Model for Job<'a> {
       first = j.first;
       step = j.step;
       trips = j.trips;
-      block = j.block;
+      block_size = j.block_size;
       blocks = j.blocks;
-      turns = j.turns;
+      turns_left = j.turns_left;
     } };
 
     ghost invariant = { λ j. IsJob (record {
@@ -59,9 +61,9 @@ impl<'a> Model for Job<'a> {
       first = j.first;
       step = j.step;
       trips = j.trips;
-      block = j.block;
+      block_size = j.block_size;
       blocks = j.blocks;
-      turns = j.turns;
+      turns_left = j.turns_left;
     }) × Repeats j.program.now j.repeat.now (shape_in j.repeated.now) };
 }
 
@@ -75,9 +77,9 @@ pub(crate) struct Parts<'a> {
     pub first: i32,
     pub step: i32,
     pub trips: u64,
-    pub block: u64,
+    pub block_size: u64,
     pub blocks: u32,
-    pub turns: u64,
+    pub turns_left: u64,
 }
 
 /// A type that stands for one job's data.
@@ -94,25 +96,45 @@ impl JobKey for Brand {
 }
 
 impl<'a> Job<'a> {
-    /// The next trips of a DO statement in blocks, the last of which may be shorter, from a value of its variable on, with the
-    /// turns that are left. What the statement needs is looked up.
+    /// The next trips of a DO statement in blocks, the last of which may be shorter, over the
+    /// values of all cells, with the turns that are left. What the statement needs is looked up.
     pub fn new(
         program: &'a Program,
         repeated: &'a Loop,
         base: &'a Whole,
-        first: i32,
-        step: i32,
-        trips: u64,
-        block: u64,
+        trips_left: TripsLeft,
+        block_size: u64,
         blocks: u32,
-        turns: u64,
+        turns_left: u64,
     ) -> Job<'a>
-        requires { IsJob (record { program = program.now; repeated = repeated.now; base = base.now; first = first; step = step; trips = trips; block = block; blocks = blocks; turns = turns }) }
-        ensures { result ≡ record { program = program.entry.now; repeated = repeated.entry.now; base = base.entry.now; first = first; step = step; trips = trips; block = block; blocks = blocks; turns = turns } }
+        requires { IsJob
+            (record {
+              program = program.now;
+              repeated = repeated.now;
+              base = base.now;
+              first = trips_left.value;
+              step = trips_left.step;
+              trips = trips_left.trips;
+              block_size = block_size;
+              blocks = blocks;
+              turns_left = turns_left;
+            }) }
+        ensures { result
+            ≡ record {
+              program = program.entry.now;
+              repeated = repeated.entry.now;
+              base = base.entry.now;
+              first = trips_left.value;
+              step = trips_left.step;
+              trips = trips_left.trips;
+              block_size = block_size;
+              blocks = blocks;
+              turns_left = turns_left;
+            } }
     {
         match repeat_in(program, &repeated.head) {
             Some(repeat) => Job::over(
-                program, repeated, repeat, base, first, step, trips, block, blocks, turns,
+                program, repeated, repeat, base, trips_left, block_size, blocks, turns_left,
             ),
             None => unreachable!(),
         }
@@ -124,33 +146,54 @@ impl<'a> Job<'a> {
         repeated: &'a Loop,
         repeat: &'a Repeat,
         base: &'a Whole,
-        first: i32,
-        step: i32,
-        trips: u64,
-        block: u64,
+        trips_left: TripsLeft,
+        block_size: u64,
         blocks: u32,
-        turns: u64,
+        turns_left: u64,
     ) -> Job<'a>
-        requires job { IsJob (record { program = program.now; repeated = repeated.now; base = base.now; first = first; step = step; trips = trips; block = block; blocks = blocks; turns = turns }) }
+        requires job { IsJob
+            (record {
+              program = program.now;
+              repeated = repeated.now;
+              base = base.now;
+              first = trips_left.value;
+              step = trips_left.step;
+              trips = trips_left.trips;
+              block_size = block_size;
+              blocks = blocks;
+              turns_left = turns_left;
+            }) }
         requires repeats { Repeats program.now repeat.now (shape_in repeated.now) }
-        ensures { result ≡ record { program = program.entry.now; repeated = repeated.entry.now; base = base.entry.now; first = first; step = step; trips = trips; block = block; blocks = blocks; turns = turns } }
+        ensures { result
+            ≡ record {
+              program = program.entry.now;
+              repeated = repeated.entry.now;
+              base = base.entry.now;
+              first = trips_left.value;
+              step = trips_left.step;
+              trips = trips_left.trips;
+              block_size = block_size;
+              blocks = blocks;
+              turns_left = turns_left;
+            } }
     {
+        let TripsLeft { value, step, trips } = trips_left;
         Job {
             program,
             repeated,
             repeat,
             base,
-            first,
+            first: value,
             step,
             trips,
-            block,
+            block_size,
             blocks,
-            turns,
+            turns_left,
         }
     }
 
     // A view of the cells in which nothing was read or written, in a spare if there is one.
-    pub(crate) fn fresh_view(&self, alloc: Global, spare: Option<Changes>) -> View<'a>
+    pub(crate) fn fresh_view(&self, alloc: Global, spare: Option<WriteSet>) -> View<'a>
         ensures { result ≡ new_view self.now.base }
     {
         match spare {
@@ -161,9 +204,23 @@ impl<'a> Job<'a> {
 
     // Its parts, and what is true of them.
     pub(crate) fn parts(&self) -> Parts<'a>
-        ensures parts { self.now ≡ record { program = result.program.now; repeated = result.repeated.now; base = result.base.now; first = result.first; step = result.step; trips = result.trips; block = result.block; blocks = result.blocks; turns = result.turns } }
+        ensures parts { self.now
+            ≡ record {
+              program = result.program.now;
+              repeated = result.repeated.now;
+              base =
+                  result.base.now;
+              first = result.first;
+              step = result.step;
+              trips = result.trips;
+              block_size =
+                  result.block_size;
+              blocks = result.blocks;
+              turns_left = result.turns_left;
+            } }
         ensures job { IsJob self.now }
-        ensures repeats { Repeats result.program.now result.repeat.now (shape_in result.repeated.now) }
+        ensures repeats { Repeats result.program.now result.repeat.now
+            (shape_in result.repeated.now) }
     {
         Parts {
             program: self.program,
@@ -173,9 +230,9 @@ impl<'a> Job<'a> {
             first: self.first,
             step: self.step,
             trips: self.trips,
-            block: self.block,
+            block_size: self.block_size,
             blocks: self.blocks,
-            turns: self.turns,
+            turns_left: self.turns_left,
         }
     }
 
@@ -191,9 +248,9 @@ impl<'a> Job<'a> {
             first: self.first,
             step: self.step,
             trips: self.trips,
-            block: self.block,
+            block_size: self.block_size,
             blocks: self.blocks,
-            turns: self.turns,
+            turns_left: self.turns_left,
         }
     }
 }

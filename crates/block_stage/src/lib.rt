@@ -1,5 +1,5 @@
-//! Blocks of the trips of a DO statement, each run by itself on a private view, and how many of them are committed (own; after
-//! Rauchwerger and Padua, and Dang, Yu and Rauchwerger).
+//! Blocks of the trips of a DO statement, each run by itself on a private view, and how many of
+//! them are committed (own; after Rauchwerger and Padua, and Dang, Yu and Rauchwerger).
 #![tactic(auto)]
 
 mod block;
@@ -20,10 +20,10 @@ pub use board::Board;
 pub use causes::{Cause, Dependence, cause_of};
 pub use gate::{Gate, Open};
 pub use job::{Job, JobKey};
-pub use place::value_at;
+pub use place::{TripsLeft, value_at};
 pub use posted::{Posted, cut};
-pub use private_view::Changes;
+pub use private_view::WriteSet;
 pub use schedules::{Event, Ticket};
 pub use stage::{run_stage, run_stage_in, run_stage_without};
-pub use taken::Taken;
-pub use told::{StageTold, told_of};
+pub use taken::Committed;
+pub use told::{StageStats, told_of};

@@ -1,36 +1,40 @@
 //! What the workers of a stage posted, and how much of it is committed.
 
-ghost use Rattle.std.specs.Prelude.{◌≡◌, ◌+◌, ◌-◌, ◌^◌, ◌<◌, ◌≤◌, ◌++◌, [], ◌∷◌, ℕ, Some, slice_get, take, length, vec_len, vec_capacity};
+ghost use Rattle.std.specs.Prelude.{◌≡◌, ◌+◌, ◌-◌, ◌^◌, ◌<◌, ◌≤◌, ◌++◌, [], ◌∷◌, ℕ, Some};
+ghost use Rattle.std.specs.Prelude.{slice_get, take, length, vec_len, vec_capacity};
 ghost use Rattle.meaning.specs.Stores.{Cells, known};
 ghost use Rattle.array_store.specs.Whole.{world_of};
 ghost use Rattle.block_stage.specs.Jobs.{JobParts, IsJob, data_of};
 ghost use Rattle.block_stage.specs.Faithful.{base_of, trips_of, ran};
 ghost use Rattle.block_stage.specs.Stages.{ArePosted};
-ghost use Rattle.block_stage.specs.Cuts.{Places, IsCut, longest_in, turns_to, turns_in, turns_posted, overlay_all, trips_before, outcome_in, outcome_to};
+ghost use Rattle.block_stage.specs.Cuts.{Places, IsCut, longest_in, turns_to, turns_in};
+ghost use Rattle.block_stage.specs.Cuts.{turns_posted, overlay_all, trips_before, outcome_in};
+ghost use Rattle.block_stage.specs.Cuts.{outcome_to};
 ghost use Rattle.block_stage.specs.Taken.{overlay_each, wrote_in};
 
 use crate::cuts::cut_of;
 use crate::job::{Job, Parts};
-use crate::taken::Taken;
-use crate::trace::Trace;
+use crate::taken::Committed;
+use crate::trace::BlockResult;
 use array_store::Whole;
 use meaning::ending::{Outcome, Run};
-use private_view::Changes;
+use private_view::WriteSet;
 use schedules::Event;
 use std::marker::Model;
 use std::mem::replace;
 
-/// The runs that the workers of a stage posted, at the places of their blocks; none where a block is missing. It keeps what happened
-/// on the board. Its type keeps that each run is of its block, and faithful to the job, and that what happened is a schedule by which
-/// just the blocks that have a run were posted.
+/// The runs that the workers of a stage posted, at the places of their blocks; none where a block
+/// is missing. It keeps what happened on the board. Its type keeps that each run is of its block,
+/// and faithful to the job, and that what happened is a schedule by which just the blocks that have
+/// a run were posted.
 #[derive(Drop)]
 pub struct Posted<'a> {
     job: Job<'a>,
-    places: Vec<Option<Trace<'a>>>,
+    places: Vec<Option<BlockResult<'a>>>,
     events: Vec<Event>,
     // Room for what each block wrote, and the spares that no block was handed.
-    room: Vec<Changes>,
-    spares: Vec<Changes>,
+    room: Vec<WriteSet>,
+    spares: Vec<WriteSet>,
 }
 
 impl<'a> Model for Posted<'a> {
@@ -44,36 +48,42 @@ impl<'a> Model for Posted<'a> {
 
     ghost Value = { PostedParts };
 
-    ghost coded = { Prim.hlevel (codes, trees.the_row.coded, loops.the_row.coded, happenings.the_row.coded, coded_run) };
+    ghost coded = { Prim.hlevel
+        (codes, trees.the_row.coded, loops.the_row.coded, happenings.the_row.coded, coded_run) };
 
     ghost view = { λ p. record { job = p.job; places = p.places.items; events = p.events.items } };
 
-    ghost invariant = { λ p. ArePosted (record { job = p.job; places = p.places.items; events = p.events.items }) × (p.room.items ≡ []) × (length p.places.items ≤ vec_capacity p.room) };
+    ghost invariant = { λ p. ArePosted
+        (record { job = p.job; places = p.places.items; events = p.events.items })
+        × (p.room.items ≡ []) × (length p.places.items ≤ vec_capacity p.room) };
 }
 
 /// How many blocks may be committed.
 pub fn cut(posted: &Posted) -> usize
-    ensures { IsCut posted.now.job.turns posted.now.places result }
+    ensures { IsCut posted.now.job.turns_left posted.now.places result }
 {
     let parts: Parts = posted.job.parts();
-    cut_of(&posted.places, parts.turns)
+    cut_of(&posted.places, parts.turns_left)
 }
 
 impl<'a> Posted<'a> {
     ghost use Rattle.block_stage.specs.Stages.{ArePosted};
 
-    // Runs at the places of their blocks, what happened, room for what each block wrote, and spares.
+    // Runs at the places of their blocks, what happened, room for what each block wrote, and
+    // spares.
     pub(crate) fn new(
         job: Job<'a>,
-        places: Vec<Option<Trace<'a>>>,
+        places: Vec<Option<BlockResult<'a>>>,
         events: Vec<Event>,
-        room: Vec<Changes>,
-        spares: Vec<Changes>,
+        room: Vec<WriteSet>,
+        spares: Vec<WriteSet>,
     ) -> Posted<'a>
-        requires posted { ArePosted (record { job = job; places = places.items; events = events.items }) }
+        requires posted { ArePosted
+            (record { job = job; places = places.items; events = events.items }) }
         requires empty { room.items ≡ [] }
         requires room { length places.items ≤ vec_capacity room }
-        ensures { result ≡ record { job = job.entry; places = places.entry.items; events = events.items } }
+        ensures { result
+            ≡ record { job = job.entry; places = places.entry.items; events = events.items } }
     {
         Posted {
             job,
@@ -87,15 +97,15 @@ impl<'a> Posted<'a> {
     // The parts of its job, and what is true of what was posted.
     pub(crate) fn parts(&self) -> Parts<'a>
         ensures trips { result.trips ≡ self.now.job.trips }
-        ensures block { result.block ≡ self.now.job.block }
-        ensures turns { result.turns ≡ self.now.job.turns }
+        ensures block { result.block_size ≡ self.now.job.block_size }
+        ensures turns { result.turns_left ≡ self.now.job.turns_left }
         ensures posted { ArePosted self.now }
     {
         self.job.parts()
     }
 
     // The runs, at the places of their blocks.
-    pub(crate) fn places(&self) -> &[Option<Trace<'a>>]
+    pub(crate) fn places(&self) -> &[Option<BlockResult<'a>>]
         ensures { result.now ≡ self.now.places }
     {
         &self.places
@@ -115,16 +125,18 @@ impl<'a> Posted<'a> {
         &self.events
     }
 
-    /// How many turns the blocks that were posted used, all together; the greatest number where they are more.
+    /// How many turns the blocks that were posted used, all together; the greatest number where
+    /// they are more.
     pub fn turns(&self) -> u64
         ensures { result ≡ turns_posted self.now.places }
     {
         turns_of(&self.places)
     }
 
-    /// How many turns the first block used, and what its view weighs beside them: one for each cell that it exposed, two for each
-    /// that it wrote, and sixteen for each page of cells that was copied for that. None of either where it has no run. It is for
-    /// whoever asks whether such stages are worth their time, and no contract speaks of time.
+    /// How many turns the first block used, and what its view weighs beside them: one for each cell
+    /// that it exposed, two for each that it wrote, and sixteen for each page of cells that was
+    /// copied for that. None of either where it has no run. It is for whoever asks whether such
+    /// stages are worth their time, and no contract speaks of time.
     pub fn first_weight(&self) -> (u64, u64) {
         match self.places.first() {
             Some(Some(trace)) => (trace.used(), trace.weight()),
@@ -133,18 +145,20 @@ impl<'a> Posted<'a> {
         }
     }
 
-    /// What the blocks before the cut wrote, in their order, how the last of them ended, and their turns. It lets the base go, and
-    /// takes no memory.
-    pub fn taken(self, cut: usize) -> Taken
-        requires cut { IsCut self.job.turns self.places cut }
+    /// What the blocks before the cut wrote, in their order, how the last of them ended, and their
+    /// turns. It lets the base go, and takes no memory.
+    pub fn taken(self, cut: usize) -> Committed
+        requires cut { IsCut self.job.turns_left self.places cut }
         requires some { 0 < cut }
         // The trips before the cut, one after another from the base, end and leave this.
         ensures fold { let d = data_of self.entry.job in
-            trips_of d d.first (trips_before d cut) (base_of d) d.turns ≡ ran d result.outcome (overlay_each (base_of d) result.written) result.used }
+            trips_of d d.first (trips_before d cut) (base_of d) d.turns_left
+            ≡ ran d result.outcome (overlay_each (base_of d) result.written) result.used }
         // What they wrote, put in in their order.
-        ensures map { (m : Cells) → overlay_each m result.written ≡ overlay_all m (take cut self.entry.places) }
+        ensures map { (m : Cells) → overlay_each m result.written
+            ≡ overlay_all m (take cut self.entry.places) }
         ensures turns { result.used ≡ turns_to self.entry.places cut }
-        ensures within { result.used ≤ self.entry.job.turns }
+        ensures within { result.used ≤ self.entry.job.turns_left }
         ensures outcome { result.outcome ≡ outcome_to self.entry.places cut }
         ensures cells { result.cells ≡ length self.entry.job.base }
     {
@@ -159,12 +173,12 @@ impl<'a> Posted<'a> {
         let run = run_before(&places, cut);
         let changes = changes_of(places, room);
         drop(events);
-        Taken::new(parts.base.cells().len(), cut, run, changes, spares)
+        Committed::new(parts.base.cells().len(), cut, run, changes, spares)
     }
 
-    /// What the runs were kept in, for the blocks of further stages. It takes no memory but for the list of those that no block was
-    /// handed; where that is refused some of them are let go.
-    pub fn into_spares(self) -> Vec<Changes> {
+    /// What the runs were kept in, for the blocks of further stages. It takes no memory but for the
+    /// list of those that no block was handed; where that is refused some of them are let go.
+    pub fn into_spares(self) -> Vec<WriteSet> {
         let Posted {
             job,
             places,
@@ -179,16 +193,18 @@ impl<'a> Posted<'a> {
 
     /// Applies the blocks before the cut, in their order, to a store equal to the base.
     pub fn commit(self, cut: usize, target: &mut Whole) -> Run
-        requires cut { IsCut self.job.turns self.places cut }
+        requires cut { IsCut self.job.turns_left self.places cut }
         requires some { 0 < cut }
         requires base { target.old ≡ self.job.base }
         // The trips before the cut, one after another from the base, end and leave this.
         ensures fold { let d = data_of self.entry.job in
-            trips_of d d.first (trips_before d cut) (base_of d) d.turns ≡ ran d result.outcome (known (world_of target.new)) result.turns_used }
+            trips_of d d.first (trips_before d cut) (base_of d) d.turns_left
+            ≡ ran d result.outcome (known (world_of target.new)) result.turns_used }
         // It is the base with the written cells of the blocks put in, in their order.
-        ensures map { known (world_of target.new) ≡ overlay_all (known (world_of self.entry.job.base)) (take cut self.entry.places) }
+        ensures map { known (world_of target.new)
+            ≡ overlay_all (known (world_of self.entry.job.base)) (take cut self.entry.places) }
         ensures turns { result.turns_used ≡ turns_to self.entry.places cut }
-        ensures within { result.turns_used ≤ self.entry.job.turns }
+        ensures within { result.turns_used ≤ self.entry.job.turns_left }
         ensures outcome { result.outcome ≡ outcome_to self.entry.places cut }
         ensures len { length target.new ≡ length target.old }
     {
@@ -197,7 +213,7 @@ impl<'a> Posted<'a> {
 }
 
 // The turns of all runs, no more than the greatest number.
-fn turns_of(places: &[Option<Trace<'_>>]) -> u64
+fn turns_of(places: &[Option<BlockResult<'_>>]) -> u64
     ensures { result ≡ turns_posted places.now }
 {
     let mut sum: u64 = 0;
@@ -208,7 +224,7 @@ fn turns_of(places: &[Option<Trace<'_>>]) -> u64
 }
 
 // The turns of a run, which may be missing.
-fn turns_in(place: &Option<Trace<'_>>) -> u64
+fn turns_in(place: &Option<BlockResult<'_>>) -> u64
     ensures { result ≡ turns_in place.now }
 {
     match place {
@@ -218,7 +234,7 @@ fn turns_in(place: &Option<Trace<'_>>) -> u64
 }
 
 // How a run ended, which may be missing.
-fn outcome_in(place: &Option<Trace<'_>>) -> Outcome
+fn outcome_in(place: &Option<BlockResult<'_>>) -> Outcome
     ensures { result ≡ outcome_in place.now }
 {
     match place {
@@ -228,7 +244,7 @@ fn outcome_in(place: &Option<Trace<'_>>) -> Outcome
 }
 
 // How the last of the first so many blocks ended, and the turns of all of these.
-fn run_before(places: &[Option<Trace<'_>>], cut: usize) -> Run
+fn run_before(places: &[Option<BlockResult<'_>>], cut: usize) -> Run
     requires some { 0 < cut }
     requires within { cut ≤ length places.now }
     requires fits { turns_to places.now cut < 2 ^ 64 }
@@ -242,7 +258,7 @@ fn run_before(places: &[Option<Trace<'_>>], cut: usize) -> Run
 }
 
 // The turns of the first so many blocks.
-pub(crate) fn turns_before(places: &[Option<Trace<'_>>], cut: usize) -> u64
+pub(crate) fn turns_before(places: &[Option<BlockResult<'_>>], cut: usize) -> u64
     requires within { cut ≤ length places.now }
     requires fits { turns_to places.now cut < 2 ^ 64 }
     ensures { result ≡ turns_to places.now cut }
@@ -255,7 +271,7 @@ pub(crate) fn turns_before(places: &[Option<Trace<'_>>], cut: usize) -> u64
 }
 
 // The most turns that a run used.
-pub(crate) fn longest_of(places: &[Option<Trace<'_>>]) -> u64
+pub(crate) fn longest_of(places: &[Option<BlockResult<'_>>]) -> u64
     ensures { result ≡ longest_in places.now }
 {
     let mut longest: u64 = 0;
@@ -266,7 +282,7 @@ pub(crate) fn longest_of(places: &[Option<Trace<'_>>]) -> u64
 }
 
 // Puts what a run wrote behind others, where there is a run; there is room.
-fn put<'a>(changes: &mut Vec<Changes>, place: Option<Trace<'a>>)
+fn put<'a>(changes: &mut Vec<WriteSet>, place: Option<BlockResult<'a>>)
     requires room { vec_len changes.old < vec_capacity changes.old }
     ensures items { changes.new.items ≡ changes.old.items ++ wrote_in (place.entry ∷ []) }
     ensures capacity { vec_capacity changes.old ≤ vec_capacity changes.new }
@@ -280,17 +296,18 @@ fn put<'a>(changes: &mut Vec<Changes>, place: Option<Trace<'a>>)
 }
 
 // Takes what stands at a place, and leaves it missing.
-fn take_place<'a>(places: &mut Vec<Option<Trace<'a>>>, at: usize) -> Option<Trace<'a>>
+fn take_place<'a>(places: &mut Vec<Option<BlockResult<'a>>>, at: usize) -> Option<BlockResult<'a>>
     requires { at < length places.old.items }
     ensures run { slice_get places.old.items at ≡ Some result }
-    ensures others { (k : ℕ) → at < k → slice_get places.new.items k ≡ slice_get places.old.items k }
+    ensures others { (k : ℕ) → at < k → slice_get places.new.items k
+        ≡ slice_get places.old.items k }
     ensures len { length places.new.items ≡ length places.old.items }
 {
     replace(&mut places[at], None)
 }
 
 // What the blocks that have a run wrote, in the room for it.
-fn changes_of<'a>(places: Vec<Option<Trace<'a>>>, room: Vec<Changes>) -> Vec<Changes>
+fn changes_of<'a>(places: Vec<Option<BlockResult<'a>>>, room: Vec<WriteSet>) -> Vec<WriteSet>
     requires empty { room.items ≡ [] }
     requires room { length places.items ≤ vec_capacity room }
     ensures { result.items ≡ wrote_in places.entry.items }
@@ -306,7 +323,7 @@ fn changes_of<'a>(places: Vec<Option<Trace<'a>>>, room: Vec<Changes>) -> Vec<Cha
 }
 
 // Some spares and others; where there is no memory for their list some are let go.
-pub(crate) fn joined(changes: Vec<Changes>, spares: Vec<Changes>) -> Vec<Changes> {
+pub(crate) fn joined(changes: Vec<WriteSet>, spares: Vec<WriteSet>) -> Vec<WriteSet> {
     let mut all = changes;
     for spare in spares {
         if all.push(spare).is_err() {

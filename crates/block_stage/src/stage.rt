@@ -10,7 +10,7 @@ use crate::board::Board;
 use crate::gate::Gate;
 use crate::job::{Job, JobKey, Parts};
 use crate::posted::Posted;
-use private_view::Changes;
+use private_view::WriteSet;
 use std::alloc::{AllocError, Global};
 use std::marker::{Brand, Model, PhantomData};
 use std::sync::Wait;
@@ -42,10 +42,10 @@ impl<'a, J: JobKey, G: Gate> Model for BlockWork<'a, J, G> {
     ghost invariant = { λ w. data_of w.job ≡ J.job };
 }
 
-impl<'a, J: JobKey, G: Gate> Work<BlockRun<'a, J>, Changes> for BlockWork<'a, J, G> {
-    fn run(&self, block: u32, spare: Option<Changes>) -> Option<BlockRun<'a, J>>
+impl<'a, J: JobKey, G: Gate> Work<BlockRun<'a, J>, WriteSet> for BlockWork<'a, J, G> {
+    fn run(&self, block: u32, spare: Option<WriteSet>) -> Option<BlockRun<'a, J>>
         requires { block < J.job.blocks }
-        ensures { IfSome result (λ r. r.block ≡ block) }
+        ensures { IfSome result (λ r. r.index ≡ block) }
     {
         let view = self.job.fresh_view(self.alloc, spare);
         match run_block_in::<J, G>(&self.job, block, self.gate, view) {
@@ -63,7 +63,7 @@ fn stage_of<'a, J: JobKey + Send + Sync, R: Threads + Wait + Sync, G: Gate + Syn
     workers: u32,
     missing: u64,
     gate: &'a G,
-    spares: Vec<Changes>,
+    spares: Vec<WriteSet>,
 ) -> Result<Posted<'a>, AllocError>
     requires key { data_of job.now ≡ J.job }
     requires some { 0 < workers }
@@ -102,9 +102,10 @@ fn stage_of<'a, J: JobKey + Send + Sync, R: Threads + Wait + Sync, G: Gate + Syn
     Ok(board.close_with(spares))
 }
 
-/// Runs the blocks of a job by so many workers, of which the calling thread is one and each other has a thread where one can be
-/// started; `None` where memory was refused for the board. In what happened each block is claimed once, and then posted or lost
-/// once, and those that were posted are those that have a run. It waits for the workers.
+/// Runs the blocks of a job by so many workers, of which the calling thread is one and each other
+/// has a thread where one can be started; `None` where memory was refused for the board. In what
+/// happened each block is claimed once, and then posted or lost once, and those that were posted
+/// are those that have a run. It waits for the workers.
 pub fn run_stage<'a, R: Threads + Wait + Sync, G: Gate + Sync>(
     rt: &R,
     alloc: Global,
@@ -120,8 +121,9 @@ pub fn run_stage<'a, R: Threads + Wait + Sync, G: Gate + Sync>(
     run_stage_without(rt, alloc, job, workers, 0, gate)
 }
 
-/// The same where some of the workers aren't started, as if their start had been refused: worker k, for k from 1 to 63, where bit k of
-/// `missing` is set. The calling thread is worker 0, and always works.
+/// The same where some of the workers aren't started, as if their start had been refused: worker k,
+/// for k from 1 to 63, where bit k of `missing` is set. The calling thread is worker 0, and always
+/// works.
 pub fn run_stage_without<'a, R: Threads + Wait + Sync, G: Gate + Sync>(
     rt: &R,
     alloc: Global,
@@ -141,15 +143,15 @@ pub fn run_stage_without<'a, R: Threads + Wait + Sync, G: Gate + Sync>(
     }
 }
 
-/// The same as `run_stage`, the views of the blocks being kept in spares while there are any: what views of earlier stages were kept
-/// in. They come back by what is posted.
+/// The same as `run_stage`, the views of the blocks being kept in spares while there are any: what
+/// views of earlier stages were kept in. They come back by what is posted.
 pub fn run_stage_in<'a, R: Threads + Wait + Sync, G: Gate + Sync>(
     rt: &R,
     alloc: Global,
     job: &Job<'a>,
     workers: u32,
     gate: &'a G,
-    spares: Vec<Changes>,
+    spares: Vec<WriteSet>,
 ) -> Option<Posted<'a>>
     requires some { 0 < workers }
     ensures job { IfSome result (λ p. p.job ≡ job.now) }

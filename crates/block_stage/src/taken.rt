@@ -8,22 +8,23 @@ ghost use Rattle.block_stage.specs.Taken.{AreSized, TakenParts, overlay_each};
 use crate::posted::joined;
 use array_store::Whole;
 use meaning::ending::{Outcome, Run};
-use private_view::Changes;
+use private_view::WriteSet;
 use std::marker::Model;
 
-/// What the blocks before a cut wrote, in their order, how the last of them ended, and the turns that they used; without the loan of
-/// the cells that they stood on. Its type keeps that all stood on as many cells.
+/// What the blocks before a cut wrote, in their order, how the last of them ended, and the turns
+/// that they used; without the loan of the cells that they stood on. Its type keeps that all stood
+/// on as many cells.
 #[derive(Drop)]
-pub struct Taken {
+pub struct Committed {
     cells: usize,
     cut: usize,
     run: Run,
     // What all blocks wrote that have a run, also those past the cut.
-    changes: Vec<Changes>,
-    spares: Vec<Changes>,
+    changes: Vec<WriteSet>,
+    spares: Vec<WriteSet>,
 }
 
-impl Model for Taken {
+impl Model for Committed {
     ghost use Rattle.std.specs.Prelude.{◌≤◌, take, length};
     ghost use Rattle.block_stage.specs.Taken.{AreSized, TakenParts, coded_taken};
 
@@ -31,25 +32,38 @@ impl Model for Taken {
 
     ghost coded = { coded_taken };
 
-    ghost view = { λ t. record { cells = t.cells; outcome = t.run.outcome; used = t.run.turns_used; written = take t.cut t.changes.items } };
+    ghost view = { λ t. record {
+      cells = t.cells;
+      outcome = t.run.outcome;
+      used = t.run.turns_used;
+      written
+          = take t.cut t.changes.items;
+    } };
 
     ghost invariant = { λ t. AreSized t.cells t.changes.items × (t.cut ≤ length t.changes.items) };
 }
 
-impl Taken {
+impl Committed {
     // What blocks wrote, of which the first so many are taken.
     pub(crate) fn new(
         cells: usize,
         cut: usize,
         run: Run,
-        changes: Vec<Changes>,
-        spares: Vec<Changes>,
-    ) -> Taken
+        changes: Vec<WriteSet>,
+        spares: Vec<WriteSet>,
+    ) -> Committed
         requires sized { AreSized cells changes.items }
         requires within { cut ≤ length changes.items }
-        ensures { result ≡ record { cells = cells; outcome = run.outcome; used = run.turns_used; written = take cut changes.items } }
+        ensures { result
+            ≡ record {
+              cells = cells;
+              outcome = run.outcome;
+              used = run.turns_used;
+              written = take
+                  cut changes.items;
+            } }
     {
-        Taken {
+        Committed {
             cells,
             cut,
             run,
@@ -58,11 +72,12 @@ impl Taken {
         }
     }
 
-    /// Puts what the blocks wrote into a whole store of as many cells, in their order, and answers how they ended and the turns that
-    /// they used. It takes no memory.
+    /// Puts what the blocks wrote into a whole store of as many cells, in their order, and answers
+    /// how they ended and the turns that they used. It takes no memory.
     pub fn apply(&self, target: &mut Whole) -> Run
         requires { length target.old ≡ self.now.cells }
-        ensures map { known (world_of target.new) ≡ overlay_each (known (world_of target.old)) self.now.written }
+        ensures map { known (world_of target.new)
+            ≡ overlay_each (known (world_of target.old)) self.now.written }
         ensures run { result ≡ record { outcome = self.now.outcome; turns_used = self.now.used } }
         ensures len { length target.new ≡ length target.old }
     {
@@ -80,9 +95,10 @@ impl Taken {
         self.run.turns_used
     }
 
-    /// What the runs were kept in, for the blocks of further stages; where memory for their list is refused some are let go.
-    pub fn into_spares(self) -> Vec<Changes> {
-        let Taken {
+    /// What the runs were kept in, for the blocks of further stages; where memory for their list is
+    /// refused some are let go.
+    pub fn into_spares(self) -> Vec<WriteSet> {
+        let Committed {
             cells: _,
             cut: _,
             run: _,
@@ -94,10 +110,11 @@ impl Taken {
 }
 
 // Puts what was written into a whole store, one behind the other.
-fn apply_each(cells: usize, changes: &[Changes], target: &mut Whole)
+fn apply_each(cells: usize, changes: &[WriteSet], target: &mut Whole)
     requires sized { AreSized cells changes.now }
     requires as_many { length target.old ≡ cells }
-    ensures map { known (world_of target.new) ≡ overlay_each (known (world_of target.old)) changes.now }
+    ensures map { known (world_of target.new)
+        ≡ overlay_each (known (world_of target.old)) changes.now }
     ensures len { length target.new ≡ length target.old }
 {
     for one in changes {

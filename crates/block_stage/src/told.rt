@@ -2,16 +2,16 @@
 
 ghost use Rattle.std.specs.Prelude.{◌≡◌, is_some, count_by};
 ghost use Rattle.block_stage.specs.Cuts.{IsCut};
-ghost use Rattle.block_stage.specs.Told.{IsStageTold};
+ghost use Rattle.block_stage.specs.Told.{IsStageStats};
 
 use crate::causes::{Cause, cause_of};
 use crate::job::Parts;
 use crate::posted::{Posted, longest_of, turns_before};
-use crate::trace::Trace;
+use crate::trace::BlockResult;
 
 /// What is told of a stage.
 #[derive(Clone, Copy, Debug, PartialEq, Eq)]
-pub struct StageTold {
+pub struct StageStats {
     /// The trips that were left when it began.
     pub trips: u64,
     /// The trips of each block but the last.
@@ -33,15 +33,15 @@ pub struct StageTold {
 }
 
 /// What is told of a stage that is cut there.
-pub fn told_of(posted: &Posted, cut: usize) -> StageTold
-    requires { IsCut posted.now.job.turns posted.now.places cut }
-    ensures { IsStageTold posted.now cut result }
+pub fn told_of(posted: &Posted, cut: usize) -> StageStats
+    requires { IsCut posted.now.job.turns_left posted.now.places cut }
+    ensures { IsStageStats posted.now cut result }
 {
     let parts: Parts = posted.parts();
     let places = posted.places();
-    StageTold {
+    StageStats {
         trips: parts.trips,
-        size: parts.block,
+        size: parts.block_size,
         blocks: places.len(),
         run: runs_in(places),
         cut,
@@ -53,7 +53,7 @@ pub fn told_of(posted: &Posted, cut: usize) -> StageTold
 }
 
 // How many blocks have a run.
-fn runs_in(places: &[Option<Trace<'_>>]) -> usize
+fn runs_in(places: &[Option<BlockResult<'_>>]) -> usize
     ensures { result ≡ count_by is_some places.now }
 {
     places.iter().filter(|place| place.is_some()).count()

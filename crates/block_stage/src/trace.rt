@@ -9,46 +9,49 @@ ghost use Rattle.block_stage.specs.Taken.{wrote_by};
 
 use marks::{Marks, lowest_bit};
 use meaning::ending::{FaultKind, Outcome};
-use private_view::{Changes, View};
+use private_view::{View, WriteSet};
 use std::marker::Model;
 
-/// What a block did, by itself. Contracts see the block, its outcome, its turns and what its view saw.
+/// What a block did, by itself. Contracts see its number, its outcome, its turns and what its view
+/// saw.
 #[derive(Drop)]
-pub(crate) struct Trace<'a> {
-    block: u32,
+pub(crate) struct BlockResult<'a> {
+    index: u32,
     outcome: Outcome,
     used: u64,
     view: View<'a>,
 }
 
-impl<'a> Model for Trace<'a> {
+impl<'a> Model for BlockResult<'a> {
     ghost use Rattle.block_stage.specs.Faithful.{RunData, coded_run};
 
     ghost Value = { RunData };
 
     ghost coded = { coded_run };
 
-    ghost view = { λ t. record { block = t.block; outcome = t.outcome; used = t.used; seen = t.view } };
+    ghost view = { λ t.
+        record { index = t.index; outcome = t.outcome; used = t.used; seen = t.view } };
 }
 
-impl<'a> Trace<'a> {
+impl<'a> BlockResult<'a> {
     // A block's number, outcome, turns and view.
-    pub(crate) fn new(block: u32, outcome: Outcome, used: u64, view: View<'a>) -> Trace<'a>
-        ensures { result ≡ record { block = block; outcome = outcome; used = used; seen = view.entry } }
+    pub(crate) fn new(index: u32, outcome: Outcome, used: u64, view: View<'a>) -> BlockResult<'a>
+        ensures { result
+            ≡ record { index = index; outcome = outcome; used = used; seen = view.entry } }
     {
-        Trace {
-            block,
+        BlockResult {
+            index,
             outcome,
             used,
             view,
         }
     }
 
-    // The block.
-    pub(crate) fn block(&self) -> u32
-        ensures { result ≡ self.now.block }
+    // The block's number.
+    pub(crate) fn index(&self) -> u32
+        ensures { result ≡ self.now.index }
     {
-        self.block
+        self.index
     }
 
     // How many turns it used.
@@ -78,20 +81,22 @@ impl<'a> Trace<'a> {
     }
 
     // Whether it exposed a cell that the other wrote.
-    pub(crate) fn reads_of(&self, other: &Trace<'_>) -> bool
+    pub(crate) fn reads_of(&self, other: &BlockResult<'_>) -> bool
         ensures { result ≡ reads_of other.now self.now }
     {
         self.view.exposed().meets(other.view.written())
     }
 
     // A cell that it exposed and the other wrote, if there is one.
-    pub(crate) fn cell_of(&self, other: &Trace<'_>) -> Option<usize>
-        ensures { MatchOption result (reads_of other.now self.now ≡ false) (Carries other.now self.now) }
+    pub(crate) fn cell_of(&self, other: &BlockResult<'_>) -> Option<usize>
+        ensures { MatchOption result (reads_of other.now self.now ≡ false)
+            (Carries other.now self.now) }
     {
         shared_cell(self.view.exposed(), other.view.written())
     }
 
-    // What its view weighs: one for each cell that it exposed, two for each that it wrote, sixteen for each page that was copied.
+    // What its view weighs: one for each cell that it exposed, two for each that it wrote, sixteen
+    // for each page that was copied.
     pub(crate) fn weight(&self) -> u64 {
         let written = weight_of(self.view.written().words(), 2, 16);
         weight_of(self.view.exposed().words(), 1, 0).saturating_add(written)
@@ -105,11 +110,11 @@ impl<'a> Trace<'a> {
     }
 
     // What it wrote, without the loan of the cells.
-    pub(crate) fn into_changes(self) -> Changes
+    pub(crate) fn into_changes(self) -> WriteSet
         ensures { result ≡ wrote_by self.entry }
     {
-        let Trace {
-            block: _,
+        let BlockResult {
+            index: _,
             outcome: _,
             used: _,
             view,

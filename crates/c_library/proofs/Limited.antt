@@ -5,7 +5,7 @@ use Rattle.meaning.specs.declared.refusal.Broken.{Broken}
 use Rattle.meaning.specs.Answers.{answer, answer_of, program_of, run_of}
 use Rattle.meaning.specs.Initial.{start_of}
 use Rattle.meaning.specs.Trees.{Nested, flatten}
-use Rattle.meaning.specs.Uses.{roles_of}
+use Rattle.meaning.specs.Uses.{symbols_of}
 use Rattle.meaning.proofs.Limits.{exec-bounded}
 use Rattle.c_library.specs.Runs.{Ran, whole, cut_short, full}
 use Rattle.c_library.specs.Shown.{turns_of}
@@ -14,7 +14,7 @@ use Rattle.c_library.specs.Shown.{turns_of}
 of_spelled : (read : Result Nested Broken) (limit : ℕ) → turns_of (answer_of read limit).ending.turns ≤ limit
 unfolding run_of
 of_spelled (Err b) limit = omega arith
-of_spelled (Ok t) limit = (exec-bounded (flatten t) t.body t.body (start_of (roles_of (flatten t)) (flatten t))).spares limit
+of_spelled (Ok t) limit = (exec-bounded (flatten t) t.body t.body (start_of (symbols_of (flatten t)) (flatten t))).spares limit
 
 -- of a source
 of_answer : (source : List ℕ) (limit : ℕ) → turns_of (answer source limit).ending.turns ≤ limit

@@ -13,7 +13,7 @@ use Rattle.expressions.specs.declared.dimension.Dimension.{Dimension as Own}
 use Rattle.meaning.specs.Arrays.{Dimension, Named, cell_of, cells_of, combined, extent, place, size}
 use Rattle.meaning.specs.Characters.{at_least_zero}
 use Rattle.meaning.proofs.Elements.{above-at}
-use Rattle.roles.proofs.Passes.{map_more}
+use Rattle.symbols.proofs.Passes.{map_more}
 use Rattle.cell_names.specs.declared.naming.CellName.{CellName}
 use Rattle.cell_names.specs.declared.named.Named.{Named as Kept}
 use Rattle.cell_names.specs.Cells.{AreApart, are_named, is_named}

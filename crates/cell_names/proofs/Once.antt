@@ -6,11 +6,11 @@ use Rattle.std.specs.Str.{bytes_eq}
 use Rattle.std.proofs.lemmas.List.Folds.{list_any-append}
 use Rattle.meaning.proofs.Keeping.{bytes_eq-swapped}
 use Rattle.meaning.specs.Arrays.{Named}
-use Rattle.meaning.specs.Uses.{is_array, is_other, roles_of}
+use Rattle.meaning.specs.Uses.{is_array, is_other, symbols_of}
 use Rattle.meaning.specs.Values.{Arrays}
 use Rattle.meaning.specs.Syntax.{ItemTree}
 use Rattle.name_maps.specs.NameSets.{with_name, with_names}
-use Rattle.numbering.specs.Numbered.{appearing_by, named, variables_of, with_those}
+use Rattle.storage.specs.Numbered.{appearing_by, named, variables_of, with_those}
 use Rattle.cell_names.specs.Cells.{AreApart, AreOnce}
 
 or_parts : (a b : Bool) → (a || b) ≡ false → (a ≡ false) × (b ≡ false)
@@ -45,7 +45,7 @@ names_are arrays (n ∷ ns) = ap (λ l. n ∷ l) (names_are arrays ns)
 
 variables_once : (all : List ItemTree) → AreOnce (variables_of all)
 variables_once all =
-    let r = roles_of all in
+    let r = symbols_of all in
     let names = appearing_by r all in
     once_all (filter (is_array r) names) (with_those (is_other r) [] names) (once_all (filter (is_other r) names) [] tt)
 

@@ -7,7 +7,7 @@ ghost use Rattle.expressions.specs.Dimensions.{dimension};
 ghost use Rattle.meaning.specs.Arrays.{size};
 ghost use Rattle.meaning.specs.Values.{dimensions_in};
 ghost use Rattle.name_maps.specs.NameSets.{texts};
-ghost use Rattle.numbering.specs.Numbered.{named};
+ghost use Rattle.storage.specs.Numbered.{named};
 
 use crate::named::Named;
 use expressions::{Dimension, Dimensions};

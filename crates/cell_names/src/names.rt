@@ -4,17 +4,17 @@ ghost use Rattle.std.specs.Prelude.{◌≡◌, IfOk};
 ghost use Rattle.appearances.specs.Appearing.{variables_at};
 ghost use Rattle.cell_names.specs.Cells.{AreApart, are_named};
 ghost use Rattle.meaning.specs.Arrays.{cell_of};
-ghost use Rattle.numbering.specs.Checked.{named_of_program, numbers_in};
-ghost use Rattle.numbering.specs.Numbered.{named};
-ghost use Rattle.roles.specs.RolesAt.{roles_at};
+ghost use Rattle.storage.specs.Checked.{named_of_program, numbers_in};
+ghost use Rattle.storage.specs.Numbered.{named};
+ghost use Rattle.symbols.specs.SymbolsAt.{symbols_at};
 
 use crate::cells::with_dimensions;
 use crate::named::Named;
 use appearances::variables_in_order;
 use declarations::declared_in;
 use meaning::syntax::Tree;
-use roles::{Roles, items_of};
 use std::alloc::{AllocError, Global};
+use symbols::{Symbols, items_of};
 
 /// The variables and then the arrays of a program unit, in the order of their cells, which are
 /// those by which the program numbers them. The `AllocError` comes where a growth was refused, and
@@ -25,20 +25,20 @@ pub fn names_of(alloc: Global, tree: &Tree) -> Result<Vec<Named>, AllocError>
     ensures apart { IfOk result (λ names. AreApart (are_named names.items)) }
 {
     let items = items_of(alloc, tree)?;
-    let roles = Roles::new(alloc, items.as_slice())?;
-    let names = names_by(alloc, &roles);
-    drop(roles);
+    let symbols = Symbols::new(alloc, items.as_slice())?;
+    let names = names_by(alloc, &symbols);
+    drop(symbols);
     names
 }
 
 // Those of the statements of which this is known.
-fn names_by(alloc: Global, roles: &Roles) -> Result<Vec<Named>, AllocError>
+fn names_by(alloc: Global, symbols: &Symbols) -> Result<Vec<Named>, AllocError>
     ensures { IfOk result
         (λ names. are_named names.items
-        ≡ named (roles_at roles.now).names.arrays (variables_at roles.now)) }
+        ≡ named (symbols_at symbols.now).names.arrays (variables_at symbols.now)) }
 {
-    let names = variables_in_order(alloc, roles)?;
-    let declared = declared_in(alloc, roles)?;
+    let names = variables_in_order(alloc, symbols)?;
+    let declared = declared_in(alloc, symbols)?;
     let found = with_dimensions(alloc, &declared.arrays, names.as_slice());
     drop(declared);
     found

@@ -13,14 +13,14 @@ use Rattle.meaning.specs.Arrays.{Dimension}
 use Rattle.meaning.specs.Scopes.{arrays_from, arrays_of, constant_value, constants_in, declarators_in, dimension_of, dimensions_in as bounds_in, known_behind, known_of, nothing_known, or_dimensions, with_constant}
 use Rattle.meaning.specs.Syntax.{BoundsTree, ConstantTree, DeclaratorTree, ItemTree, ShapeTree, typing, logical_typing}
 use Rattle.meaning.specs.Types.{Types, types_of, declared_by, typed_as, typed_in}
-use Rattle.meaning.specs.Uses.{Roles, is_array, is_other, roles_of, uses_at}
+use Rattle.meaning.specs.Uses.{Symbols, is_array, is_other, symbols_of, uses_at}
 use Rattle.meaning.specs.Values.{Known, dimensions_in}
-use Rattle.roles.specs.TypedNames.{typed_names}
-use Rattle.roles.proofs.Firsts.{declared_append}
+use Rattle.symbols.specs.TypedNames.{typed_names}
+use Rattle.symbols.proofs.Firsts.{declared_append}
 use Rattle.name_maps.proofs.NameSets.{any_with_names}
 use Rattle.checker.specs.Entries.{names_given}
-use Rattle.numbering.specs.Kept.{array_of}
-use Rattle.numbering.specs.Numbered.{appearing_by, is_variable, names_at, names_from, variables_of, with_those}
+use Rattle.storage.specs.Kept.{array_of}
+use Rattle.storage.specs.Numbered.{appearing_by, is_variable, names_at, names_from, variables_of, with_those}
 
 or_parts : (a b : Bool) → (a || b) ≡ false → (a ≡ false) × (b ≡ false)
 or_parts true b h = absurd (true≢false h)
@@ -43,7 +43,7 @@ module _ (types : Types) where
       ap (λ b. if b && nat_lt 0 (length d.bounds) then Some (map (dimension_of types known) d.bounds) else bounds_in types known ds n) p.0
       ∙ not_bounded known ds n p.1
 
-  not_array : (r : Roles) (known : Known) (before xs : List ItemTree) (n : List ℕ) → IsAbsent n (names_from r before xs) → arrays_from types known xs n ≡ None
+  not_array : (r : Symbols) (known : Known) (before xs : List ItemTree) (n : List ℕ) → IsAbsent n (names_from r before xs) → arrays_from types known xs n ≡ None
   unfolding names_from arrays_from
   not_array r known before [] n h = refl
   not_array r known before (x ∷ xs) n h =
@@ -104,7 +104,7 @@ no_array all n h = by (arrays_of all n) refl
     by : (o : Option (List Dimension)) → arrays_of all n ≡ o → arrays_of all n ≡ None
     by None is = is
     by (Some ds) is =
-        let r = roles_of all in
+        let r = symbols_of all in
         let named = names_from r [] all in
         let names = appearing_by r all in
         let front = with_those (is_other r) [] names in

@@ -15,39 +15,39 @@ use Rattle.meaning.specs.Stores.{known}
 use Rattle.meaning.specs.Scopes.{arrays_of}
 use Rattle.meaning.specs.Syntax.{ItemTree}
 use Rattle.meaning.specs.Types.{declared_by, types_of, has_implicit_none}
-use Rattle.meaning.specs.Uses.{roles_of}
+use Rattle.meaning.specs.Uses.{symbols_of}
 use Rattle.meaning.specs.Values.{Arrays, dimensions_in}
 use Rattle.meaning.proofs.Elements.{one_to_one}
 use Rattle.array_store.specs.Whole.{world_of}
-use Rattle.roles.specs.declared.names.Roles.{Roles}
+use Rattle.symbols.specs.declared.names.Symbols.{Symbols}
 use Rattle.name_maps.specs.Keeping.{kept_at}
-use Rattle.roles.specs.Listed.{trees_at}
-use Rattle.roles.specs.RolesAt.{roles_at}
-use Rattle.roles.specs.TypedNames.{implicit_parts, letter_type, typed_names}
+use Rattle.symbols.specs.Listed.{trees_at}
+use Rattle.symbols.specs.SymbolsAt.{symbols_at}
+use Rattle.symbols.specs.TypedNames.{implicit_parts, letter_type, typed_names}
 use Rattle.k_rules.specs.declared.verdict.Facts.{Facts}
 use Rattle.data_rules.specs.DataSets.{given_by, nothing}
 use Rattle.data_rules.specs.Slots.{slot_if}
 use Rattle.k_rules.specs.Judged.{arrays_in, constant_in, starts_in}
-use Rattle.numbering.specs.declared.parts.Entry.{Entry}
-use Rattle.numbering.specs.declared.parts.Storage.{Storage}
+use Rattle.storage.specs.declared.parts.Entry.{Entry}
+use Rattle.storage.specs.declared.parts.Storage.{Storage}
 use Rattle.checker.specs.declared.rules.Names.{Names}
 use Rattle.appearances.specs.Appearing.{variables_at}
 use Rattle.checker.specs.Built.{AreNames, count_at}
-use Rattle.numbering.specs.Checked.{count_in, items_in, names_in, tree_of}
+use Rattle.storage.specs.Checked.{count_in, items_in, names_in, tree_of}
 use Rattle.rule_laws.specs.Sized.{AreStartsNamed}
 use Rattle.checker.specs.Entries.{Placed, Said, described, first_of, names_given, place_from, placed, said, stored}
 use Rattle.checker.specs.Given.{first_said, firsts_in, number_given, starts_by}
-use Rattle.numbering.specs.Kept.{IsStored, IsTyped, StartsWithByte, array_of, by_first, storage_kept, type_if, value_kept}
-use Rattle.numbering.specs.Numbered.{named, variables_of}
-use Rattle.numbering.specs.Starts.{map_of, start_in}
-use Rattle.numbering.specs.Whereabouts.{Whereabouts, where_in}
+use Rattle.storage.specs.Kept.{IsStored, IsTyped, StartsWithByte, array_of, by_first, storage_kept, type_if, value_kept}
+use Rattle.storage.specs.Numbered.{named, variables_of}
+use Rattle.storage.specs.Starts.{map_of, start_in}
+use Rattle.storage.specs.Whereabouts.{Whereabouts, where_in}
 use Rattle.checker.proofs.Absent.{bounded, no_array, unknown, untyped}
 use Rattle.checker.proofs.CellsOf.{first_cells, first_leads, no_first}
 use Rattle.checker.proofs.Starting.{all_placed, all_shown, given_nothing, given_to, known_value, many_by, none_for, not_first, nothing_shown, number_if, shown, value_by}
 
 -- ---- what is said of a name, by its first cell and by whether statements give it something
 
-module _ (f : Facts) (r : Roles) (n : List ℕ) where
+module _ (f : Facts) (r : Symbols) (n : List ℕ) where
   abbrev Says : Option ℕ → Bool → Option Said
   Says first given = option_or (option_map (λ c. stored f r c n) first) (if given then Some (described f r n) else None)
 
@@ -63,10 +63,10 @@ module _ (f : Facts) (r : Roles) (n : List ℕ) where
         by (Some e) None true is none = ap (λ p. (unwrap_or p (said e)).value) is
         by (Some e) None false is none = absurd cc
 
-    type_is : (first : Option ℕ) (given : Bool) → option_map said o ≡ Says first given → IsTyped ((roles_at r).names.types n) o
+    type_is : (first : Option ℕ) (given : Bool) → option_map said o ≡ Says first given → IsTyped ((symbols_at r).names.types n) o
     type_is first given is = by o first given is
       where
-        by : (p : Option Entry) (first : Option ℕ) (given : Bool) → option_map said p ≡ Says first given → IsTyped ((roles_at r).names.types n) p
+        by : (p : Option Entry) (first : Option ℕ) (given : Bool) → option_map said p ≡ Says first given → IsTyped ((symbols_at r).names.types n) p
         by None first given is = tt
         by (Some e) (Some c) given is = ap (λ p. (unwrap_or p (said e)).data_type) is
         by (Some e) None true is = ap (λ p. (unwrap_or p (said e)).data_type) is
@@ -129,7 +129,7 @@ pub record Naming (t : Tree) (k : Names) : Type 0 where
   pub many : length k.starts.items ≡ count_in t
   pub started : (n : List ℕ) (ss : List ℤ) → map_of t k.starts.items n ss ≡ start_in t n ss
 
-module _ (t : Tree) (f : Facts) (r : Roles) (k : Names) (items : trees_at r.items.now ≡ items_in t) (constants : (n : List ℕ) → constant_in f n ≡ (names_in t).known n) (arrays : (n : List ℕ) → arrays_in f n ≡ arrays_of (items_in t) n) (starts : starts_in f ≡ given_by (roles_of (items_in t)).names (starts_from (roles_of (items_in t)) [] (items_in t))) (given : AreStartsNamed (tree_of t)) (names : AreNames f r k) where
+module _ (t : Tree) (f : Facts) (r : Symbols) (k : Names) (items : trees_at r.items.now ≡ items_in t) (constants : (n : List ℕ) → constant_in f n ≡ (names_in t).known n) (arrays : (n : List ℕ) → arrays_in f n ≡ arrays_of (items_in t) n) (starts : starts_in f ≡ given_by (symbols_of (items_in t)).names (starts_from (symbols_of (items_in t)) [] (items_in t))) (given : AreStartsNamed (tree_of t)) (names : AreNames f r k) where
   abbrev all : List ItemTree
   all = items_in t
 
@@ -157,7 +157,7 @@ module _ (t : Tree) (f : Facts) (r : Roles) (k : Names) (items : trees_at r.item
   counted : count_at f r ≡ count_in t
   counted = ap₂ (λ a ns. cells_of (named a ns)) own_arrays variables
 
-  types_are : (n : List ℕ) → (roles_at r).names.types n ≡ (names_in t).types n
+  types_are : (n : List ℕ) → (symbols_at r).names.types n ≡ (names_in t).types n
   types_are n = ap (λ xs. types_of xs n) items
 
   first_kept : (n : List ℕ) → firsts_in k.entries n ≡ first_at n
@@ -166,7 +166,7 @@ module _ (t : Tree) (f : Facts) (r : Roles) (k : Names) (items : trees_at r.item
   -- a name without cells was given nothing
   nothing_given : (n : List ℕ) → first_at n ≡ None → (i : ℕ) → number_given (starts_in f n i) ≡ pos 0
   nothing_given n none i =
-      let rs = roles_of all in
+      let rs = symbols_of all in
       let ss = starts_from rs [] all in
       let other = not_first (arrays_of all) n vs (sym (firsts n) ∙ none) in
       ap (λ g. number_given (g n i)) starts ∙ ap number_given (given_nothing rs.names n ss i (none_for n vs ss other given))
@@ -193,9 +193,9 @@ module _ (t : Tree) (f : Facts) (r : Roles) (k : Names) (items : trees_at r.item
           ap (value_at (known (world_of cells))) (sym (first_cells (arrays_in f) n (variables_at r) c is ss))
           ∙ by_place c is (place (dimensions_in (arrays_in f n)) ss) refl
 
-  starts_shown : start_in t ≡ shown (roles_of all).names (starts_in f)
+  starts_shown : start_in t ≡ shown (symbols_of all).names (starts_in f)
   starts_shown =
-      let rs = roles_of all in
+      let rs = symbols_of all in
       ap (λ m. fold given_to m (starts_from rs [] all)) (nothing_shown rs.names)
       ∙ all_shown rs.names (starts_from rs [] all) nothing (all_placed rs [] all)
       ∙ ap (shown rs.names) (sym starts)

@@ -7,7 +7,7 @@ use Rattle.std.proofs.lemmas.Slice.Eq.{bytes_eq-Decides}
 use Rattle.meaning.specs.Arrays.{Dimension, cell_of, cells_of, place, size}
 use Rattle.meaning.specs.Values.{Arrays, dimensions_in}
 use Rattle.checker.specs.Entries.{first_of}
-use Rattle.numbering.specs.Numbered.{named}
+use Rattle.storage.specs.Numbered.{named}
 
 zero_more : (k : ℕ) → 0 + k ≡ k
 zero_more k = omega arith

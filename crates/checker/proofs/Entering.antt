@@ -18,19 +18,19 @@ use Rattle.meaning.specs.Arrays.{Dimension, Named, cells_of, extent, size}
 use Rattle.meaning.specs.Values.{dimensions_in}
 use Rattle.expressions.specs.declared.dimension.Dimension.{Dimension as Own}
 use Rattle.expressions.specs.Dimensions.{dimension}
-use Rattle.roles.specs.declared.names.Roles.{Roles}
+use Rattle.symbols.specs.declared.names.Symbols.{Symbols}
 use Rattle.name_maps.specs.Keeping.{kept_at}
-use Rattle.roles.specs.Listed.{tree_at, trees_at}
+use Rattle.symbols.specs.Listed.{tree_at, trees_at}
 use Rattle.name_maps.specs.NameSets.{texts}
-use Rattle.roles.proofs.Defining.{map_or}
+use Rattle.symbols.proofs.Defining.{map_or}
 use Rattle.name_maps.proofs.FirstKept.{kept_new, kept_there}
-use Rattle.roles.proofs.Firsts.{or_grouped, or_nothing}
-use Rattle.roles.proofs.Passes.{map_more, flat_map_last}
+use Rattle.symbols.proofs.Firsts.{or_grouped, or_nothing}
+use Rattle.symbols.proofs.Passes.{map_more, flat_map_last}
 use Rattle.k_rules.specs.declared.verdict.Facts.{Facts}
 use Rattle.k_rules.specs.Judged.{arrays_in}
-use Rattle.numbering.specs.declared.parts.Entry.{Entry}
+use Rattle.storage.specs.declared.parts.Entry.{Entry}
 use Rattle.checker.specs.Entries.{Adds, AddsOne, Said, first_of, if_among, if_name, names_given, place_from, said, said_at, stored, stored_in}
-use Rattle.numbering.specs.Numbered.{named}
+use Rattle.storage.specs.Numbered.{named}
 
 -- ---- one name
 
@@ -129,7 +129,7 @@ first_push (y ∷ ys) x n = by_test (bytes_eq n y.name) (bytes_eq n x.name) (fir
     by_test false false None p is = ap (option_map (λ k. size y.dimensions + k)) is
     by_test false c (Some k) p is = ap (option_map (λ j. size y.dimensions + j)) is
 
-module _ (f : Facts) (r : Roles) (names : List (Vec ℕ)) (i : ℕ) (x : Vec ℕ) (lt : i < length names) (is : x ≡ get_or names i x) where
+module _ (f : Facts) (r : Symbols) (names : List (Vec ℕ)) (i : ℕ) (x : Vec ℕ) (lt : i < length names) (is : x ≡ get_or names i x) where
   abbrev front : List Named
   front = named (arrays_in f) (texts (take i names))
 

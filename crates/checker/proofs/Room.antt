@@ -10,13 +10,13 @@ use Rattle.meaning.specs.Scopes.{arrays_of}
 use Rattle.meaning.specs.Trees.{nested, flatten}
 use Rattle.meaning.specs.Values.{Arrays, dimensions_in}
 use Rattle.name_maps.specs.NameSets.{texts}
-use Rattle.roles.specs.declared.names.Roles.{Roles}
-use Rattle.roles.specs.Listed.{trees_at}
+use Rattle.symbols.specs.declared.names.Symbols.{Symbols}
+use Rattle.symbols.specs.Listed.{trees_at}
 use Rattle.k_rules.specs.declared.verdict.Facts.{Facts}
 use Rattle.k_rules.specs.Judged.{arrays_in}
 use Rattle.appearances.specs.Appearing.{variables_at}
-use Rattle.numbering.specs.Checked.{items_in, names_in, tree_of}
-use Rattle.numbering.specs.Numbered.{named, variables_of}
+use Rattle.storage.specs.Checked.{items_in, names_in, tree_of}
+use Rattle.storage.specs.Numbered.{named, variables_of}
 use Rattle.rule_laws.specs.Units.{unit_of}
 use Rattle.rule_laws.proofs.Count.{few_cells}
 use Rattle.rule_laws.proofs.Sizes.{arrays_sized}
@@ -71,7 +71,7 @@ cells_count f names i n h is =
 
 -- ---- in a program unit that keeps the rules
 
-module _ (t : Tree) (f : Facts) (r : Roles) (items : trees_at r.items.now ≡ items_in t) (arrays : (n : List ℕ) → arrays_in f n ≡ (names_in t).arrays n) (accepted : checked (tree_of t) ≡ Ok (tree_of t)) where
+module _ (t : Tree) (f : Facts) (r : Symbols) (items : trees_at r.items.now ≡ items_in t) (arrays : (n : List ℕ) → arrays_in f n ≡ (names_in t).arrays n) (accepted : checked (tree_of t) ≡ Ok (tree_of t)) where
   countable : (n : List ℕ) (o : Option (List Dimension)) → arrays_of (items_in t) n ≡ o → AreCountable (dimensions_in o)
   countable n None is = record { filled = tt; few = omega arith }
   countable n (Some ds) is =

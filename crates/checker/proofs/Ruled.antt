@@ -18,14 +18,14 @@ use Rattle.meaning.specs.Statements.{broken_if}
 use Rattle.meaning.specs.Syntax.{ItemTree, ShapeTree, assignment, definition, shape_tree}
 use Rattle.meaning.specs.Trees.{Nested, flatten}
 use Rattle.meaning.specs.Typing.{option_list}
-use Rattle.meaning.specs.Uses.{Roles, is_before_executables, is_defining, is_one_of, roles_of}
+use Rattle.meaning.specs.Uses.{Symbols, is_before_executables, is_defining, is_one_of, symbols_of}
 use Rattle.meaning.specs.Values.{Arrays}
-use Rattle.roles.proofs.Passes.{flat_map_last}
-use Rattle.roles.proofs.Staging.{behind_one, stands_before}
-use Rattle.numbering.specs.declared.parts.FunctionAt.{FunctionAt}
+use Rattle.symbols.proofs.Passes.{flat_map_last}
+use Rattle.symbols.proofs.Staging.{behind_one, stands_before}
+use Rattle.storage.specs.declared.parts.FunctionAt.{FunctionAt}
 use Rattle.appearances.specs.FunctionsFound.{IsFoundAt}
-use Rattle.numbering.specs.Kept.{IsFunctionAt, shown_at, shown_by}
-use Rattle.numbering.proofs.Unbroken.{none_front, nothing_broken}
+use Rattle.storage.specs.Kept.{IsFunctionAt, shown_at, shown_by}
+use Rattle.storage.proofs.Unbroken.{none_front, nothing_broken}
 
 or_parts : (a b : Bool) → (a || b) ≡ false → (a ≡ false) × (b ≡ false)
 or_parts true b h = absurd (true≢false h)
@@ -50,24 +50,24 @@ told_parts breaks rule before xs x none = (
 
 -- ---- the names of the statement functions so far
 
-given_none : (r : Roles) → given_from r [] [] ≡ []
+given_none : (r : Symbols) → given_from r [] [] ≡ []
 unfolding given_from
 given_none r = refl
 
-given_last : (r : Roles) (before xs : List ItemTree) (x : ItemTree) → given_from r before (xs ++ x ∷ []) ≡ given_from r before xs ++ given_by r (is_defining r (before ++ xs) x) x.shape ∷ []
+given_last : (r : Symbols) (before xs : List ItemTree) (x : ItemTree) → given_from r before (xs ++ x ∷ []) ≡ given_from r before xs ++ given_by r (is_defining r (before ++ xs) x) x.shape ∷ []
 unfolding given_from
 given_last r before [] x = ap (λ b. given_by r (is_defining r b x) x.shape ∷ []) (sym (append-nil before))
 given_last r before (y ∷ ys) x =
     ap (λ gs. given_by r (is_defining r before y) y.shape ∷ gs) (given_last r (before ++ y ∷ []) ys x)
     ∙ ap (λ b. given_by r (is_defining r before y) y.shape ∷ (given_from r (before ++ y ∷ []) ys ++ given_by r (is_defining r b x) x.shape ∷ [])) (append_assoc before (y ∷ []) ys)
 
-abbrev earlier : Roles → List ItemTree → List (List ℕ)
+abbrev earlier : Symbols → List ItemTree → List (List ℕ)
 earlier r before = flat_map (λ g. g.defined) (given_from r [] before)
 
 abbrev names_if : Bool → Option Definition → List (List ℕ)
 names_if b o = if b then map (λ d. d.name) (option_list o) else []
 
-earlier_last : (r : Roles) (before : List ItemTree) (x : ItemTree) → earlier r (before ++ x ∷ []) ≡ earlier r before ++ names_if (is_defining r before x) (defined_by r.names.arrays x.shape)
+earlier_last : (r : Symbols) (before : List ItemTree) (x : ItemTree) → earlier r (before ++ x ∷ []) ≡ earlier r before ++ names_if (is_defining r before x) (defined_by r.names.arrays x.shape)
 earlier_last r before x =
     ap (flat_map (λ g. g.defined)) (given_last r [] before x)
     ∙ flat_map_last (λ g. g.defined) (given_from r [] before) (given_by r (is_defining r before x) x.shape)
@@ -86,7 +86,7 @@ none_own : (arrays : Arrays) (names : List (List ℕ)) → AreOwn names (definit
 unfolding definitions_of
 none_own arrays names = tt
 
-module _ (r : Roles) (before : List ItemTree) (x : ItemTree) (front : is_before_executables r before ≡ true) (undisputed : is_disputed r before x ≡ false) (lawful : breaks_function_rules r before x ≡ false) where
+module _ (r : Symbols) (before : List ItemTree) (x : ItemTree) (front : is_before_executables r before ≡ true) (undisputed : is_disputed r before x ≡ false) (lawful : breaks_function_rules r before x ≡ false) where
   module _ (d : Definition) (is : defined_by r.names.arrays x.shape ≡ Some d) where
     defining : is_defining r before x ≡ true
     defining = ap₂ ◌&&◌ front (ap is_some is)
@@ -124,10 +124,10 @@ module _ (r : Roles) (before : List ItemTree) (x : ItemTree) (front : is_before_
       nothing_here true = ap (λ o. map (λ (e : Definition). e.name) (option_list o)) is
       nothing_here false = refl
 
-abbrev Stage : Roles → List ItemTree → List ItemTree → Type 0
+abbrev Stage : Symbols → List ItemTree → List ItemTree → Type 0
 Stage r before xs = (is_before_executables r before ≡ true) → AreOwn (earlier r before) (definitions_of r.names.arrays xs)
 
-own_one : (r : Roles) (before xs : List ItemTree) (x : ItemTree) → is_disputed r before x ≡ false → breaks_function_rules r before x ≡ false → Stage r (before ++ x ∷ []) xs → Stage r before (x ∷ xs)
+own_one : (r : Symbols) (before xs : List ItemTree) (x : ItemTree) → is_disputed r before x ≡ false → breaks_function_rules r before x ≡ false → Stage r (before ++ x ∷ []) xs → Stage r before (x ∷ xs)
 own_one r before xs x undisputed lawful rest front =
     subst (AreOwn (earlier r before)) (sym (first_is r.names.arrays x xs)) (by (defined_by r.names.arrays x.shape) refl (is_specification x.shape) refl)
   where
@@ -145,16 +145,16 @@ own_one r before xs x undisputed lawful rest front =
         own_first r before x front undisputed lawful (definitions_of r.names.arrays xs) (going_on (ap (λ b. b || is_some (defined_by r.names.arrays x.shape)) passes)) None is true
     by None is false passes = tt
 
-all_own : (r : Roles) (before xs : List ItemTree) → told (is_disputed r) K4 before xs ≡ [] → told (breaks_function_rules r) K12 before xs ≡ [] → Stage r before xs
+all_own : (r : Symbols) (before xs : List ItemTree) → told (is_disputed r) K4 before xs ≡ [] → told (breaks_function_rules r) K12 before xs ≡ [] → Stage r before xs
 all_own r before [] disputed functions = λ front. none_own r.names.arrays (earlier r before)
 all_own r before (x ∷ xs) disputed functions =
     let a = told_parts (is_disputed r) K4 before xs x disputed in
     let b = told_parts (breaks_function_rules r) K12 before xs x functions in
     own_one r before xs x a.0 b.0 (all_own r (before ++ x ∷ []) xs a.1 b.1)
 
-own_all : (t : Nested) → checked t ≡ Ok t → AreOwn [] (definitions_of (roles_of (flatten t)).names.arrays (flatten t))
+own_all : (t : Nested) → checked t ≡ Ok t → AreOwn [] (definitions_of (symbols_of (flatten t)).names.arrays (flatten t))
 own_all t accepted =
-    let r = roles_of (flatten t) in
+    let r = symbols_of (flatten t) in
     let xs = flatten t in
     let items = none_front (broken_items r xs) _ (nothing_broken t accepted) in
     let names = none_front (broken_names r xs) _ (none_behind (told has_repeated_label K1 [] xs) _ items) in
@@ -213,10 +213,10 @@ shown_name n (Some (Loop' head shape range)) d h = absurd cc
 shown_name n (Some (Block b)) d h = absurd cc
 shown_name n None d h = absurd cc
 
-pub functions_at : (t : Nested) → checked t ≡ Ok t → (n : List ℕ) (members : List Member) (o : Option FunctionAt) → IsFoundAt (definitions_of (roles_of (flatten t)).names.arrays (flatten t)) n members o → IsFunctionAt (definitions_of (roles_of (flatten t)).names.arrays (flatten t)) n members o
+pub functions_at : (t : Nested) → checked t ≡ Ok t → (n : List ℕ) (members : List Member) (o : Option FunctionAt) → IsFoundAt (definitions_of (symbols_of (flatten t)).names.arrays (flatten t)) n members o → IsFunctionAt (definitions_of (symbols_of (flatten t)).names.arrays (flatten t)) n members o
 functions_at t accepted n members None found = found
 functions_at t accepted n members (Some a) found =
-    let ds = definitions_of (roles_of (flatten t)).names.arrays (flatten t) in
+    let ds = definitions_of (symbols_of (flatten t)).names.arrays (flatten t) in
     let own = own_all t accepted in
     record {
       definition = found.definition;

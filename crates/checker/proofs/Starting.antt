@@ -20,7 +20,7 @@ use Rattle.meaning.specs.NumberRules.{known_behind_all}
 use Rattle.meaning.specs.Stores.{known, overlay}
 use Rattle.meaning.specs.Syntax.{ItemTree}
 use Rattle.meaning.specs.Typing.{Names}
-use Rattle.meaning.specs.Uses.{Roles}
+use Rattle.meaning.specs.Uses.{Symbols}
 use Rattle.meaning.specs.Values.{Arrays, as_integer, dimensions_in}
 use Rattle.array_store.specs.Whole.{world_of}
 use Rattle.data_rules.specs.DataSets.{HasPlace, given_behind, given_by, nothing, place_at, place_of}
@@ -29,7 +29,7 @@ use Rattle.data_rules.proofs.DataPairing.{Each, IfEach, sets_placed}
 use Rattle.data_rules.proofs.DataStarting.{same_place}
 use Rattle.k_rules.specs.declared.verdict.Facts.{Facts}
 use Rattle.k_rules.specs.Judged.{arrays_in, starts_in}
-use Rattle.numbering.specs.Numbered.{named}
+use Rattle.storage.specs.Numbered.{named}
 use Rattle.checker.specs.Entries.{cells_at, first_of}
 use Rattle.checker.specs.Given.{number_given, starts_by, values_of}
 
@@ -46,7 +46,7 @@ or_none_placed : (ns : Names) (o : Option (List Start)) → IfEach (Placed ns) o
 or_none_placed ns None h = tt
 or_none_placed ns (Some ss) h = h
 
-pub all_placed : (r : Roles) (before xs : List ItemTree) → Each (Placed r.names) (starts_from r before xs)
+pub all_placed : (r : Symbols) (before xs : List ItemTree) → Each (Placed r.names) (starts_from r before xs)
 unfolding starts_from
 all_placed r before [] = tt
 all_placed r before (x ∷ xs) =

@@ -17,18 +17,18 @@ use Rattle.meaning.specs.declared.syntax.Shape.{Shape}
 use Rattle.std.specs.Borrow.{Bor}
 use Rattle.meaning.specs.Syntax.{ShapeTree, constant_tree, declarator_tree, shape_tree}
 use Rattle.meaning.specs.Values.{dimensions_in}
-use Rattle.roles.specs.declared.names.Roles.{Roles}
+use Rattle.symbols.specs.declared.names.Symbols.{Symbols}
 use Rattle.name_maps.specs.Keeping.{kept_at}
-use Rattle.roles.specs.Listed.{trees_at}
+use Rattle.symbols.specs.Listed.{trees_at}
 use Rattle.name_maps.specs.NameSets.{texts}
-use Rattle.roles.specs.RolesAt.{roles_at}
+use Rattle.symbols.specs.SymbolsAt.{symbols_at}
 use Rattle.k_rules.specs.declared.verdict.Facts.{Facts}
 use Rattle.k_rules.specs.Judged.{arrays_in, constant_in}
 use Rattle.checker.specs.declared.entries.Storing.{Storing}
-use Rattle.numbering.specs.declared.parts.Entry.{Entry}
-use Rattle.numbering.specs.declared.parts.Storage.{Storage}
-use Rattle.numbering.specs.Kept.{dimensions_kept}
-use Rattle.numbering.specs.Numbered.{named}
+use Rattle.storage.specs.declared.parts.Entry.{Entry}
+use Rattle.storage.specs.declared.parts.Storage.{Storage}
+use Rattle.storage.specs.Kept.{dimensions_kept}
+use Rattle.storage.specs.Numbered.{named}
 
 -- the first cell of a name and its dimensions
 pub record Placed : Type 0 where
@@ -70,14 +70,14 @@ abbrev pub Adds : {S : Type 0} → IndexMap (Vec ℕ) Entry S → IndexMap (Vec 
 Adds m new f names = (n : List ℕ) → said_at new n ≡ option_or (said_at m n) (if_among f names n)
 
 -- what is said of a name that has no cells, and of one that has
-abbrev pub described : Facts → Roles → List ℕ → Said
+abbrev pub described : Facts → Symbols → List ℕ → Said
 described f r n =
-    record { value = constant_in f n; data_type = (roles_at r).names.types n; storage = None }
+    record { value = constant_in f n; data_type = (symbols_at r).names.types n; storage = None }
 
-abbrev pub stored : Facts → Roles → ℕ → List ℕ → Said
+abbrev pub stored : Facts → Symbols → ℕ → List ℕ → Said
 stored f r c n = record {
   value = constant_in f n;
-  data_type = (roles_at r).names.types n;
+  data_type = (symbols_at r).names.types n;
   storage = Some (place_from (dimensions_in (arrays_in f n)) c);
 }
 
@@ -87,7 +87,7 @@ first_of [] n = None
 first_of (x ∷ xs) n =
     if bytes_eq n x.name then Some 0 else option_map (λ c. size x.dimensions + c) (first_of xs n)
 
-abbrev pub stored_in : Facts → Roles → List Named → List ℕ → Option Said
+abbrev pub stored_in : Facts → Symbols → List Named → List ℕ → Option Said
 stored_in f r names n = option_map (λ c. stored f r c n) (first_of names n)
 
 -- the names that a statement declares, and the constants that it defines
@@ -95,7 +95,7 @@ abbrev pub names_given : ShapeTree → List (List ℕ)
 names_given s = map (λ d. d.name) (declarators_in s) ++ map (λ c. c.name) (constants_in s)
 
 -- what is said of a name where these are variables and arrays
-abbrev pub IsSaid : Facts → Roles → List (List ℕ) → List ℕ → Option Said → Type 0
+abbrev pub IsSaid : Facts → Symbols → List (List ℕ) → List ℕ → Option Said → Type 0
 IsSaid f r names n o =
     o ≡ option_or (stored_in f r (named (arrays_in f) names) n)
     (if_among (described f r) (flat_map (λ x. names_given x.shape) (trees_at r.items.now)) n)
@@ -124,16 +124,16 @@ abbrev pub named_by : Facts → List (Vec ℕ) → List Named
 named_by f keys = named (arrays_in f) (texts keys)
 
 -- a name more that has the next cells
-abbrev pub AddsCells : Facts → Roles → List ℕ → Storing → Storing → Type 0
+abbrev pub AddsCells : Facts → Symbols → List ℕ → Storing → Storing → Type 0
 AddsCells f r n old new = AddsOne old.entries new.entries n (stored f r old.next n)
 
-abbrev pub AreStored : {S : Type 0} → Facts → Roles → List (Vec ℕ) → IndexMap (Vec ℕ) Entry S →
+abbrev pub AreStored : {S : Type 0} → Facts → Symbols → List (Vec ℕ) → IndexMap (Vec ℕ) Entry S →
     Type 0
 AreStored f r keys m = (n : List ℕ) → said_at m n ≡ stored_in f r (named_by f keys) n
 
 -- names more that have no cells: these, those in declarators, those of constants, those of a
 -- statement, those of statements
-abbrev pub Tells : {S : Type 0} → Facts → Roles → IndexMap (Vec ℕ) Entry S →
+abbrev pub Tells : {S : Type 0} → Facts → Symbols → IndexMap (Vec ℕ) Entry S →
     IndexMap (Vec ℕ) Entry S → List (List ℕ) → Type 0
 Tells f r m new names = Adds m new (described f r) names
 
@@ -149,6 +149,6 @@ given s = names_given (shape_tree s)
 abbrev pub given_in : List (Bor Item) → List (List ℕ)
 given_in items = flat_map (λ x. names_given x.shape) (trees_at items)
 
-abbrev pub AreSaid : {S : Type 0} → Facts → Roles → List (List ℕ) → IndexMap (Vec ℕ) Entry S →
+abbrev pub AreSaid : {S : Type 0} → Facts → Symbols → List (List ℕ) → IndexMap (Vec ℕ) Entry S →
     Type 0
 AreSaid f r names m = (n : List ℕ) → IsSaid f r names n (said_at m n)

@@ -9,7 +9,7 @@ use Rattle.meaning.specs.declared.ending.Value.{Value}
 use Rattle.meaning.specs.Values.{as_integer}
 use Rattle.k_rules.specs.declared.verdict.Facts.{Facts}
 use Rattle.k_rules.specs.Judged.{starts_in}
-use Rattle.numbering.specs.declared.parts.Entry.{Entry}
+use Rattle.storage.specs.declared.parts.Entry.{Entry}
 use Rattle.checker.specs.Entries.{Placed, Said, cells_at, said_at}
 
 abbrev pub first_placed : Option Placed → Option ℕ

@@ -9,14 +9,14 @@ ghost use Rattle.rule_laws.specs.Units.{IsSpelled};
 use crate::rules::{Kept, Names, kept_of};
 use meaning::refusal::Refusal;
 use meaning::syntax::Tree;
-use numbering::{Parts, Program};
 use statement_rules::Formats;
 use std::alloc::Global;
+use storage::{CheckedProgram, Parts};
 
 /// Checks a program unit by the rules on labels, names, constants, arrays, DO variables, units,
 /// formats, DATA and statement functions: the program, whose statements are the unit's, or the
 /// least broken rule of the least line. `Memory` where a growth was refused.
-pub fn check(alloc: Global, tree: Tree) -> Result<Program, Refusal>
+pub fn check(alloc: Global, tree: Tree) -> Result<CheckedProgram, Refusal>
     requires { IsSpelled (nested tree) }
     ensures exact { Gives (λ p. nested p) result (checked (nested tree)) }
     ensures tree { IfOk result (λ p. p ≡ tree) }
@@ -28,7 +28,7 @@ pub fn check(alloc: Global, tree: Tree) -> Result<Program, Refusal>
                 functions,
                 function_count,
                 no_dummies,
-                landmarks,
+                label_targets,
             } = kept;
             let Names {
                 entries,
@@ -36,7 +36,7 @@ pub fn check(alloc: Global, tree: Tree) -> Result<Program, Refusal>
                 starts,
             } = names;
             let Formats { by_label, texts } = formats;
-            Ok(Program::new(Parts {
+            Ok(CheckedProgram::new(Parts {
                 tree,
                 entries,
                 letters,
@@ -46,7 +46,7 @@ pub fn check(alloc: Global, tree: Tree) -> Result<Program, Refusal>
                 starts,
                 formats: by_label,
                 texts,
-                landmarks,
+                label_targets,
             }))
         }
         Err(refusal) => {

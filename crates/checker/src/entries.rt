@@ -17,9 +17,9 @@ use indexmap::IndexMap;
 use k_rules::Facts;
 use meaning::ending::Value;
 use meaning::syntax::{Declarator, Item, NamedConstant, Shape};
-use numbering::{Entry, Storage};
-use roles::{Roles, declarators_in, type_of_name};
 use std::alloc::{AllocError, Global};
+use storage::{Entry, Storage};
+use symbols::{Symbols, declarators_in, type_of_name};
 
 /// The value of a name, if it is a constant's.
 fn constant_named(facts: &Facts, name: &[u8]) -> Option<Value>
@@ -84,14 +84,15 @@ pub(crate) struct Storing {
 fn add_stored(
     storing: &mut Storing,
     alloc: Global,
-    roles: &Roles,
+    symbols: &Symbols,
     facts: &Facts,
     name: &[u8],
 ) -> Result<(), AllocError>
     requires countable { AreCountable (dimensions_at facts.now name.now) }
     requires room { storing.old.next + cells_at facts.now name.now < 2 ^ 64 }
     ensures next { OnOk result (storing.new.next ≡ storing.old.next + cells_at facts.now name.now) }
-    ensures entries { OnOk result (AddsCells facts.now roles.now name.now storing.old storing.new) }
+    ensures entries { OnOk result
+        (AddsCells facts.now symbols.now name.now storing.old storing.new) }
 {
     let dimensions = dimensions_named(alloc, facts, name)?;
     let first = storing.next;
@@ -99,7 +100,7 @@ fn add_stored(
     let next = first + cells;
     let entry = Entry {
         value: constant_named(facts, name),
-        data_type: type_of_name(roles, name),
+        data_type: type_of_name(symbols, name),
         storage: Some(Storage { first, dimensions }),
     };
     storing.next = next;
@@ -110,20 +111,20 @@ fn add_stored(
 /// Gives variables and arrays their cells, one behind another.
 fn store_names(
     alloc: Global,
-    roles: &Roles,
+    symbols: &Symbols,
     facts: &Facts,
     names: &[Vec<u8>],
 ) -> Result<Storing, AllocError>
     requires { HaveRoom facts.now (texts names.now) }
     ensures next { IfOk result (λ s. s.next ≡ cells_of (named_by facts.now names.now)) }
-    ensures entries { IfOk result (λ s. AreStored facts.now roles.now names.now s.entries) }
+    ensures entries { IfOk result (λ s. AreStored facts.now symbols.now names.now s.entries) }
 {
     let mut storing = Storing {
         entries: IndexMap::new(alloc),
         next: 0,
     };
     for name in names {
-        add_stored(&mut storing, alloc, roles, facts, name)?;
+        add_stored(&mut storing, alloc, symbols, facts, name)?;
     }
     Ok(storing)
 }
@@ -132,15 +133,15 @@ fn store_names(
 fn add_described(
     entries: &mut IndexMap<Vec<u8>, Entry>,
     alloc: Global,
-    roles: &Roles,
+    symbols: &Symbols,
     facts: &Facts,
     name: &[u8],
 ) -> Result<(), AllocError>
-    ensures { OnOk result (Tells facts.now roles.now entries.old entries.new (name.now ∷ [])) }
+    ensures { OnOk result (Tells facts.now symbols.now entries.old entries.new (name.now ∷ [])) }
 {
     let entry = Entry {
         value: constant_named(facts, name),
-        data_type: type_of_name(roles, name),
+        data_type: type_of_name(symbols, name),
         storage: None,
     };
     add_entry(entries, alloc, name, entry)?;
@@ -151,15 +152,15 @@ fn add_described(
 fn add_declared(
     entries: &mut IndexMap<Vec<u8>, Entry>,
     alloc: Global,
-    roles: &Roles,
+    symbols: &Symbols,
     facts: &Facts,
     declarators: &[Declarator],
 ) -> Result<(), AllocError>
     ensures { OnOk result
-        (Tells facts.now roles.now entries.old entries.new (declared declarators.now)) }
+        (Tells facts.now symbols.now entries.old entries.new (declared declarators.now)) }
 {
     for declarator in declarators {
-        add_described(entries, alloc, roles, facts, &declarator.name)?;
+        add_described(entries, alloc, symbols, facts, &declarator.name)?;
     }
     Ok(())
 }
@@ -168,15 +169,15 @@ fn add_declared(
 fn add_constants(
     entries: &mut IndexMap<Vec<u8>, Entry>,
     alloc: Global,
-    roles: &Roles,
+    symbols: &Symbols,
     facts: &Facts,
     constants: &[NamedConstant],
 ) -> Result<(), AllocError>
     ensures { OnOk result
-        (Tells facts.now roles.now entries.old entries.new (defined constants.now)) }
+        (Tells facts.now symbols.now entries.old entries.new (defined constants.now)) }
 {
     for constant in constants {
-        add_described(entries, alloc, roles, facts, &constant.name)?;
+        add_described(entries, alloc, symbols, facts, &constant.name)?;
     }
     Ok(())
 }
@@ -196,14 +197,14 @@ fn constants_of(shape: &Shape) -> &[NamedConstant]
 fn add_given(
     entries: &mut IndexMap<Vec<u8>, Entry>,
     alloc: Global,
-    roles: &Roles,
+    symbols: &Symbols,
     facts: &Facts,
     shape: &Shape,
 ) -> Result<(), AllocError>
-    ensures { OnOk result (Tells facts.now roles.now entries.old entries.new (given shape.now)) }
+    ensures { OnOk result (Tells facts.now symbols.now entries.old entries.new (given shape.now)) }
 {
-    add_declared(entries, alloc, roles, facts, declarators_in(shape))?;
-    add_constants(entries, alloc, roles, facts, constants_of(shape))?;
+    add_declared(entries, alloc, symbols, facts, declarators_in(shape))?;
+    add_constants(entries, alloc, symbols, facts, constants_of(shape))?;
     Ok(())
 }
 
@@ -212,14 +213,15 @@ fn add_given(
 fn add_all_given(
     entries: &mut IndexMap<Vec<u8>, Entry>,
     alloc: Global,
-    roles: &Roles,
+    symbols: &Symbols,
     facts: &Facts,
     items: &[&Item],
 ) -> Result<(), AllocError>
-    ensures { OnOk result (Tells facts.now roles.now entries.old entries.new (given_in items.now)) }
+    ensures { OnOk result
+        (Tells facts.now symbols.now entries.old entries.new (given_in items.now)) }
 {
     for item in items {
-        add_given(entries, alloc, roles, facts, &*item.form.shape)?;
+        add_given(entries, alloc, symbols, facts, &*item.form.shape)?;
     }
     Ok(())
 }
@@ -228,15 +230,15 @@ fn add_all_given(
 /// many cells they take.
 pub(crate) fn entries_of(
     alloc: Global,
-    roles: &Roles,
+    symbols: &Symbols,
     facts: &Facts,
     names: &[Vec<u8>],
 ) -> Result<Storing, AllocError>
     requires { HaveRoom facts.now (texts names.now) }
     ensures next { IfOk result (λ s. s.next ≡ cells_of (named_by facts.now names.now)) }
-    ensures entries { IfOk result (λ s. AreSaid facts.now roles.now (texts names.now) s.entries) }
+    ensures entries { IfOk result (λ s. AreSaid facts.now symbols.now (texts names.now) s.entries) }
 {
-    let mut storing = store_names(alloc, roles, facts, names)?;
-    add_all_given(&mut storing.entries, alloc, roles, facts, roles.items)?;
+    let mut storing = store_names(alloc, symbols, facts, names)?;
+    add_all_given(&mut storing.entries, alloc, symbols, facts, symbols.items)?;
     Ok(storing)
 }

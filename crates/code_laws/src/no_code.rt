@@ -10,10 +10,12 @@ use std::alloc::{AllocError, AllocFailed};
 pub enum NoCode {
     /// A growth was refused.
     Memory,
-    /// It breaks a rule: an element has another number of subscripts than its array has dimensions, or its array has no cells, or what
-    /// stands with arguments is no function that may be called there, or a function has another number of arguments than it takes, or a
-    /// constant leaves the range of INTEGER. Or it is too large: it needs room for more than 1,024 numbers, or the cells' numbers leave
-    /// the range of INTEGER. What keeps the rules and is small is never refused so, which those who make codes promise.
+    /// It breaks a rule: an element has another number of subscripts than its array has dimensions,
+    /// or its array has no cells, or what stands with arguments is no function that may be called
+    /// there, or a function has another number of arguments than it takes, or a constant leaves the
+    /// range of INTEGER. Or it is too large: it needs room for more than 1,024 numbers, or the
+    /// cells' numbers leave the range of INTEGER. What keeps the rules and is small is never
+    /// refused so, which those who make codes promise.
     Unruly,
 }
 

@@ -1,7 +1,9 @@
--- What the words of a command line ask for. They are read from the left; what an option or a file comes to is decided when the
--- word behind it is known.
-use Rattle.std.specs.Prelude.{ℕ, Bool, true, false, ◌==◌, ◌&&◌, List, [], ◌∷◌, ◌++◌, drop, length, Option, Some, None, is_some}
-use Rattle.std.specs.Prelude.{Result, Ok, Err, if◌then◌else◌, nat_lt, nat_le, codes, slice_get, option_and_then, option_map}
+-- What the words of a command line ask for. They are read from the left; what an option or a file
+-- comes to is decided when the word behind it is known.
+use Rattle.std.specs.Prelude.{ℕ, Bool, true, false, ◌==◌, ◌&&◌, List, [], ◌∷◌, ◌++◌, drop, length}
+use Rattle.std.specs.Prelude.{Option, Some, None, is_some}
+use Rattle.std.specs.Prelude.{Result, Ok, Err, if◌then◌else◌, nat_lt, nat_le, codes, slice_get}
+use Rattle.std.specs.Prelude.{option_and_then, option_map}
 use Rattle.std.specs.List.{list_all}
 use Rattle.std.specs.Option.{option_map_or}
 use Rattle.std.specs.Char.{digit_value}
@@ -123,7 +125,8 @@ long_word name value =
 abbrev pub letter_word : Option ℕ → Word
 letter_word None = loose
 letter_word (Some letter) =
-    if 104 == letter then asks wrong.Help else (if 86 == letter then asks wrong.Version else errs wrong.NoSuchOption)
+    if 104 == letter then asks wrong.Help
+    else (if 86 == letter then asks wrong.Version else errs wrong.NoSuchOption)
 
 abbrev pub short_word : Option Text → Word
 short_word None = loose
@@ -142,7 +145,8 @@ word_of word = if bytes_eq word (45 ∷ 45 ∷ []) then ends else long_or_short 
 abbrev pub Given : Type 0
 Given = List (Name × Text)
 
--- what was given so far, the option or file named last, which is still held, and whether all that follows are files
+-- what was given so far, the option or file named last, which is still held, and whether all that
+-- follows are files
 pub record Line : Type 0 where
   pub given : Given
   pub held : Option (Part × Option Text)
@@ -150,7 +154,8 @@ pub record Line : Type 0 where
 
 abbrev pub values : Name → Given → List Text
 values name [] = []
-values name (g ∷ gs) = if bytes_eq (name_of g.0) (name_of name) then g.1 ∷ values name gs else values name gs
+values name (g ∷ gs) =
+    if bytes_eq (name_of g.0) (name_of name) then g.1 ∷ values name gs else values name gs
 
 abbrev pub first : Name → Given → Option Text
 first name given = slice_get (values name given) 0
@@ -191,7 +196,8 @@ fits_under (Some most) value = is_in most value
 abbrev pub put : Part → Text → Given → Result Given Wrong
 put p value given =
     if is_repeated p then Ok (with_text (part p) value given)
-    else put_if (is_some (first (part p) given)) (fits_under (greatest p) value) (part p) value given
+    else put_if (is_some (first (part p) given)) (fits_under (greatest p) value) (part p) value
+    given
 
 -- and so a flag
 abbrev pub put_flag : Flag → Given → Result Given Wrong
@@ -207,12 +213,14 @@ abbrev pub closed_line : Line → Result Given Wrong
 closed_line line = closed line.given line.held
 
 abbrev pub holding : Line → Option (Part × Option Text) → Result Line Wrong
-holding line next = behind (closed_line line) (λ given. Ok (record line { given = given; held = next }))
+holding line next =
+    behind (closed_line line) (λ given. Ok (record line { given = given; held = next }))
 
 -- the word is complete by itself, and nothing is held behind it
 abbrev pub putting : Line → (Given → Result Given Wrong) → Result Line Wrong
 putting line next =
-    behind (closed_line line) (λ given. behind (next given) (λ more. Ok (record line { given = more; held = None })))
+    behind (closed_line line) (λ given. behind
+    (next given) (λ more. Ok (record line { given = more; held = None })))
 
 abbrev pub give : Part → Option Text → Line → Result Line Wrong
 give p None line = holding line (Some (p, None))
@@ -232,7 +240,8 @@ meet (errs wrong) word line = Err wrong
 meet loose word line = take word line.held line
 
 abbrev pub moved : Text → Line → Result Line Wrong
-moved word line = if line.only_files then holding line (Some (file, Some word)) else meet (word_of word) word line
+moved word line =
+    if line.only_files then holding line (Some (file, Some word)) else meet (word_of word) word line
 
 unfoldable pub read : List Text → Line → Result Given Wrong
 read [] line = closed_line line
@@ -299,12 +308,15 @@ is_idle mode.Never s = is_idle_by_never s
 -- the settings, in the order of the help
 abbrev pub settings : List Setting
 settings =
-    setting.Workers ∷ setting.Block ∷ setting.Window ∷ setting.Turns ∷ setting.Speculate ∷ setting.Check ∷ setting.Count ∷ setting.Explain ∷ setting.Stages ∷ setting.Rule ∷ setting.File ∷ []
+    setting.Workers ∷ setting.Block ∷ setting.Window ∷ setting.Turns ∷ setting.Speculate ∷
+    setting.Check ∷ setting.Count ∷ setting.Explain ∷ setting.Stages ∷ setting.Rule ∷
+    setting.File ∷ []
 
 -- the first of these that is given and has no effect
 abbrev pub first_idle : Mode → Given → List Setting → Option Setting
 first_idle m given [] = None
-first_idle m given (s ∷ ss) = if is_idle m s && stands s given then Some s else first_idle m given ss
+first_idle m given (s ∷ ss) =
+    if is_idle m s && stands s given then Some s else first_idle m given ss
 
 abbrev pub idle_with : Given → Mode → Option (Setting × Mode)
 idle_with given m = option_map (λ s. (s, m)) (first_idle m given settings)
@@ -328,7 +340,13 @@ number_in p given = option_map_or number_of (first (part p) given) (default_of p
 
 abbrev pub plan_in : Given → PlanNumbers
 plan_in given =
-    record { workers = number_in workers given; block = number_in block given; window = number_in window given; turns = number_in turns given }
+    record {
+      workers = number_in workers given;
+      block = number_in block given;
+      window = number_in
+          window given;
+      turns = number_in turns given;
+    }
 
 -- one file at most
 abbrev pub files_of : List Text → Result (Option Text) Clash
@@ -342,9 +360,11 @@ speculation_of None = Ok speculation.Adaptive
 speculation_of (Some word) =
     if bytes_eq word (codes "adaptive") then Ok speculation.Adaptive
     else (if bytes_eq word (codes "always") then Ok speculation.Always
-    else (if bytes_eq word (codes "never") then Ok speculation.Never else Err (no_such_speculation word)))
+    else (if bytes_eq word (codes "never") then Ok speculation.Never
+    else Err (no_such_speculation word)))
 
--- the plan, what is tried in parallel, the file, the name of a rule or a fault, and which flags are given
+-- the plan, what is tried in parallel, the file, the name of a rule or a fault, and which flags are
+-- given
 pub record Asked : Type 0 where
   pub plan : PlanNumbers
   pub speculate : Speculation
@@ -355,7 +375,8 @@ pub record Asked : Type 0 where
   pub explain : Bool
   pub stages : Bool
 
-abbrev pub with_effect : Given → Option Text → Speculation → Option (Setting × Mode) → Result Asked Clash
+abbrev pub with_effect : Given → Option Text → Speculation → Option (Setting × Mode) →
+    Result Asked Clash
 with_effect given named chosen (Some idle) = Err (no_effect idle.0 idle.1)
 with_effect given named chosen None = Ok (record {
   plan = plan_in given;
@@ -368,8 +389,10 @@ with_effect given named chosen None = Ok (record {
   stages = is_on stages given;
 })
 
--- the number of files is looked at first, then the word of `--speculate`, and then what has no effect
+-- the number of files is looked at first, then the word of `--speculate`, and then what has no
+-- effect
 abbrev pub asked_by : Given → Result Asked Clash
 asked_by given =
     behind (files_of (values (part file) given)) (λ named.
-    behind (speculation_of (first (part speculating) given)) (λ chosen. with_effect given named chosen (idle_pair given chosen)))
+    behind (speculation_of (first (part speculating) given)) (λ chosen. with_effect given named
+    chosen (idle_pair given chosen)))

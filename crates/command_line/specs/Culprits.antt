@@ -1,5 +1,8 @@
 -- The word of a command line with which something is wrong, and what is told of it.
-use Rattle.std.specs.Prelude.{◌≡◌, ◌<◌, ◌≤◌, ◌-◌, ◌==◌, ◌&&◌, ◌||◌, ℕ, Bool, true, false, List, [], ◌∷◌, ◌++◌, take, codes, decimal, length, nat_eq, nat_le, nat_lt, slice_index, slice_index_or, if◌then◌else◌, unwrap_or, Option, Some, None, Result, Ok, Err, MatchResult}
+use Rattle.std.specs.Prelude.{◌≡◌, ◌<◌, ◌≤◌, ◌-◌, ◌==◌, ◌&&◌, ◌||◌, ℕ, Bool, true, false, List, []}
+use Rattle.std.specs.Prelude.{◌∷◌, ◌++◌, take, codes, decimal, length, nat_eq, nat_le, nat_lt}
+use Rattle.std.specs.Prelude.{slice_index, slice_index_or, if◌then◌else◌, unwrap_or, Option, Some}
+use Rattle.std.specs.Prelude.{None, Result, Ok, Err, MatchResult}
 use Rattle.std.specs.List.{starts_with}
 use Rattle.std.specs.Str.{bytes_eq, chars}
 use Rattle.clap.specs.Lexer.{name_and_value}
@@ -14,7 +17,8 @@ use Rattle.command_line.specs.declared.asked.Setting.{Setting}
 use Rattle.command_line.specs.declared.asked.Setting.TheVariants as setting
 use Rattle.command_line.specs.declared.asked.Wrong.{Wrong}
 use Rattle.command_line.specs.declared.asked.Wrong.TheVariants as wrong
-use Rattle.command_line.specs.CommandLine.{Clash, Given, Text, asked_by, given_by, no_effect, no_such_speculation, too_many_files}
+use Rattle.command_line.specs.CommandLine.{Clash, Given, Text, asked_by, given_by, no_effect}
+use Rattle.command_line.specs.CommandLine.{no_such_speculation, too_many_files}
 use Rattle.command_line.specs.Matches.{shown}
 
 -- ---- the word
@@ -23,8 +27,8 @@ use Rattle.command_line.specs.Matches.{shown}
 abbrev pub IsWrong : Wrong → List Text → Type 0
 IsWrong w words = given_by words ≡ Err w
 
--- the place of the word with which it comes: it isn't wrong with the words before that one, and with each beginning that has it
--- it is
+-- the place of the word with which it comes: it isn't wrong with the words before that one, and
+-- with each beginning that has it it is
 pub record IsPlace (w : Wrong) (words : List Text) (place : ℕ) : Type 0 where
   pub there : place < length words
   pub before : IsWrong w (take place words) → ⊥
@@ -47,7 +51,8 @@ word_at words place = slice_index_or words place []
 -- or its value is a word of its own, the next one
 abbrev pub option_at : List Text → ℕ → Text
 option_at words place =
-    if is_option (word_at words place) then option_in (word_at words place) else word_at words (place - 1)
+    if is_option (word_at words place) then option_in (word_at words place)
+    else word_at words (place - 1)
 
 abbrev pub value_at : List Text → ℕ → Text
 value_at words place =
@@ -62,14 +67,18 @@ edits from to = levenshtein_row nat_eq (chars from) (chars to) (length (chars to
 -- the options as they are written in words, in the order of the help
 abbrev pub option_names : List Text
 option_names =
-    codes "--workers" ∷ codes "--block" ∷ codes "--window" ∷ codes "--turns" ∷ codes "--speculate" ∷ codes "--check" ∷ codes "--count" ∷ codes "--explain" ∷ codes "--stages" ∷ codes "--rule" ∷ codes "--help" ∷ codes "--version" ∷ []
+    codes "--workers" ∷ codes "--block" ∷ codes "--window" ∷ codes "--turns" ∷ codes "--speculate" ∷
+    codes "--check" ∷ codes "--count" ∷ codes "--explain" ∷ codes "--stages" ∷ codes "--rule" ∷
+    codes "--help" ∷ codes "--version" ∷ []
 
 abbrev pub name_at : ℕ → Text
 name_at k = slice_index_or option_names k []
 
--- two edits or fewer make the text into the option, or the text is its beginning, with more than the minus signs
+-- two edits or fewer make the text into the option, or the text is its beginning, with more than
+-- the minus signs
 abbrev pub is_near : Text → Text → Bool
-is_near text option = nat_le (edits text option) 2 || (nat_lt 2 (length text) && starts_with nat_eq option text)
+is_near text option =
+    nat_le (edits text option) 2 || (nat_lt 2 (length text) && starts_with nat_eq option text)
 
 abbrev pub IsNear : Text → ℕ → Type 0
 IsNear text k = is_near text (name_at k) ≡ true
@@ -78,7 +87,8 @@ IsNear text k = is_near text (name_at k) ≡ true
 pub record IsNearestAt (text : Text) (k : ℕ) : Type 0 where
   pub there : k < length option_names
   pub near : IsNear text k
-  pub least : (j : ℕ) → j < length option_names → IsNear text j → edits text (name_at k) ≤ edits text (name_at j)
+  pub least : (j : ℕ) → j < length option_names → IsNear text j →
+      edits text (name_at k) ≤ edits text (name_at j)
   pub first : (j : ℕ) → j < k → IsNear text j → edits text (name_at k) < edits text (name_at j)
 
 abbrev pub IsNearest : Text → Option Text → Type 0
@@ -134,7 +144,8 @@ IsClash (fault.NoEffect idle m) asked = asked ≡ Err (no_effect idle m)
 IsClash other asked = ⊥
 
 abbrev pub AsksFor : Given → Result Options OptionsFault → Type 0
-AsksFor given result = MatchResult result (λ o. asked_by given ≡ Ok (shown o)) (λ e. IsClash e (asked_by given))
+AsksFor given result =
+    MatchResult result (λ o. asked_by given ≡ Ok (shown o)) (λ e. IsClash e (asked_by given))
 
 -- and so of words that are read
 abbrev pub Clashes : List Text → OptionsFault → Type 0
@@ -145,14 +156,18 @@ abbrev pub IsFault : List Text → OptionsFault → Type 0
 IsFault words fault.Help = IsWrong wrong.Help words
 IsFault words fault.Version = IsWrong wrong.Version words
 IsFault words fault.RuleNames = IsAbout wrong.NoValue words (codes "--rule")
-IsFault words (fault.NoSuchOption option) = IsAbout wrong.NoSuchOption words option.now × IsNearest option.now None
-IsFault words (fault.Misspelt option near) = IsAbout wrong.NoSuchOption words option.now × IsNearest option.now (Some near.now)
+IsFault words (fault.NoSuchOption option) =
+    IsAbout wrong.NoSuchOption words option.now × IsNearest option.now None
+IsFault words (fault.Misspelt option near) =
+    IsAbout wrong.NoSuchOption words option.now × IsNearest option.now (Some near.now)
 IsFault words (fault.NoValue option wanted) =
-    IsAbout wrong.NoValue words option.now × (bytes_eq option.now (codes "--rule") ≡ false) × (wanted.now ≡ wanted_by option.now)
+    IsAbout wrong.NoValue words option.now × (bytes_eq option.now (codes "--rule") ≡ false)
+    × (wanted.now ≡ wanted_by option.now)
 IsFault words (fault.NeedlessValue option) = IsAbout wrong.NeedlessValue words option.now
 IsFault words (fault.GivenTwice option) = IsAbout wrong.GivenTwice words option.now
 IsFault words (fault.BadNumber option value wanted) =
-    (place : ℕ) × IsPlace wrong.BadNumber words place × (option.now ≡ option_at words place) × (value.now ≡ value_at words place) × (wanted.now ≡ wanted_by option.now)
+    (place : ℕ) × IsPlace wrong.BadNumber words place × (option.now ≡ option_at words place)
+    × (value.now ≡ value_at words place) × (wanted.now ≡ wanted_by option.now)
 IsFault words (fault.TooManyFiles first second) = Clashes words (fault.TooManyFiles first second)
 IsFault words (fault.NoSuchSpeculation value) = Clashes words (fault.NoSuchSpeculation value)
 IsFault words (fault.NoEffect idle m) = Clashes words (fault.NoEffect idle m)

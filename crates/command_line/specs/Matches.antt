@@ -1,5 +1,6 @@
 -- How the matches of clap hold what the words give.
-use Rattle.std.specs.Prelude.{◌≡◌, ℕ, Bool, true, is_some, List, [], ◌∷◌, Option, Some, None, if◌then◌else◌, codes}
+use Rattle.std.specs.Prelude.{◌≡◌, ℕ, Bool, true, is_some, List, [], ◌∷◌, Option, Some, None}
+use Rattle.std.specs.Prelude.{if◌then◌else◌, codes}
 use Rattle.std.specs.List.{list_all}
 use Rattle.std.specs.Str.{bytes_eq}
 use Rattle.clap.specs.Walk.{Row, rows_of}
@@ -7,7 +8,8 @@ use Rattle.clap.specs.Matches.{found_of}
 use Rattle.clap.specs.declared.builder.value_parser.Reading.{Reading}
 use Rattle.clap.specs.declared.builder.value_parser.Reading.TheVariants.{AsWritten}
 use Rattle.clap.specs.declared.parser.matches.ArgMatches.{ArgMatches}
-use Rattle.command_line.specs.CommandLine.{Asked, Given, Name, Part, Text, default_of, fits_under, flag, greatest, name_of, part, values}
+use Rattle.command_line.specs.CommandLine.{Asked, Given, Name, Part, Text, default_of, fits_under}
+use Rattle.command_line.specs.CommandLine.{flag, greatest, name_of, part, values}
 use Rattle.command_line.specs.declared.asked.Options.{Options}
 use Rattle.std.specs.Borrow.{Bor}
 use Rattle.std.specs.Prelude.{map, option_map}
@@ -43,7 +45,8 @@ IsGiven given matches = AreGiven given (rows_of (found_of matches))
 
 -- the name of an option that takes a number, and its default
 abbrev pub IsNumber : Part → Text → ℕ → Type 0
-IsNumber p name default = (name ≡ name_of (part p)) × (default ≡ default_of p) × (is_some (greatest p) ≡ true)
+IsNumber p name default =
+    (name ≡ name_of (part p)) × (default ≡ default_of p) × (is_some (greatest p) ≡ true)
 
 abbrev pub texts_in : List (Bor Text) → List Text
 texts_in = map (λ word. word.now)

@@ -7,7 +7,8 @@ use meaning::plan::Plan;
 use std::fmt;
 use thiserror::Error;
 
-/// What is found while the words are read, from the left: what is wrong with one of them, or a text that is asked for.
+/// What is found while the words are read, from the left: what is wrong with one of them, or a text
+/// that is asked for.
 #[derive(Clone, Copy, Debug, PartialEq, Eq)]
 pub enum Wrong {
     /// `--help` or `-h` stands among them.
@@ -112,8 +113,8 @@ impl fmt::Display for Mode {
     }
 }
 
-/// Why the words of a command line name no run: they ask for a text in place of one, or something is wrong with them. An option is
-/// told as it is written, without its value.
+/// Why the words of a command line name no run: they ask for a text in place of one, or something
+/// is wrong with them. An option is told as it is written, without its value.
 #[derive(Clone, Copy, Debug, PartialEq, Eq, Drop, Error)]
 pub enum OptionsFault<'a> {
     /// `--help` or `-h` stands among them.
@@ -199,7 +200,8 @@ pub enum OptionsFault<'a> {
     Memory,
 }
 
-/// Which DO statements without output are tried in parallel. The answer is the same whatever is chosen.
+/// Which DO statements without output are tried in parallel. The answer is the same whatever is
+/// chosen.
 #[derive(Clone, Copy, Debug, PartialEq, Eq)]
 pub enum Speculation {
     /// Those that are worth it, by what their trips cost and what came of earlier stages.

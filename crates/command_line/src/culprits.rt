@@ -1,7 +1,10 @@
 //! The word of a command line with which something is wrong, and what is told of it.
 
-ghost use Rattle.std.specs.Prelude.{◌≡◌, ◌⊎◌, ◌↔◌, ◌<◌, ◌==◌, ◌&&◌, ◌||◌, IfOk, length, nat_lt, option_map, true};
-ghost use Rattle.command_line.specs.Culprits.{IsFault, IsNearest, IsPlace, IsWrong, edits, is_near, is_option, name_at, option_at, option_in, value_at, value_in, wanted_by};
+ghost use Rattle.std.specs.Prelude.{◌≡◌, ◌⊎◌, ◌↔◌, ◌<◌, ◌==◌, ◌&&◌, ◌||◌, IfOk, length, nat_lt};
+ghost use Rattle.std.specs.Prelude.{option_map, true};
+ghost use Rattle.command_line.specs.Culprits.{IsFault, IsNearest, IsPlace, IsWrong, edits, is_near};
+ghost use Rattle.command_line.specs.Culprits.{is_option, name_at, option_at, option_in, value_at};
+ghost use Rattle.command_line.specs.Culprits.{value_in, wanted_by};
 ghost use Rattle.command_line.specs.Matches.{texts_in};
 
 use crate::asked::{OptionsFault, Wrong};
@@ -61,8 +64,9 @@ fn fault_at<'a>(alloc: Global, words: &'a [&'a str], place: usize, wrong: Wrong)
     }
 }
 
-// The place of the word with which that is wrong. The words are halved, so that many of them are read a few times. An option
-// lacks its value where the words end behind it, so a place in the middle is asked again with the word behind it.
+// The place of the word with which that is wrong. The words are halved, so that many of them are
+// read a few times. An option lacks its value where the words end behind it, so a place in the
+// middle is asked again with the word behind it.
 fn place_of(alloc: Global, words: &[&str], wrong: Wrong) -> Result<usize, AllocError>
     requires { IsWrong wrong (texts_in words.now) }
     ensures { IfOk result (IsPlace wrong (texts_in words.now)) }
@@ -146,8 +150,9 @@ fn is_option(word: &str) -> bool
     bytes.len() > 1 && bytes[0] == b'-'
 }
 
-// The option that is meant by a text, if one is near: that can be made of the text by two edits or fewer, or it begins with the text.
-// Of several the one that fewest edits make of it, and of these the first of the help.
+// The option that is meant by a text, if one is near: that can be made of the text by two edits or
+// fewer, or it begins with the text. Of several the one that fewest edits make of it, and of these
+// the first of the help.
 fn near_option(alloc: Global, text: &str) -> Result<Option<&'static str>, AllocError>
     ensures { IfOk result (λ name. IsNearest text.now (option_map (λ s. s.now) name)) }
 {
@@ -188,7 +193,8 @@ fn option_named(place: usize) -> &'static str
     }
 }
 
-// Whether an option that so many edits make of a text is near to it, and fewer than of the nearest so far, if there is one.
+// Whether an option that so many edits make of a text is near to it, and fewer than of the nearest
+// so far, if there is one.
 fn is_nearer(text: &str, option: &str, more: usize, nearest: usize, least: usize) -> bool
     ensures { more ≡ edits text.now option.now
         → result ≡ (is_near text.now option.now && ((nearest == 12) || nat_lt more least)) }

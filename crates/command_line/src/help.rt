@@ -38,8 +38,8 @@ Exit statuses, with the line on standard error:
   5  the source can't be read: FILE REFUSED; a write failed: WRITE REFUSED
 ";
 
-/// What `--rule` shows without a name: of each rule and each fault the sentence that `rule_texts` has, which `checks/sentences`
-/// compares.
+/// What `--rule` shows without a name: of each rule and each fault the sentence that `rule_help`
+/// has, which `checks/sentences` compares.
 pub const NAMES: &str = "Rules, which a source is refused for breaking:
   C1   Columns 1 to 72 of a line that is no comment hold characters from the
        blank to the tilde alone; a tab is none of them.

@@ -1,4 +1,5 @@
-//! The command line of f77run: what its words ask for, what is wrong with them, and the texts that it shows of itself.
+//! The command line of f77run: what its words ask for, what is wrong with them, and the texts that
+//! it shows of itself.
 #![tactic(auto)]
 
 pub mod asked;

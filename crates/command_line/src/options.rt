@@ -1,8 +1,12 @@
 //! What the words of a command line ask for.
 
-ghost use Rattle.std.specs.Prelude.{◌≡◌, ◌⊎◌, IfErr, IfOk, MatchOption, MatchResult, Some, None, Ok, Err, is_some, option_map};
+ghost use Rattle.std.specs.Prelude.{◌≡◌, ◌⊎◌, IfErr, IfOk, MatchOption, MatchResult, Some, None};
+ghost use Rattle.std.specs.Prelude.{Ok, Err, is_some, option_map};
 ghost use Rattle.command_line.specs.declared.asked.OptionsFault.TheVariants.{Memory};
-ghost use Rattle.command_line.specs.CommandLine.{Flag, Given, Part, file, speculating, files_of, first, first_idle, flag, idle_pair, is_idle, is_on, mode_of, name_of, number_in, part, plan_in, settings, speculation_of, stands, values};
+ghost use Rattle.command_line.specs.CommandLine.{Flag, Given, Part, file, speculating, files_of};
+ghost use Rattle.command_line.specs.CommandLine.{first, first_idle, flag, idle_pair, is_idle};
+ghost use Rattle.command_line.specs.CommandLine.{is_on, mode_of, name_of, number_in, part, plan_in};
+ghost use Rattle.command_line.specs.CommandLine.{settings, speculation_of, stands, values};
 ghost use Rattle.command_line.specs.Culprits.{AsksFor, IsAsked, IsClash, IsFault, IsIdle};
 ghost use Rattle.command_line.specs.Matches.{IsGiven, IsNumber, texts_in};
 
@@ -28,22 +32,25 @@ const SETTINGS: &[Setting] = &[
     Setting::File,
 ];
 
-/// Reads a command line, the first word of which is the program's name: options and a file in any order, each option once at
-/// most. `--workers` (1 to 64; 4 where it isn't given), `--block` (1 to 1,000,000; 64), `--window` (1 to 256; 8) and
-/// `--turns` (1 to 1,000,000,000,000; 1,000,000,000) take a number as `--turns 5` or `--turns=5`, in digits with a plus
-/// sign in front or not. `--speculate` takes `adaptive`, which it is where it isn't given, `always` or `never`. `--rule` takes
-/// any text. `--check`, `--count`, `--explain` and `--stages` take none, and are false where they aren't given. Behind `--`
-/// each word is a file, and a minus sign alone is one too.
+/// Reads a command line, the first word of which is the program's name: options and a file in any
+/// order, each option once at most. `--workers` (1 to 64; 4 where it isn't given), `--block` (1 to
+/// 1,000,000; 64), `--window` (1 to 256; 8) and `--turns` (1 to 1,000,000,000,000; 1,000,000,000)
+/// take a number as `--turns 5` or `--turns=5`, in digits with a plus sign in front or not.
+/// `--speculate` takes `adaptive`, which it is where it isn't given, `always` or `never`. `--rule`
+/// takes any text. `--check`, `--count`, `--explain` and `--stages` take none, and are false where
+/// they aren't given. Behind `--` each word is a file, and a minus sign alone is one too.
 ///
 /// # Errors
 ///
-/// The first thing, from the left, for which the words name no run; what stands for an option or a file is looked at
-/// when the word behind it is known. Behind all words the number of files is looked at, then the word of `--speculate`, and
-/// then what has no effect with others: with `--rule` all else; with `--check` what is about a run; with `--speculate never`
-/// the numbers of a parallel run. `Memory` where memory was refused.
+/// The first thing, from the left, for which the words name no run; what stands for an option or a
+/// file is looked at when the word behind it is known. Behind all words the number of files is
+/// looked at, then the word of `--speculate`, and then what has no effect with others: with
+/// `--rule` all else; with `--check` what is about a run; with `--speculate never` the numbers of a
+/// parallel run. `Memory` where memory was refused.
 pub fn options<'a>(alloc: Global, words: &'a [&'a str]) -> Result<Options<'a>, OptionsFault<'a>>
     ensures ok { IfOk result (λ o. IsAsked (texts_in words.entry.now) o) }
-    ensures err { IfErr result (λ e. (e ≡ OptionsFault.Memory) ⊎ IsFault (texts_in words.entry.now) e) }
+    ensures err { IfErr
+        result (λ e. (e ≡ OptionsFault.Memory) ⊎ IsFault (texts_in words.entry.now) e) }
 {
     match read(alloc, words) {
         Ok(matches) => asked(&matches),
@@ -178,7 +185,8 @@ fn speculation_by(word: &str) -> Result<Speculation, OptionsFault<'_>>
 // What is given without an effect, if anything is.
 fn idle_fault<'a>(matches: &ArgMatches<'a>, speculate: Speculation) -> Option<OptionsFault<'a>>
     ensures { (given : Given) → IsGiven given matches.now
-        → MatchOption result (idle_pair given speculate ≡ None) (λ e. IsIdle e (idle_pair given speculate)) }
+        → MatchOption result
+        (idle_pair given speculate ≡ None) (λ e. IsIdle e (idle_pair given speculate)) }
 {
     let mode = mode_given(matches, speculate)?;
     let idle = idle_given(matches, mode)?;
@@ -202,7 +210,8 @@ fn mode_given(matches: &ArgMatches<'_>, speculate: Speculation) -> Option<Mode>
 
 // The first setting that is given and has no effect.
 fn idle_given(matches: &ArgMatches<'_>, mode: Mode) -> Option<Setting>
-    ensures { (given : Given) → IsGiven given matches.now → result ≡ first_idle mode given settings }
+    ensures { (given : Given) → IsGiven given matches.now → result
+        ≡ first_idle mode given settings }
 {
     for setting in SETTINGS {
         if is_idle(mode, *setting) && is_given(matches, *setting) {

@@ -3,7 +3,8 @@
 ghost use Rattle.std.specs.Prelude.{◌≡◌, ◌⊎◌, IfErr, IfOk, Ok, Err, false};
 ghost use Rattle.clap.specs.Words.{app_of, rule_of};
 ghost use Rattle.command_line.specs.declared.asked.Wrong.TheVariants.{Memory};
-ghost use Rattle.command_line.specs.Command.{f77run, file_rule, flag_rule, number_rule, word_rule, wrong_for};
+ghost use Rattle.command_line.specs.Command.{f77run, file_rule, flag_rule, number_rule, word_rule};
+ghost use Rattle.command_line.specs.Command.{wrong_for};
 ghost use Rattle.command_line.specs.CommandLine.{Given, given_by};
 ghost use Rattle.command_line.specs.Matches.{IsGiven, texts_in};
 
@@ -17,10 +18,13 @@ use std::alloc::{AllocError, Global};
 ///
 /// # Errors
 ///
-/// The first thing, from the left, that is wrong with them, or for which they ask in place of a run; what stands for an option or
-/// a file is looked at when the word behind it is known. `Memory` where memory was refused.
+/// The first thing, from the left, that is wrong with them, or for which they ask in place of a
+/// run; what stands for an option or a file is looked at when the word behind it is known. `Memory`
+/// where memory was refused.
 pub fn read<'a>(alloc: Global, words: &'a [&'a str]) -> Result<ArgMatches<'a>, Wrong>
-    ensures ok { IfOk result (λ m. (given : Given) × IsGiven given m × (given_by (texts_in words.entry.now) ≡ Ok given)) }
+    ensures ok { IfOk
+        result (λ m. (given : Given) × IsGiven given m
+        × (given_by (texts_in words.entry.now) ≡ Ok given)) }
     ensures err { IfErr result (λ w. (w ≡ Wrong.Memory)
         ⊎ (given_by (texts_in words.entry.now) ≡ Err w)) }
 {
@@ -60,7 +64,8 @@ fn number<'a>(alloc: Global, name: &'a str, most: u64) -> Arg<'a>
         .value_parser(ValueParser::unsigned(1, most))
 }
 
-// An option that takes a word. Any text is read, so that an unknown one is told by whoever knows the words.
+// An option that takes a word. Any text is read, so that an unknown one is told by whoever knows
+// the words.
 fn word<'a>(alloc: Global, name: &'a str) -> Arg<'a>
     ensures rule { rule_of result ≡ word_rule name.now }
     ensures local { result.global ≡ false }

@@ -2,7 +2,8 @@
 
 use postfix::Change;
 
-/// How much room they need, and their last one, where that is a change of a number which those before it give.
+/// How much room they need, and their last one, where that is a change of a number which those
+/// before it give.
 #[derive(Clone, Copy)]
 pub struct Appended {
     /// How many numbers of the stack they need at most.

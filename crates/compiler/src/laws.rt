@@ -2,7 +2,8 @@
 
 ghost use Rattle.compiler.specs.Small.{PartsAreCharacters};
 
-/// An expression has no more parts than its spelling has characters, so one that a statement spells has 1,320 at most.
+/// An expression has no more parts than its spelling has characters, so one that a statement spells
+/// has 1,320 at most.
 pub fn parts_are_characters()
     ensures { PartsAreCharacters }
 {}

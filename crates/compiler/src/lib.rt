@@ -1,5 +1,5 @@
-//! From expressions to codes: instructions that leave an expression's value on a stack, and whether that is a LOGICAL one (ANSI
-//! X3.9-1978, 6.1, 6.3, 6.4, 6.6, 15.2 and 15.4).
+//! From expressions to codes: instructions that leave an expression's value on a stack, and whether
+//! that is a LOGICAL one (ANSI X3.9-1978, 6.1, 6.3, 6.4, 6.6, 15.2 and 15.4).
 #![tactic(auto)]
 
 mod appended;

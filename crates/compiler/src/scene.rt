@@ -2,7 +2,8 @@
 
 use meaning::syntax::Exprs;
 
-/// Where an expression stands: in a statement, or in the expression of a statement function (ANSI X3.9-1978, 15.4).
+/// Where an expression stands: in a statement, or in the expression of a statement function (ANSI
+/// X3.9-1978, 15.4).
 #[derive(Clone, Copy)]
 pub struct Scene<'a> {
     /// The dummies of its statement function; none in a statement.

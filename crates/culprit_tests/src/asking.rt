@@ -28,7 +28,8 @@ fn unit_of(alloc: Global, source: &str) -> Result<Tree, Refusal> {
     tree(alloc, members)
 }
 
-/// What is told of a rule at a line, with the place in front: `2:7: X is REAL, by its first letter`, or nothing.
+/// What is told of a rule at a line, with the place in front: `2:7: X is REAL, by its first
+/// letter`, or nothing.
 pub fn told(alloc: Global, source: &str, rule: Rule, line: u32) -> Result<String, Fail> {
     let unit = unit_of(alloc, source)?;
     let mut text = Vec::new(alloc);

@@ -14,4 +14,8 @@ mod names;
 #[cfg(test)]
 mod numbers;
 #[cfg(test)]
+mod outputs;
+#[cfg(test)]
 mod told;
+#[cfg(test)]
+mod types;

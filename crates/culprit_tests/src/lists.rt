@@ -1,4 +1,5 @@
-//! What is told of transfers of control and of variables of DO statements; the columns were counted by hand.
+//! What is told of transfers of control and of variables of DO statements; the columns were counted
+//! by hand.
 
 use crate::asking::told;
 use meaning::refusal::Rule;

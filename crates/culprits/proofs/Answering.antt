@@ -4,14 +4,14 @@ use Rattle.std.specs.Prelude.{is_none, is_some, not}
 use Rattle.std.specs.List.{filter, find, list_any}
 use Rattle.std.proofs.lemmas.List.Folds.{list_any-append}
 use Rattle.meaning.specs.declared.refusal.Rule.{Rule}
-use Rattle.meaning.specs.declared.refusal.Rule.TheVariants.{K1, K2, K3, K4, K6, K7, K8, K9, K12, K13}
-use Rattle.meaning.specs.LabelRules.{has_label, is_label_at, is_repeated}
-use Rattle.meaning.specs.NameRules.{does_not_take, has_misuse, has_real_name, is_disputed, is_misused_array, is_misused_function, is_other_number, is_real, is_real_use, is_unknown_function, length_if, names_defined, names_used}
+use Rattle.meaning.specs.declared.refusal.Rule.TheVariants.{K1, K2, K3, K4, K5, K6, K7, K8, K9, K11, K12, K13}
+use Rattle.meaning.specs.LabelRules.{has_bad_output, has_label, is_label_at, is_repeated}
+use Rattle.meaning.specs.NameRules.{does_not_take, has_misuse, has_real_name, is_disputed, is_misused_array, is_misused_function, is_other_number, is_real, is_real_use, is_unknown_function, is_wrongly_typed, length_if, names_defined, names_used}
 use Rattle.meaning.specs.NumberRules.{has_bad_number, has_large_array}
 use Rattle.meaning.specs.Syntax.{ItemTree}
 use Rattle.meaning.specs.Trees.{Nested, flatten}
 use Rattle.meaning.specs.Types.{has_implicit_none}
-use Rattle.meaning.specs.Uses.{Roles, Use, is_defining, is_other, parts_at, roles_of, uses_at}
+use Rattle.meaning.specs.Uses.{Symbols, Use, is_defining, is_other, parts_at, symbols_of, uses_at}
 use Rattle.name_uses.specs.UsesIn.{uses_in}
 use Rattle.std.specs.Option.{option_or}
 use Rattle.meaning.specs.Intrinsics.{Intrinsic, intrinsic_named}
@@ -20,7 +20,7 @@ use Rattle.culprits.specs.declared.culprit.Wanted.TheVariants.{Subscripts, Argum
 use Rattle.culprits.specs.Counts.{arguments_of, capped, miscounting, subscripts_of, wanted_by}
 use Rattle.culprits.specs.Culprits.{culprit_at, culprit_in, item_culprit_in, items_in, listed_in, names_in, repeated_in}
 use Rattle.culprits.specs.Placing.{at_line, seat_line}
-use Rattle.culprits.specs.Told.{Told, repeated, real, miscounted, numbered, sized, disputed, defined, unknown, listed}
+use Rattle.culprits.specs.Told.{Told, repeated, real, miscounted, mistyped, numbered, sized, disputed, misformed, defined, unknown, listed}
 use Rattle.function_culprits.specs.Functions.{misdefined_at}
 use Rattle.name_culprits.specs.Told.{Told as NameTold}
 use Rattle.function_culprits.specs.Told.{Told as FunctionTold}
@@ -28,6 +28,12 @@ use Rattle.function_culprits.specs.Witness.{IsTold as IsFunctionTold, breaks_but
 use Rattle.number_culprits.specs.Numbers.{bad_in as numbered_part}
 use Rattle.number_culprits.specs.Witness.{IsBy as IsNumberBy}
 use Rattle.number_culprits.proofs.Telling.{numbers_told}
+use Rattle.output_culprits.specs.Outputs.{bad_in as misformed_part}
+use Rattle.output_culprits.specs.Witness.{IsBy as IsOutputBy}
+use Rattle.output_culprits.proofs.Telling.{outputs_told}
+use Rattle.type_culprits.specs.Clashes.{mistyped_at as mistyped_part}
+use Rattle.type_culprits.specs.Witness.{IsBy as IsTypeBy}
+use Rattle.type_culprits.proofs.Telling.{types_told}
 use Rattle.size_culprits.specs.Sizes.{large_in as sized_part}
 use Rattle.size_culprits.specs.Witness.{IsBy as IsSizeBy}
 use Rattle.size_culprits.proofs.Telling.{sizes_told}
@@ -83,7 +89,7 @@ module _ (all before : List ItemTree) (x : ItemTree) where
 
 -- ---- K3: of the names in uses that are REAL
 
-real_names : (r : Roles) (us : List Use) → list_any (is_real r) (names_used (is_real_use r) us) ≡ list_any (is_real_use r) us
+real_names : (r : Symbols) (us : List Use) → list_any (is_real r) (names_used (is_real_use r) us) ≡ list_any (is_real_use r) us
 real_names r [] = refl
 real_names r (u ∷ us) = by_test (is_real r u.name) (is_none u.arguments || not (is_other r u.name)) refl (real_names r us)
   where
@@ -93,17 +99,17 @@ real_names r (u ∷ us) = by_test (is_real r u.name) (is_none u.arguments || not
     by_test false q is more = more
 
 module _ (all before : List ItemTree) (x : ItemTree) where
-  any_real : list_any (is_real (roles_of all)) (names_in (roles_of all) (is_defining (roles_of all) before x) x.shape) ≡ has_real_name (roles_of all) before x
+  any_real : list_any (is_real (symbols_of all)) (names_in (symbols_of all) (is_defining (symbols_of all) before x) x.shape) ≡ has_real_name (symbols_of all) before x
   any_real =
-      let r = roles_of all in
+      let r = symbols_of all in
       let d = is_defining r before x in
       list_any-append (is_real r) (names_defined r d x.shape) (names_used (is_real_use r) (uses_in r d x.shape))
       ∙ ap (λ b. list_any (is_real r) (names_defined r d x.shape) || b) (real_names r (uses_in r d x.shape))
 
-  real_found : (p : Option (List ℕ)) (k : Told) → find (is_real (roles_of all)) (names_in (roles_of all) (is_defining (roles_of all) before x) x.shape) ≡ p → option_map (λ n. real n (has_implicit_none all)) p ≡ Some k → IsBroken K3 all before x k
+  real_found : (p : Option (List ℕ)) (k : Told) → find (is_real (symbols_of all)) (names_in (symbols_of all) (is_defining (symbols_of all) before x) x.shape) ≡ p → option_map (λ n. real n (has_implicit_none all)) p ≡ Some k → IsBroken K3 all before x k
   real_found None k at is = absurd cc
   real_found (Some n) k at is =
-      let r = roles_of all in
+      let r = symbols_of all in
       let ns = names_in r (is_defining r before x) x.shape in
       let f = found (is_real r) ns n at in
       let e : real n (has_implicit_none all) ≡ k = cc in
@@ -113,9 +119,9 @@ module _ (all before : List ItemTree) (x : ItemTree) where
         by = subst P e (record { stands = f.stands; is_real_name = f.passes }, refl);
       }
 
-  real_missing : (p : Option (List ℕ)) → find (is_real (roles_of all)) (names_in (roles_of all) (is_defining (roles_of all) before x) x.shape) ≡ p → option_map (λ n. real n (has_implicit_none all)) p ≡ None → has_real_name (roles_of all) before x ≡ false
+  real_missing : (p : Option (List ℕ)) → find (is_real (symbols_of all)) (names_in (symbols_of all) (is_defining (symbols_of all) before x) x.shape) ≡ p → option_map (λ n. real n (has_implicit_none all)) p ≡ None → has_real_name (symbols_of all) before x ≡ false
   real_missing None at is =
-      sym any_real ∙ none_found (is_real (roles_of all)) (names_in (roles_of all) (is_defining (roles_of all) before x) x.shape) at
+      sym any_real ∙ none_found (is_real (symbols_of all)) (names_in (symbols_of all) (is_defining (symbols_of all) before x) x.shape) at
   real_missing (Some n) at is = absurd cc
 
 -- ---- K8
@@ -125,7 +131,7 @@ record IsWanted (wants : List ℕ → Option Wanted) (name : List ℕ) : Type 0 
   wanted : Wanted
   wants_it : wants name ≡ Some wanted
 
-wanted_array : (r : Roles) (u : Use) → is_misused_array r u ≡ true → IsWanted (subscripts_of r) u.name
+wanted_array : (r : Symbols) (u : Use) → is_misused_array r u ≡ true → IsWanted (subscripts_of r) u.name
 wanted_array r u is = by_rank (length_if (r.names.arrays u.name)) refl is
   where
     by_rank : (o : Option ℕ) → length_if (r.names.arrays u.name) ≡ o → is_other_number o u.arguments ≡ true → IsWanted (subscripts_of r) u.name
@@ -138,7 +144,7 @@ no_true true false is = cc
 no_true false true is = cc
 no_true false false is = cc
 
-wanted_function : (r : Roles) (u : Use) → is_misused_function r u ≡ true → IsWanted (arguments_of r) u.name
+wanted_function : (r : Symbols) (u : Use) → is_misused_function r u ≡ true → IsWanted (arguments_of r) u.name
 wanted_function r u is = by_parts (length_if (r.names.functions u.name)) (intrinsic_named u.name) refl refl is
   where
     by_parts : (o : Option ℕ) (i : Option Intrinsic) → length_if (r.names.functions u.name) ≡ o → intrinsic_named u.name ≡ i → ((is_some u.arguments && is_other_number o u.arguments) || (is_other r u.name && does_not_take i u.arguments)) ≡ true → IsWanted (arguments_of r) u.name
@@ -192,15 +198,15 @@ or_true false = refl
 
 module _ (all before : List ItemTree) (x : ItemTree) where
   abbrev arrays_told : Option Told
-  arrays_told = miscounting (subscripts_of (roles_of all)) (find (is_misused_array (roles_of all)) (uses_at (roles_of all) before x))
+  arrays_told = miscounting (subscripts_of (symbols_of all)) (find (is_misused_array (symbols_of all)) (uses_at (symbols_of all) before x))
 
   abbrev functions_told : Option Told
   functions_told =
-      miscounting (arguments_of (roles_of all)) (find (is_misused_function (roles_of all)) (parts_at (roles_of all) before x).reads)
+      miscounting (arguments_of (symbols_of all)) (find (is_misused_function (symbols_of all)) (parts_at (symbols_of all) before x).reads)
 
   misuse_breaks : (o : Option Told) (k : Told) → arrays_told ≡ o → option_or o functions_told ≡ Some k → IsBroken K8 all before x k
   misuse_breaks (Some j) k first is =
-      let r = roles_of all in
+      let r = symbols_of all in
       let e : Some j ≡ Some k = is in
       let m = misuse_found (subscripts_of r) (is_misused_array r) (uses_at r before x) _ k refl (first ∙ e) in
       let P : Told → Type 0 = λ t. IsItemBy K8 all before x t in
@@ -209,7 +215,7 @@ module _ (all before : List ItemTree) (x : ItemTree) where
         by = subst P m.0.told (inl m.0.by);
       }
   misuse_breaks None k first is =
-      let r = roles_of all in
+      let r = symbols_of all in
       let m = misuse_found (arguments_of r) (is_misused_function r) (parts_at r before x).reads _ k refl is in
       let P : Told → Type 0 = λ t. IsItemBy K8 all before x t in
       record {
@@ -217,48 +223,48 @@ module _ (all before : List ItemTree) (x : ItemTree) where
         by = subst P m.0.told (inr m.0.by);
       }
 
-  misuse_kept : (o : Option Told) → arrays_told ≡ o → option_or o functions_told ≡ None → has_misuse (roles_of all) before x ≡ false
+  misuse_kept : (o : Option Told) → arrays_told ≡ o → option_or o functions_told ≡ None → has_misuse (symbols_of all) before x ≡ false
   misuse_kept (Some j) first is = absurd cc
   misuse_kept None first is =
-      let r = roles_of all in
+      let r = symbols_of all in
       ap₂ ◌||◌ (misuse_missing (subscripts_of r) (is_misused_array r) (wanted_array r) (uses_at r before x) _ refl first) (misuse_missing (arguments_of r) (is_misused_function r) (wanted_function r) (parts_at r before x).reads _ refl is)
 
 -- ---- K12, all but how deep statement functions go and how large they become
 
 module _ (all before : List ItemTree) (x : ItemTree) where
-  function_found : (o : Option FunctionTold) (k : Told) → IsFunctionTold (roles_of all) before x o → option_map defined o ≡ Some k → IsBroken K12 all before x k
+  function_found : (o : Option FunctionTold) (k : Told) → IsFunctionTold (symbols_of all) before x o → option_map defined o ≡ Some k → IsBroken K12 all before x k
   function_found None k answers is = absurd cc
   function_found (Some j) k answers is =
       let e : defined j ≡ k = cc in
       let P : Told → Type 0 = λ t. IsItemBy K12 all before x t in
       record { broken = answers.0; by = subst P e answers.1 }
 
-  function_missing : (o : Option FunctionTold) → IsFunctionTold (roles_of all) before x o → option_map defined o ≡ None → breaks_but_deep (roles_of all) before x ≡ false
+  function_missing : (o : Option FunctionTold) → IsFunctionTold (symbols_of all) before x o → option_map defined o ≡ None → breaks_but_deep (symbols_of all) before x ≡ false
   function_missing None answers is = answers
   function_missing (Some j) answers is = absurd cc
 
 -- ---- K4, all but letters, variables that are functions too, and LOGICAL intrinsic functions
 
 module _ (all before : List ItemTree) (x : ItemTree) where
-  name_found : (o : Option NameTold) (k : Told) → IsNameTold (roles_of all) before x o → option_map disputed o ≡ Some k → IsBroken K4 all before x k
+  name_found : (o : Option NameTold) (k : Told) → IsNameTold (symbols_of all) before x o → option_map disputed o ≡ Some k → IsBroken K4 all before x k
   name_found None k answers is = absurd cc
   name_found (Some j) k answers is =
       let e : disputed j ≡ k = cc in
       let P : Told → Type 0 = λ t. IsItemBy K4 all before x t in
       record { broken = answers.0; by = subst P e answers.1 }
 
-  name_missing : (o : Option NameTold) → IsNameTold (roles_of all) before x o → option_map disputed o ≡ None → breaks_in_part (roles_of all) before x ≡ false
+  name_missing : (o : Option NameTold) → IsNameTold (symbols_of all) before x o → option_map disputed o ≡ None → breaks_in_part (symbols_of all) before x ≡ false
   name_missing None answers is = answers
   name_missing (Some j) answers is = absurd cc
 
 -- ---- K13
 
 module _ (all before : List ItemTree) (x : ItemTree) where
-  unknown_found : (p : Option Use) (k : Told) → find (is_unknown_function (roles_of all)) (parts_at (roles_of all) before x).reads ≡ p → option_map (λ (u : Use). unknown u.name) p ≡ Some k → IsBroken K13 all before x k
+  unknown_found : (p : Option Use) (k : Told) → find (is_unknown_function (symbols_of all)) (parts_at (symbols_of all) before x).reads ≡ p → option_map (λ (u : Use). unknown u.name) p ≡ Some k → IsBroken K13 all before x k
   unknown_found None k at is = absurd cc
   unknown_found (Some u) k at is =
-      let test = is_unknown_function (roles_of all) in
-      let us = (parts_at (roles_of all) before x).reads in
+      let test = is_unknown_function (symbols_of all) in
+      let us = (parts_at (symbols_of all) before x).reads in
       let f = found test us u at in
       let e : unknown u.name ≡ k = cc in
       let P : Told → Type 0 = λ t. IsItemBy K13 all before x t in
@@ -267,9 +273,9 @@ module _ (all before : List ItemTree) (x : ItemTree) where
         by = subst P e (record { reference = u; stands = f.stands; name_is = refl; is_unknown = f.passes });
       }
 
-  unknown_missing : (p : Option Use) → find (is_unknown_function (roles_of all)) (parts_at (roles_of all) before x).reads ≡ p → option_map (λ (u : Use). unknown u.name) p ≡ None → list_any (is_unknown_function (roles_of all)) (parts_at (roles_of all) before x).reads ≡ false
+  unknown_missing : (p : Option Use) → find (is_unknown_function (symbols_of all)) (parts_at (symbols_of all) before x).reads ≡ p → option_map (λ (u : Use). unknown u.name) p ≡ None → list_any (is_unknown_function (symbols_of all)) (parts_at (symbols_of all) before x).reads ≡ false
   unknown_missing None at is =
-      none_found (is_unknown_function (roles_of all)) (parts_at (roles_of all) before x).reads at
+      none_found (is_unknown_function (symbols_of all)) (parts_at (symbols_of all) before x).reads at
   unknown_missing (Some u) at is = absurd cc
 
 -- ---- all of them
@@ -286,16 +292,22 @@ part_silent f by b (Some j) answers is = absurd cc
 item_told_breaks : (rule : Rule) (all before : List ItemTree) (x : ItemTree) (k : Told) → item_culprit_in rule all before x ≡ Some k → IsBroken rule all before x k
 item_told_breaks K1 all before x k is = repeat_told all before x x.label k refl is
 item_told_breaks K3 all before x k is = real_found all before x _ k refl is
+item_told_breaks K5 all before x k is =
+    let w = part_told mistyped (IsTypeBy (symbols_of all) before x) (is_wrongly_typed (symbols_of all) before x) (mistyped_part (symbols_of all) before x) k (types_told (symbols_of all) before x) is in
+    record { broken = w.0; by = subst (IsItemBy K5 all before x) w.1.1 w.1.2 }
 item_told_breaks K6 all before x k is =
-    let w = part_told numbered (IsNumberBy (roles_of all) before x) (has_bad_number (roles_of all) before x) (numbered_part (roles_of all) before x) k (numbers_told (roles_of all) before x) is in
+    let w = part_told numbered (IsNumberBy (symbols_of all) before x) (has_bad_number (symbols_of all) before x) (numbered_part (symbols_of all) before x) k (numbers_told (symbols_of all) before x) is in
     record { broken = w.0; by = subst (IsItemBy K6 all before x) w.1.1 w.1.2 }
 item_told_breaks K7 all before x k is =
-    let w = part_told sized (IsSizeBy (roles_of all) before x) (has_large_array (roles_of all) before x) (sized_part (roles_of all) before x) k (sizes_told (roles_of all) before x) is in
+    let w = part_told sized (IsSizeBy (symbols_of all) before x) (has_large_array (symbols_of all) before x) (sized_part (symbols_of all) before x) k (sizes_told (symbols_of all) before x) is in
     record { broken = w.0; by = subst (IsItemBy K7 all before x) w.1.1 w.1.2 }
-item_told_breaks K4 all before x k is = name_found all before x (disputed_part (roles_of all) before x) k (names_told (roles_of all) before x) is
+item_told_breaks K4 all before x k is = name_found all before x (disputed_part (symbols_of all) before x) k (names_told (symbols_of all) before x) is
 item_told_breaks K8 all before x k is = misuse_breaks all before x (arrays_told all before x) k refl is
+item_told_breaks K11 all before x k is =
+    let w = part_told misformed (IsOutputBy (symbols_of all) all before x) (has_bad_output (symbols_of all) all before x) (misformed_part (symbols_of all) all before x) k (outputs_told (symbols_of all) all before x) is in
+    record { broken = w.0; by = subst (IsItemBy K11 all before x) w.1.1 w.1.2 }
 item_told_breaks K12 all before x k is =
-    function_found all before x (misdefined_at (roles_of all) before x) k (definitions_told (roles_of all) before x) is
+    function_found all before x (misdefined_at (symbols_of all) before x) k (definitions_told (symbols_of all) before x) is
 item_told_breaks K13 all before x k is = unknown_found all before x _ k refl is
 item_told_breaks rule all before x k is = absurd cc
 
@@ -308,12 +320,16 @@ whole_rule rule = Unit {0}
 item_silent_keeps : (rule : Rule) → whole_rule rule → (all before : List ItemTree) (x : ItemTree) → item_culprit_in rule all before x ≡ None → item_breaks rule all before x ≡ false
 item_silent_keeps K1 whole all before x is = repeat_kept all before x x.label refl is
 item_silent_keeps K3 whole all before x is = real_missing all before x _ refl is
+item_silent_keeps K5 whole all before x is =
+    part_silent mistyped (IsTypeBy (symbols_of all) before x) (is_wrongly_typed (symbols_of all) before x) (mistyped_part (symbols_of all) before x) (types_told (symbols_of all) before x) is
 item_silent_keeps K6 whole all before x is =
-    part_silent numbered (IsNumberBy (roles_of all) before x) (has_bad_number (roles_of all) before x) (numbered_part (roles_of all) before x) (numbers_told (roles_of all) before x) is
+    part_silent numbered (IsNumberBy (symbols_of all) before x) (has_bad_number (symbols_of all) before x) (numbered_part (symbols_of all) before x) (numbers_told (symbols_of all) before x) is
 item_silent_keeps K7 whole all before x is =
-    part_silent sized (IsSizeBy (roles_of all) before x) (has_large_array (roles_of all) before x) (sized_part (roles_of all) before x) (sizes_told (roles_of all) before x) is
+    part_silent sized (IsSizeBy (symbols_of all) before x) (has_large_array (symbols_of all) before x) (sized_part (symbols_of all) before x) (sizes_told (symbols_of all) before x) is
 item_silent_keeps K4 whole all before x is = absurd whole
 item_silent_keeps K8 whole all before x is = misuse_kept all before x (arrays_told all before x) refl is
+item_silent_keeps K11 whole all before x is =
+    part_silent misformed (IsOutputBy (symbols_of all) all before x) (has_bad_output (symbols_of all) all before x) (misformed_part (symbols_of all) all before x) (outputs_told (symbols_of all) all before x) is
 item_silent_keeps K12 whole all before x is = absurd whole
 item_silent_keeps K13 whole all before x is = unknown_missing all before x _ refl is
 item_silent_keeps rule whole all before x is = refl
@@ -333,7 +349,7 @@ module _ (t : Nested) (front : List Seat) (z : Seat) where
       let w = part_told listed (IsMissedBy (unit_of t) z) (is_transfer_broken t z) (missed_in (unit_of t) z) k (list_witnesses t z).missed is in
       record { broken = w.0; by = subst (IsBy K2 t (items_in front) z) w.1.1 w.1.2 }
   told_breaks K9 k is =
-      let w = part_told listed (IsLoopedBy (roles_of (flatten t)) z) (is_loop_broken t z) (looped_in (roles_of (flatten t)) z) k (list_witnesses t z).looped is in
+      let w = part_told listed (IsLoopedBy (symbols_of (flatten t)) z) (is_loop_broken t z) (looped_in (symbols_of (flatten t)) z) k (list_witnesses t z).looped is in
       record { broken = w.0; by = subst (IsBy K9 t (items_in front) z) w.1.1 w.1.2 }
   told_breaks rule k is =
       let b = item_told_breaks rule (flatten t) (items_in front) z.item k (sym (or_none (item_culprit_in rule (flatten t) (items_in front) z.item)) ∙ is) in
@@ -343,12 +359,12 @@ module _ (t : Nested) (front : List Seat) (z : Seat) where
   silent_keeps K2 is =
       part_silent listed (IsMissedBy (unit_of t) z) (is_transfer_broken t z) (missed_in (unit_of t) z) (list_witnesses t z).missed is
   silent_keeps K9 is =
-      part_silent listed (IsLoopedBy (roles_of (flatten t)) z) (is_loop_broken t z) (looped_in (roles_of (flatten t)) z) (list_witnesses t z).looped is
+      part_silent listed (IsLoopedBy (symbols_of (flatten t)) z) (is_loop_broken t z) (looped_in (symbols_of (flatten t)) z) (list_witnesses t z).looped is
   silent_keeps K4 is =
-      let r = roles_of (flatten t) in
+      let r = symbols_of (flatten t) in
       name_missing (flatten t) (items_in front) z.item (disputed_part r (items_in front) z.item) (names_told r (items_in front) z.item) (sym (or_none (item_culprit_in K4 (flatten t) (items_in front) z.item)) ∙ is)
   silent_keeps K12 is =
-      let r = roles_of (flatten t) in
+      let r = symbols_of (flatten t) in
       function_missing (flatten t) (items_in front) z.item (misdefined_at r (items_in front) z.item) (definitions_told r (items_in front) z.item) (sym (or_none (item_culprit_in K12 (flatten t) (items_in front) z.item)) ∙ is)
   silent_keeps rule is =
       item_silent_keeps rule _ (flatten t) (items_in front) z.item (sym (or_none (item_culprit_in rule (flatten t) (items_in front) z.item)) ∙ is)

@@ -2,7 +2,7 @@
 use Rattle.std.proofs.Common.{◌≡◌, ℕ, ◌+◌, ◌<◌, ◌≢◌, List, [], ◌∷◌, ◌++◌, length, get_or, take, drop, map, sym, ap, ◌∙◌, eq-eqb, ne_eqb, ◌≤◌, Option, None}
 use Rattle.std.specs.Prelude.{◌==◌, if◌then◌else◌}
 use Rattle.std.proofs.lemmas.List.{drop_all}
-use Rattle.roles.proofs.Passes.{map_left, map_more}
+use Rattle.symbols.proofs.Passes.{map_left, map_more}
 use Rattle.meaning.specs.Syntax.{ItemTree}
 use Rattle.culprits.specs.Placing.{at_line, item_line}
 

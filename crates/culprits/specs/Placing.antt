@@ -4,7 +4,8 @@ use Rattle.meaning.specs.Syntax.{ItemTree}
 use Rattle.list_culprits.specs.Seats.{Seat}
 
 -- what is asked of it; each statement of a source has a line of its own
-unfoldable pub at_line : {A X : Type 0} → (X → ℕ) → (List X → X → Option A) → ℕ → List X → List X → Option A
+unfoldable pub at_line : {A X : Type 0} → (X → ℕ) → (List X → X → Option A) → ℕ → List X → List X →
+    Option A
 at_line line_of ask line before [] = None
 at_line line_of ask line before (x ∷ xs) =
     if line_of x == line then ask before x else at_line line_of ask line (before ++ x ∷ []) xs

@@ -5,6 +5,8 @@ use Rattle.culprits.specs.declared.culprit.Culprit.TheVariants as culprits
 use Rattle.culprits.specs.declared.culprit.Wanted.{Wanted}
 use Rattle.function_culprits.specs.Told.{Told as FunctionTold, told_at as function_told_at}
 use Rattle.number_culprits.specs.Told.{Told as NumberTold, told_at as number_told_at}
+use Rattle.output_culprits.specs.Told.{Told as OutputTold, told_at as output_told_at}
+use Rattle.type_culprits.specs.Told.{Told as TypeTold, told_at as type_told_at}
 use Rattle.size_culprits.specs.Told.{Told as SizeTold, told_at as size_told_at}
 use Rattle.name_culprits.specs.Told.{Told as NameTold, told_at as name_told_at}
 use Rattle.list_culprits.specs.Told.{Told as ListTold, told_at as list_told_at}
@@ -14,14 +16,19 @@ pub data Told : Type 0 where
   repeated : ℕ → ℕ → Told
   -- K3: a name, and whether IMPLICIT NONE stands
   real : List ℕ → Bool → Told
-  -- K8: a name, how many subscripts or arguments it wants, and how many it has, if it has parentheses
+  -- K8: a name, how many subscripts or arguments it wants, and how many it has, if it has
+  -- parentheses
   miscounted : List ℕ → Wanted → Option ℕ → Told
+  -- K5: what is of the wrong type
+  mistyped : TypeTold → Told
   -- K6: what breaks the rule on integer constants and constant expressions
   numbered : NumberTold → Told
   -- K7: what breaks the rule on the sizes of arrays
   sized : SizeTold → Told
   -- K4: what breaks the rule on what names are
   disputed : NameTold → Told
+  -- K11: what breaks the rule on units and formats
+  misformed : OutputTold → Told
   -- K12: what breaks the rule on statement functions
   defined : FunctionTold → Told
   -- K13: the name of a function
@@ -34,9 +41,11 @@ abbrev pub told_at : Culprit → Told
 told_at (culprits.Repeated label earlier) = repeated label earlier
 told_at (culprits.Real name without_letters) = real name.now without_letters
 told_at (culprits.Miscounted name wanted given) = miscounted name.now wanted given
+told_at (culprits.Type culprit) = mistyped (type_told_at culprit)
 told_at (culprits.Number culprit) = numbered (number_told_at culprit)
 told_at (culprits.Size culprit) = sized (size_told_at culprit)
 told_at (culprits.Name culprit) = disputed (name_told_at culprit)
+told_at (culprits.Output culprit) = misformed (output_told_at culprit)
 told_at (culprits.Function culprit) = defined (function_told_at culprit)
 told_at (culprits.Unknown name) = unknown name.now
 told_at (culprits.Listed culprit) = listed (list_told_at culprit)

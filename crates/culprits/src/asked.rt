@@ -3,9 +3,9 @@
 ghost use Rattle.std.specs.Prelude.{◌≡◌, ◌==◌, [], IfOk};
 ghost use Rattle.meaning.specs.Trees.{flatten, item_tree, nested};
 ghost use Rattle.meaning.specs.Uses.{is_defining as is_defining_behind};
-ghost use Rattle.roles.specs.Listed.{trees_at};
-ghost use Rattle.roles.specs.RolesAt.{roles_at};
-ghost use Rattle.roles.specs.Stages.{IsBehind};
+ghost use Rattle.symbols.specs.Listed.{trees_at};
+ghost use Rattle.symbols.specs.SymbolsAt.{symbols_at};
+ghost use Rattle.symbols.specs.Stages.{IsBehind};
 ghost use Rattle.culprits.specs.Culprits.{culprit_at, item_culprit_in, list_culprit_in, listed_in};
 ghost use Rattle.culprits.specs.Placing.{at_line, item_line, seat_line};
 ghost use Rattle.culprits.specs.Told.{tell};
@@ -17,56 +17,61 @@ use crate::culprit::Culprit;
 use crate::functions::misdefined_function;
 use crate::labels::repeated_label;
 use crate::names::{real_name, unknown_function};
-use crate::others::{name_culprit, number_culprit, size_culprit};
+use crate::others::{name_culprit, number_culprit, output_culprit, size_culprit, type_culprit};
 use list_culprits::{ItemTest, ListCulprit, Seat, looped_name, missed_label, seat_of};
 use meaning::refusal::Rule;
 use meaning::syntax::{Item, Tree};
-use roles::{Roles, Stage, items_of};
 use std::alloc::{AllocError, Global};
+use symbols::{Stage, Symbols, items_of};
 
 /// How far one has come behind statements.
-fn stage_behind(roles: &Roles, before: &[&Item]) -> Stage
-    ensures { IsBehind roles.now result (trees_at before.now) }
+fn stage_behind(symbols: &Symbols, before: &[&Item]) -> Stage
+    ensures { IsBehind symbols.now result (trees_at before.now) }
 {
     let mut stage = Stage::new();
     for item in before {
-        stage.pass(roles, item);
+        stage.pass(symbols, item);
     }
     stage
 }
 
 /// Whether the statement behind these is that of a statement function.
-fn is_defining(roles: &Roles, before: &[&Item], item: &Item) -> bool
-    ensures { result ≡ is_defining_behind (roles_at roles.now) (trees_at before.now) (item_tree item.now) }
+fn is_defining(symbols: &Symbols, before: &[&Item], item: &Item) -> bool
+    ensures { result
+        ≡ is_defining_behind (symbols_at symbols.now) (trees_at before.now) (item_tree item.now) }
 {
-    stage_behind(roles, before).is_defining(roles, item)
+    stage_behind(symbols, before).is_defining(symbols, item)
 }
 
 /// What breaks a rule at the statement behind these.
 fn culprit_in<'a>(
     alloc: Global,
-    roles: &Roles,
+    symbols: &Symbols,
     before: &[&Item],
     item: &'a Item,
     rule: Rule,
 ) -> Result<Option<Culprit<'a>>, AllocError>
-    ensures { IfOk result (λ c. tell c ≡ item_culprit_in rule (trees_at roles.now.items.now) (trees_at before.now) (item_tree item.now)) }
+    ensures { IfOk
+        result (λ c. tell c
+        ≡ item_culprit_in rule (trees_at symbols.now.items.now) (trees_at before.now)
+        (item_tree item.now)) }
 {
     let shape = &*item.form.shape;
     match rule {
         Rule::K1 => Ok(repeated_label(before, item.label)),
-        Rule::K3 => real_name(alloc, roles, is_defining(roles, before, item), shape),
-        Rule::K6 => number_culprit(alloc, roles, before, item),
-        Rule::K7 => size_culprit(alloc, roles, before, item),
-        Rule::K4 => name_culprit(alloc, roles, before, item),
-        Rule::K8 => miscounted_name(alloc, roles, is_defining(roles, before, item), shape),
-        Rule::K12 => misdefined_function(alloc, roles, before, item),
-        Rule::K13 => unknown_function(alloc, roles, is_defining(roles, before, item), shape),
+        Rule::K3 => real_name(alloc, symbols, is_defining(symbols, before, item), shape),
+        Rule::K5 => type_culprit(alloc, symbols, is_defining(symbols, before, item), shape),
+        Rule::K6 => number_culprit(alloc, symbols, before, item),
+        Rule::K7 => size_culprit(alloc, symbols, before, item),
+        Rule::K4 => name_culprit(alloc, symbols, before, item),
+        Rule::K8 => miscounted_name(alloc, symbols, is_defining(symbols, before, item), shape),
+        Rule::K11 => output_culprit(alloc, symbols, before, item),
+        Rule::K12 => misdefined_function(alloc, symbols, before, item),
+        Rule::K13 => unknown_function(alloc, symbols, is_defining(symbols, before, item), shape),
         Rule::C1 | Rule::C2 | Rule::C3 | Rule::C4 | Rule::C5 | Rule::C6 | Rule::C7 => Ok(None),
         Rule::G1 | Rule::G2 | Rule::G3 => Ok(None),
         Rule::N1 | Rule::N2 | Rule::N3 | Rule::N4 | Rule::N5 => Ok(None),
-        Rule::K2 | Rule::K5 => Ok(None),
-        Rule::K9 | Rule::K10 | Rule::K11 => Ok(None),
+        Rule::K2 | Rule::K9 | Rule::K10 => Ok(None),
     }
 }
 
@@ -74,16 +79,19 @@ fn culprit_in<'a>(
 #[tactic(auto, using(crate::proofs::Placing::at_hit, crate::proofs::Placing::at_miss))]
 fn culprit_among<'a>(
     alloc: Global,
-    roles: &Roles,
+    symbols: &Symbols,
     items: &[&'a Item],
     rule: Rule,
     line: u32,
 ) -> Result<Option<Culprit<'a>>, AllocError>
-    ensures { IfOk result (λ c. tell c ≡ at_line item_line (item_culprit_in rule (trees_at roles.now.items.now)) line [] (trees_at items.now)) }
+    ensures { IfOk
+        result (λ c. tell c
+        ≡ at_line item_line (item_culprit_in rule (trees_at symbols.now.items.now)) line []
+        (trees_at items.now)) }
 {
     for (index, item) in items.iter().enumerate() {
         if item.line == line {
-            return culprit_in(alloc, roles, &items[..index], item, rule);
+            return culprit_in(alloc, symbols, &items[..index], item, rule);
         }
     }
     Ok(None)
@@ -106,17 +114,18 @@ impl ItemTest for AtLine {
 /// What breaks a rule on lists at a statement in its seat.
 fn culprit_in_seat<'a>(
     alloc: Global,
-    roles: &Roles,
+    symbols: &Symbols,
     unit: &Tree,
     rule: Rule,
     seat: &Seat<'a>,
 ) -> Result<Option<ListCulprit<'a>>, AllocError>
-    requires { trees_at roles.now.items.now ≡ flatten (nested unit.now) }
-    ensures { IfOk result (λ c. tell_list c ≡ list_culprit_in rule (nested unit.now) (seat_at seat.now)) }
+    requires { trees_at symbols.now.items.now ≡ flatten (nested unit.now) }
+    ensures { IfOk
+        result (λ c. tell_list c ≡ list_culprit_in rule (nested unit.now) (seat_at seat.now)) }
 {
     match rule {
-        Rule::K2 => missed_label(alloc, roles, unit, seat),
-        Rule::K9 => Ok(looped_name(roles, seat)),
+        Rule::K2 => missed_label(alloc, symbols, unit, seat),
+        Rule::K9 => Ok(looped_name(symbols, seat)),
         Rule::C1 | Rule::C2 | Rule::C3 | Rule::C4 | Rule::C5 | Rule::C6 | Rule::C7 => Ok(None),
         Rule::G1 | Rule::G2 | Rule::G3 => Ok(None),
         Rule::N1 | Rule::N2 | Rule::N3 | Rule::N4 | Rule::N5 => Ok(None),
@@ -128,15 +137,15 @@ fn culprit_in_seat<'a>(
 /// The same among the culprits of all rules.
 fn listed_culprit<'a>(
     alloc: Global,
-    roles: &Roles,
+    symbols: &Symbols,
     unit: &Tree,
     rule: Rule,
     seat: &Seat<'a>,
 ) -> Result<Option<Culprit<'a>>, AllocError>
-    requires { trees_at roles.now.items.now ≡ flatten (nested unit.now) }
+    requires { trees_at symbols.now.items.now ≡ flatten (nested unit.now) }
     ensures { IfOk result (λ c. tell c ≡ listed_in rule (nested unit.now) (seat_at seat.now)) }
 {
-    match culprit_in_seat(alloc, roles, unit, rule, seat)? {
+    match culprit_in_seat(alloc, symbols, unit, rule, seat)? {
         None => Ok(None),
         Some(culprit) => Ok(Some(Culprit::Listed { culprit })),
     }
@@ -145,36 +154,40 @@ fn listed_culprit<'a>(
 /// What breaks a rule on lists at the first statement of a program unit that stands at a line.
 fn list_culprit<'a>(
     alloc: Global,
-    roles: &Roles,
+    symbols: &Symbols,
     unit: &'a Tree,
     rule: Rule,
     line: u32,
 ) -> Result<Option<Culprit<'a>>, AllocError>
-    requires { trees_at roles.now.items.now ≡ flatten (nested unit.now) }
-    ensures { IfOk result (λ c. tell c ≡ at_line seat_line (λ front z. listed_in rule (nested unit.now) z) line [] (seats_of (nested unit.now))) }
+    requires { trees_at symbols.now.items.now ≡ flatten (nested unit.now) }
+    ensures { IfOk
+        result (λ c. tell c
+        ≡ at_line seat_line (λ front z. listed_in rule (nested unit.now) z) line []
+        (seats_of (nested unit.now))) }
 {
     match seat_of(alloc, &AtLine { line }, unit)? {
         None => Ok(None),
-        Some(seat) => listed_culprit(alloc, roles, unit, rule, &seat),
+        Some(seat) => listed_culprit(alloc, symbols, unit, rule, &seat),
     }
 }
 
-/// What breaks a rule K at the first statement of a program unit that stands at a line, by what its statements say of names.
+/// What breaks a rule K at the first statement of a program unit that stands at a line, by what its
+/// statements say of names.
 fn culprit_by<'a>(
     alloc: Global,
-    roles: &Roles,
+    symbols: &Symbols,
     items: &[&'a Item],
     unit: &'a Tree,
     rule: Rule,
     line: u32,
 ) -> Result<Option<Culprit<'a>>, AllocError>
     requires whole { trees_at items.now ≡ flatten (nested unit.now) }
-    requires same { roles.now.items.now ≡ items.now }
+    requires same { symbols.now.items.now ≡ items.now }
     ensures { IfOk result (λ c. tell c ≡ culprit_at rule line (nested unit.now)) }
 {
-    match culprit_among(alloc, roles, items, rule, line)? {
+    match culprit_among(alloc, symbols, items, rule, line)? {
         Some(culprit) => Ok(Some(culprit)),
-        None => list_culprit(alloc, roles, unit, rule, line),
+        None => list_culprit(alloc, symbols, unit, rule, line),
     }
 }
 
@@ -192,6 +205,6 @@ pub fn culprit_of<'a>(
     ensures { IfOk result (λ c. tell c ≡ culprit_at rule line (nested unit.now)) }
 {
     let items = items_of(alloc, unit)?;
-    let roles = Roles::new(alloc, &*items)?;
-    culprit_by(alloc, &roles, &items, unit, rule, line)
+    let symbols = Symbols::new(alloc, &*items)?;
+    culprit_by(alloc, &symbols, &items, unit, rule, line)
 }

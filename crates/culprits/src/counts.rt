@@ -4,14 +4,18 @@ ghost use Rattle.std.specs.Prelude.{◌≡◌, ◌==◌, length, nat_le, option_
 ghost use Rattle.std.specs.List.{find};
 ghost use Rattle.expressions.specs.Functions.{intrinsic};
 ghost use Rattle.meaning.specs.Intrinsics.{intrinsic_named, takes as takes_by};
-ghost use Rattle.meaning.specs.NameRules.{does_not_take, is_misused_array, is_misused_function, is_other_number};
+ghost use Rattle.meaning.specs.NameRules.{does_not_take, is_misused_array, is_misused_function};
+ghost use Rattle.meaning.specs.NameRules.{is_other_number};
 ghost use Rattle.meaning.specs.Scopes.{listed};
 ghost use Rattle.meaning.specs.Syntax.{exprs_tree, shape_tree};
 ghost use Rattle.meaning.specs.Uses.{count};
-ghost use Rattle.roles.specs.Functions.{dummies_at};
-ghost use Rattle.roles.specs.RolesAt.{roles_at};
+ghost use Rattle.symbols.specs.Functions.{dummies_at};
+ghost use Rattle.symbols.specs.SymbolsAt.{symbols_at};
 ghost use Rattle.name_uses.specs.UsesAt.{arguments_at, use_at, uses_at};
-ghost use Rattle.culprits.specs.Counts.{are_as_many, arguments_of, capped, is_other_count as is_other_count_of, is_other_reference as is_other_to, miscounted_in, miscounting, subscripts_of, wanted_by};
+ghost use Rattle.culprits.specs.Counts.{are_as_many, arguments_of, capped};
+ghost use Rattle.culprits.specs.Counts.{is_other_count as is_other_count_of};
+ghost use Rattle.culprits.specs.Counts.{is_other_reference as is_other_to, miscounted_in};
+ghost use Rattle.culprits.specs.Counts.{miscounting, subscripts_of, wanted_by};
 ghost use Rattle.culprits.specs.Told.{tell};
 
 use crate::culprit::{Culprit, Wanted};
@@ -19,8 +23,8 @@ use expressions::Intrinsic;
 use finding::first_passing;
 use meaning::syntax::{Exprs, Shape};
 use name_uses::{Arguments, NameUse, Sought, reads_of, uses_of};
-use roles::{Roles, function_named, is_other_name, rank_of_name};
 use std::alloc::{AllocError, Global};
+use symbols::{Symbols, function_named, is_other_name, rank_of_name};
 
 /// Whether there are so many subscripts or arguments.
 fn has_count(number: usize, expressions: &Exprs) -> bool
@@ -70,7 +74,8 @@ fn has_two(expressions: &Exprs) -> bool
     }
 }
 
-/// Whether an array with so many dimensions, if it is one, is used with another number of subscripts, or with none.
+/// Whether an array with so many dimensions, if it is one, is used with another number of
+/// subscripts, or with none.
 fn is_other_rank(rank: Option<usize>, arguments: Arguments) -> bool
     ensures { result ≡ is_other_number rank (arguments_at arguments.entry) }
 {
@@ -102,10 +107,10 @@ fn is_other_count(dummies: Option<&Exprs>, arguments: Arguments) -> bool
 }
 
 /// Whether a statement function is referenced with another number of arguments than it has dummies.
-fn is_other_reference(roles: &Roles, one: &NameUse) -> bool
-    ensures { result ≡ is_other_to (roles_at roles.now) (use_at one.now) }
+fn is_other_reference(symbols: &Symbols, one: &NameUse) -> bool
+    ensures { result ≡ is_other_to (symbols_at symbols.now) (use_at one.now) }
 {
-    match function_named(roles, one.name) {
+    match function_named(symbols, one.name) {
         Some(function) => is_other_count(function.dummies, one.arguments),
         None => false,
     }
@@ -156,29 +161,29 @@ fn is_other_intrinsic(one: &NameUse) -> bool
 /// A use of an array with another number of subscripts than it has dimensions.
 #[derive(Clone, Copy)]
 struct MisusedArray<'a> {
-    roles: &'a Roles<'a>,
+    symbols: &'a Symbols<'a>,
 }
 
 impl Sought for MisusedArray<'_> {
-    ghost is_use = { λ s u. is_misused_array (roles_at s.roles.now) u };
+    ghost is_use = { λ s u. is_misused_array (symbols_at s.symbols.now) u };
 
     fn is(&self, one: &NameUse) -> bool {
-        is_other_rank(rank_of_name(self.roles, one.name), one.arguments)
+        is_other_rank(rank_of_name(self.symbols, one.name), one.arguments)
     }
 }
 
 /// A reference to a function with another number of arguments than it takes.
 #[derive(Clone, Copy)]
 struct MisusedFunction<'a> {
-    roles: &'a Roles<'a>,
+    symbols: &'a Symbols<'a>,
 }
 
 impl Sought for MisusedFunction<'_> {
-    ghost is_use = { λ s u. is_misused_function (roles_at s.roles.now) u };
+    ghost is_use = { λ s u. is_misused_function (symbols_at s.symbols.now) u };
 
     fn is(&self, one: &NameUse) -> bool {
-        is_other_reference(self.roles, one)
-            || is_other_name(self.roles, one.name) && is_other_intrinsic(one)
+        is_other_reference(self.symbols, one)
+            || is_other_name(self.symbols, one.name) && is_other_intrinsic(one)
     }
 }
 
@@ -205,10 +210,10 @@ fn given_of(arguments: Arguments) -> Option<usize>
 }
 
 /// How many subscripts an array wants.
-fn subscripts_wanted(roles: &Roles, name: &[u8]) -> Option<Wanted>
-    ensures { result ≡ subscripts_of (roles_at roles.now) name.now }
+fn subscripts_wanted(symbols: &Symbols, name: &[u8]) -> Option<Wanted>
+    ensures { result ≡ subscripts_of (symbols_at symbols.now) name.now }
 {
-    match rank_of_name(roles, name) {
+    match rank_of_name(symbols, name) {
         None => None,
         Some(rank) => Some(Wanted::Subscripts(rank)),
     }
@@ -239,10 +244,10 @@ fn dummy_count(dummies: Option<&Exprs>) -> usize
 }
 
 /// How many arguments a function wants.
-fn arguments_wanted(roles: &Roles, name: &[u8]) -> Option<Wanted>
-    ensures { result ≡ arguments_of (roles_at roles.now) name.now }
+fn arguments_wanted(symbols: &Symbols, name: &[u8]) -> Option<Wanted>
+    ensures { result ≡ arguments_of (symbols_at symbols.now) name.now }
 {
-    match function_named(roles, name) {
+    match function_named(symbols, name) {
         Some(function) => Some(Wanted::Arguments(dummy_count(function.dummies))),
         None => match Intrinsic::named(name) {
             None => None,
@@ -252,12 +257,14 @@ fn arguments_wanted(roles: &Roles, name: &[u8]) -> Option<Wanted>
 }
 
 /// The first array in a statement with a wrong number of subscripts.
-fn first_array<'a>(roles: &Roles, uses: &[NameUse<'a>]) -> Option<Culprit<'a>>
-    ensures { tell result ≡ miscounting (subscripts_of (roles_at roles.now)) (find (is_misused_array (roles_at roles.now)) (uses_at uses.now)) }
+fn first_array<'a>(symbols: &Symbols, uses: &[NameUse<'a>]) -> Option<Culprit<'a>>
+    ensures { tell result
+        ≡ miscounting (subscripts_of (symbols_at symbols.now))
+        (find (is_misused_array (symbols_at symbols.now)) (uses_at uses.now)) }
 {
-    match first_passing(uses, &MisusedArray { roles }) {
+    match first_passing(uses, &MisusedArray { symbols }) {
         None => None,
-        Some(one) => match subscripts_wanted(roles, one.name) {
+        Some(one) => match subscripts_wanted(symbols, one.name) {
             None => None,
             Some(wanted) => Some(Culprit::Miscounted {
                 name: one.name,
@@ -269,12 +276,14 @@ fn first_array<'a>(roles: &Roles, uses: &[NameUse<'a>]) -> Option<Culprit<'a>>
 }
 
 /// The first function that is referenced with a wrong number of arguments.
-fn first_function<'a>(roles: &Roles, reads: &[NameUse<'a>]) -> Option<Culprit<'a>>
-    ensures { tell result ≡ miscounting (arguments_of (roles_at roles.now)) (find (is_misused_function (roles_at roles.now)) (uses_at reads.now)) }
+fn first_function<'a>(symbols: &Symbols, reads: &[NameUse<'a>]) -> Option<Culprit<'a>>
+    ensures { tell result
+        ≡ miscounting (arguments_of (symbols_at symbols.now))
+        (find (is_misused_function (symbols_at symbols.now)) (uses_at reads.now)) }
 {
-    match first_passing(reads, &MisusedFunction { roles }) {
+    match first_passing(reads, &MisusedFunction { symbols }) {
         None => None,
-        Some(one) => match arguments_wanted(roles, one.name) {
+        Some(one) => match arguments_wanted(symbols, one.name) {
             None => None,
             Some(wanted) => Some(Culprit::Miscounted {
                 name: one.name,
@@ -285,19 +294,22 @@ fn first_function<'a>(roles: &Roles, reads: &[NameUse<'a>]) -> Option<Culprit<'a
     }
 }
 
-/// K8: the first array in a statement with a wrong number of subscripts, else the first function with a wrong number of arguments.
+/// K8: the first array in a statement with a wrong number of subscripts, else the first function
+/// with a wrong number of arguments.
 pub fn miscounted_name<'a>(
     alloc: Global,
-    roles: &Roles,
+    symbols: &Symbols,
     defines: bool,
     shape: &'a Shape,
 ) -> Result<Option<Culprit<'a>>, AllocError>
-    ensures { IfOk result (λ c. tell c ≡ miscounted_in (roles_at roles.now) defines (shape_tree shape.now)) }
+    ensures { IfOk
+        result (λ c. tell c
+        ≡ miscounted_in (symbols_at symbols.now) defines (shape_tree shape.now)) }
 {
-    let uses = uses_of(alloc, roles, defines, shape)?;
-    if let Some(culprit) = first_array(roles, &uses) {
+    let uses = uses_of(alloc, symbols, defines, shape)?;
+    if let Some(culprit) = first_array(symbols, &uses) {
         return Ok(Some(culprit));
     }
-    let reads = reads_of(alloc, roles, defines, shape)?;
-    Ok(first_function(roles, &reads))
+    let reads = reads_of(alloc, symbols, defines, shape)?;
+    Ok(first_function(symbols, &reads))
 }

@@ -6,7 +6,9 @@ use function_culprits::FunctionCulprit;
 use list_culprits::ListCulprit;
 use name_culprits::NameCulprit;
 use number_culprits::NumberCulprit;
+use output_culprits::OutputCulprit;
 use size_culprits::SizeCulprit;
+use type_culprits::TypeCulprit;
 
 /// How many subscripts or arguments a name wants.
 #[derive(Clone, Copy, Debug, PartialEq, Eq)]
@@ -20,7 +22,8 @@ pub enum Wanted {
 /// What breaks a rule K at a statement.
 #[derive(Clone, Copy)]
 pub enum Culprit<'a> {
-    /// K1: the statement's label, and the line of the first statement before it that has it (ANSI X3.9-1978, 3.4).
+    /// K1: the statement's label, and the line of the first statement before it that has it (ANSI
+    /// X3.9-1978, 3.4).
     Repeated {
         label: u32,
         earlier: u32,
@@ -29,6 +32,10 @@ pub enum Culprit<'a> {
     Real {
         name: &'a [u8],
         without_letters: bool,
+    },
+    /// K5: what is of the wrong type (6.1 to 6.4).
+    Type {
+        culprit: TypeCulprit<'a>,
     },
     /// K6: what breaks the rule on integer constants and constant expressions (4.3, 5.1.1 and 8.6).
     Number {
@@ -42,12 +49,16 @@ pub enum Culprit<'a> {
     Name {
         culprit: NameCulprit<'a>,
     },
-    /// K8: a name that wants another number of subscripts or arguments than there are; none are given where it stands without
-    /// parentheses (5.4.2, 15.3 and 15.4).
+    /// K8: a name that wants another number of subscripts or arguments than there are; none are
+    /// given where it stands without parentheses (5.4.2, 15.3 and 15.4).
     Miscounted {
         name: &'a [u8],
         wanted: Wanted,
         given: Option<usize>,
+    },
+    /// K11: what breaks the rule on units and formats (12.3, 12.4 and 13.1).
+    Output {
+        culprit: OutputCulprit<'a>,
     },
     /// K12: what breaks the rule on statement functions (15.4).
     Function {
@@ -67,17 +78,20 @@ impl<'a> Culprit<'a> {
     ghost use Rattle.culprits.specs.Told.{told_at};
     ghost use Rattle.culprits.specs.Texts.{word_of};
 
-    /// The name, or the label of a transfer, that it is about, for `place_of`; none where it is about none.
+    /// What it is about, as it stands in the statement, for `place_of`: a name, a constant, or the
+    /// label of a transfer or a format; none where it is about none.
     pub fn word(self) -> Option<&'a [u8]>
         ensures { option_map (λ w. w.now) result ≡ word_of (told_at self.entry) }
     {
         match self {
             Culprit::Repeated { .. } => None,
             Culprit::Real { name, .. } => Some(name),
+            Culprit::Type { culprit } => Some(culprit.word()),
             Culprit::Number { culprit } => Some(culprit.word()),
             Culprit::Size { culprit } => Some(culprit.word()),
             Culprit::Name { culprit } => culprit.word(),
             Culprit::Miscounted { name, .. } => Some(name),
+            Culprit::Output { culprit } => culprit.word(),
             Culprit::Function { culprit } => Some(culprit.word()),
             Culprit::Unknown { name } => Some(name),
             Culprit::Listed { culprit } => Some(culprit.word()),

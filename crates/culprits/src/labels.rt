@@ -3,7 +3,7 @@
 ghost use Rattle.std.specs.Prelude.{◌≡◌, option_map};
 ghost use Rattle.std.specs.List.{find};
 ghost use Rattle.meaning.specs.LabelRules.{has_label};
-ghost use Rattle.roles.specs.Listed.{trees_at};
+ghost use Rattle.symbols.specs.Listed.{trees_at};
 ghost use Rattle.culprits.specs.Culprits.{repeated_in};
 ghost use Rattle.culprits.specs.Told.{tell};
 

@@ -1,4 +1,5 @@
-//! What breaks a rule K at a statement of a program unit (ANSI X3.9-1978, chapters 2 to 15), for whoever tells people of it.
+//! What breaks a rule K at a statement of a program unit (ANSI X3.9-1978, chapters 2 to 15), for
+//! whoever tells people of it.
 #![tactic(auto)]
 
 mod asked;

@@ -3,7 +3,8 @@
 ghost use Rattle.std.specs.Prelude.{◌≡◌, ◌++◌, OnOk};
 ghost use Rattle.std.specs.Fmt.{decimal};
 ghost use Rattle.culprits.specs.Told.{told_at};
-ghost use Rattle.culprits.specs.Texts.{given_text, miscounted_text, told_text, untyped_text, wanted_text};
+ghost use Rattle.culprits.specs.Texts.{given_text, miscounted_text, told_text, untyped_text};
+ghost use Rattle.culprits.specs.Texts.{wanted_text};
 
 use crate::culprit::{Culprit, Wanted};
 use function_culprits::add_function_text;
@@ -11,8 +12,10 @@ use itoa::Buffer;
 use list_culprits::add_list_text;
 use name_culprits::add_name_text;
 use number_culprits::add_number_text;
+use output_culprits::add_output_text;
 use size_culprits::add_size_text;
 use std::alloc::AllocError;
+use type_culprits::add_type_text;
 
 /// Puts a text behind others.
 fn add(bytes: &mut Vec<u8>, text: &str) -> Result<(), AllocError>
@@ -48,7 +51,9 @@ fn untyped(without_letters: bool) -> &'static str
 
 /// Puts what is told of a label.
 fn add_repeated(bytes: &mut Vec<u8>, label: u32, earlier: u32) -> Result<(), AllocError>
-    ensures { OnOk result (bytes.new.items ≡ bytes.old.items ++ told_text (told_at (Culprit.Repeated label earlier))) }
+    ensures { OnOk result
+        (bytes.new.items ≡ bytes.old.items
+        ++ told_text (told_at (Culprit.Repeated label earlier))) }
 {
     add(bytes, "label ")?;
     add_number(bytes, label)?;
@@ -108,7 +113,8 @@ fn add_miscounted(
     wanted: Wanted,
     given: Option<usize>,
 ) -> Result<(), AllocError>
-    ensures { OnOk result (bytes.new.items ≡ bytes.old.items ++ miscounted_text name.now wanted given) }
+    ensures { OnOk result
+        (bytes.new.items ≡ bytes.old.items ++ miscounted_text name.now wanted given) }
 {
     bytes.extend_from_slice(name)?;
     add(bytes, " wants ")?;
@@ -117,8 +123,8 @@ fn add_miscounted(
     add_given(bytes, given)
 }
 
-/// Puts what breaks a rule behind a text, in the words of a message. The `AllocError` comes only where a growth was refused, and
-/// leaves a part of it there.
+/// Puts what breaks a rule behind a text, in the words of a message. The `AllocError` comes only
+/// where a growth was refused, and leaves a part of it there.
 pub fn add_text(bytes: &mut Vec<u8>, culprit: Culprit) -> Result<(), AllocError>
     ensures { OnOk result (bytes.new.items ≡ bytes.old.items ++ told_text (told_at culprit.entry)) }
 {
@@ -136,9 +142,11 @@ pub fn add_text(bytes: &mut Vec<u8>, culprit: Culprit) -> Result<(), AllocError>
             wanted,
             given,
         } => add_miscounted(bytes, name, wanted, given),
+        Culprit::Type { culprit } => add_type_text(bytes, culprit),
         Culprit::Number { culprit } => add_number_text(bytes, culprit),
         Culprit::Size { culprit } => add_size_text(bytes, culprit),
         Culprit::Name { culprit } => add_name_text(bytes, culprit),
+        Culprit::Output { culprit } => add_output_text(bytes, culprit),
         Culprit::Function { culprit } => add_function_text(bytes, culprit),
         Culprit::Unknown { name } => {
             bytes.extend_from_slice(name)?;

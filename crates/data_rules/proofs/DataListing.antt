@@ -4,7 +4,7 @@ use Rattle.std.specs.Prelude.{if◌then◌else◌}
 use Rattle.std.specs.List.{range_with_len}
 use Rattle.std.proofs.Math.IntN.{+ℤ_assoc, suc_ℤ-*ℤ}
 use Rattle.meaning.specs.Syntax.{LimitsTree, ListItemTree, ListItemsTree, no_items, more_items, value_item, loop_item}
-use Rattle.meaning.specs.Uses.{Roles}
+use Rattle.meaning.specs.Uses.{Symbols}
 use Rattle.meaning.specs.Values.{Known}
 use Rattle.meaning.specs.Initial.{and_also, both_lists, is_counter, known_trips, targets_in, with_value}
 use Rattle.declarations.specs.declared.known.Scope.{Scope}
@@ -14,7 +14,7 @@ use Rattle.data_rules.specs.SameScope.{IsSameScope}
 use Rattle.declarations.specs.Tables.{known_at, scope_known, with_own}
 use Rattle.data_rules.proofs.DataFilling.{filled_both}
 
-module _ (r : Roles) (known : Known) where
+module _ (r : Symbols) (known : Known) where
   items_none : targets_in r no_items known ≡ Some []
   unfolding targets_in
   items_none = refl
@@ -35,7 +35,7 @@ pub same_known : (s t : Scope) → IsSameScope s t → scope_known t ≡ scope_k
 same_known s t same = ap₂ (λ os table. with_own (known_at table.now) os) same.own same.table
 
 -- an implied DO without trips
-pub no_trips : (r : Roles) (items : ListItemsTree) (variable : List ℕ) (limits : LimitsTree) (known : Known) (s : Stage) → known_trips r.names.types known limits ≡ None → filled r.names (item_targets r (loop_item items variable limits) known) s ≡ None
+pub no_trips : (r : Symbols) (items : ListItemsTree) (variable : List ℕ) (limits : LimitsTree) (known : Known) (s : Stage) → known_trips r.names.types known limits ≡ None → filled r.names (item_targets r (loop_item items variable limits) known) s ≡ None
 no_trips r items variable limits known s none = by_test (is_counter r variable)
   where
     by_test : (b : Bool) → filled r.names (if b then and_also (known_trips r.names.types known limits) (trips_targets r items variable known) else None) s ≡ None
@@ -43,11 +43,11 @@ no_trips r items variable limits known s none = by_test (is_counter r variable)
     by_test false = refl
 
 -- an implied DO with these trips
-pub with_trips : (r : Roles) (items : ListItemsTree) (variable : List ℕ) (limits : LimitsTree) (known : Known) (is : List ℤ) (s : Stage) → is_counter r variable ≡ true → known_trips r.names.types known limits ≡ Some is → filled r.names (item_targets r (loop_item items variable limits) known) s ≡ filled r.names (trips_targets r items variable known is) s
+pub with_trips : (r : Symbols) (items : ListItemsTree) (variable : List ℕ) (limits : LimitsTree) (known : Known) (is : List ℤ) (s : Stage) → is_counter r variable ≡ true → known_trips r.names.types known limits ≡ Some is → filled r.names (item_targets r (loop_item items variable limits) known) s ≡ filled r.names (trips_targets r items variable known is) s
 with_trips r items variable limits known is s can some =
     ap₂ (λ b o. filled r.names (if b then and_also o (trips_targets r items variable known) else None) s) can some
 
-module _ (r : Roles) (items : ListItemsTree) (variable : List ℕ) (known : Known) (f : ℕ → ℤ) where
+module _ (r : Symbols) (items : ListItemsTree) (variable : List ℕ) (known : Known) (f : ℕ → ℤ) where
   -- the trips from one on
   abbrev pub left : ℕ → ℕ → Stage → Option Stage
   left i n s = filled r.names (trips_targets r items variable known (map f (range_with_len i (n - i)))) s

@@ -9,7 +9,7 @@ use Rattle.meaning.specs.Arrays.{Dimension, above, combined, elements, extent, p
 use Rattle.meaning.specs.Syntax.{ExprTree, name, element, ExprsTree, no_exprs, exprs, ListItemsTree, no_items, more_items, value_item, loop_item, DataSetTree, DataValueTree}
 use Rattle.meaning.specs.Types.{Types}
 use Rattle.meaning.specs.Typing.{Names, clash}
-use Rattle.meaning.specs.Uses.{Roles, is_other}
+use Rattle.meaning.specs.Uses.{Symbols, is_other}
 use Rattle.meaning.specs.Values.{Known, dimensions_in}
 use Rattle.meaning.specs.Initial.{Start, Target, all_lists, and_also, both_lists, data_values, element_target, is_counter, known_subscripts, known_trips, known_value, paired, repeated, set_starts, subscript_in, target, targets_in, value_targets, value_type, whole_target, with_value}
 use Rattle.expressions.proofs.Ordered.{AreNumbered, elements-numbered}
@@ -86,7 +86,7 @@ module _ (types : Types) (known : Known) where
       by_lead None h = tt
       by_lead (Some ss) h = ((h.0, ap (λ a. place (dimensions_in a) ss) is ∙ h.1), tt)
 
-module _ (r : Roles) where
+module _ (r : Symbols) where
   value_places : (known : Known) (e : ExprTree) → IfEach (HasPlace r.names) (value_targets r known e)
   value_places known (name n) = whole_places r.names n (r.names.arrays n) (is_other r n) refl
   value_places known (element n es) = element_places r.names.types known r.names n (r.names.arrays n) es refl
@@ -162,7 +162,7 @@ module _ (ns : Names) where
       by_place rest (Some i) = by_test i (rest i) (clash (ns.types t.name) (value_type v) || is_some (g t.name i))
 
 -- one target and its value, before others
-module _ (r : Roles) (t : Target) (v : Value) (ts : List Target) (vs : List Value) (g : Found) where
+module _ (r : Symbols) (t : Target) (v : Value) (ts : List Target) (vs : List Value) (g : Found) where
   abbrev first : Start
   first = record { target = t; value = v }
 
@@ -201,7 +201,7 @@ module _ (r : Roles) (t : Target) (v : Value) (ts : List Target) (vs : List Valu
       ap (λ o. fill_rest (and_also o (λ i. give r.names.types t.name i front))) (at.1 ∙ ap Some (sym (ap (λ o. unwrap_or o 0) at.1)))
       ∙ by_clash (clash (r.names.types t.name) (value_type v)) rest
 
-module _ (r : Roles) where
+module _ (r : Symbols) where
   pub paired_given : (ts : List Target) (vs : List Value) (g : Found) → Each (HasPlace r.names) ts → and_also (give_all r.names ts (stage g (map Some vs))) if_used_up ≡ and_also (paired r ts vs) (λ ss. accept r.names ss g)
   paired_given [] [] g h = refl
   paired_given [] (v ∷ vs) g h = refl

@@ -12,7 +12,7 @@ use Rattle.meaning.specs.NumberRules.{known_behind_all}
 use Rattle.meaning.specs.Refusals.{least, merge}
 use Rattle.meaning.specs.Statements.{broken_if}
 use Rattle.meaning.specs.Syntax.{ItemTree}
-use Rattle.meaning.specs.Uses.{Roles}
+use Rattle.meaning.specs.Uses.{Symbols}
 use Rattle.meaning.proofs.Least.{least-append, merge-merge}
 use Rattle.data_rules.specs.declared.filling.Filling.{Filling}
 use Rattle.data_rules.specs.declared.starting.Passed.{Passed}
@@ -59,10 +59,10 @@ line_is [] i x lt is = absurd (omega arith)
 line_is (y ∷ ys) zero x lt is = ap (λ z. z.now.line) (sym is)
 line_is (y ∷ ys) (suc i) x lt is = line_is ys i x (omega arith) is
 
-pub has_filled : (r : Roles) (others : Option Broken) (before : List ItemTree) (p : Passed) → IsPassed r others before p → (f : Filling) → p.filling ≡ Some f → IsFilledBy r before (stage_by f)
+pub has_filled : (r : Symbols) (others : Option Broken) (before : List ItemTree) (p : Passed) → IsPassed r others before p → (f : Filling) → p.filling ≡ Some f → IsFilledBy r before (stage_by f)
 has_filled r others before p h f some = subst (IsFilledOr r before (is_some p.broken)) some h.filling
 
-module _ (r : Roles) (others : Option Broken) (before : List ItemTree) (x : ItemTree) where
+module _ (r : Symbols) (others : Option Broken) (before : List ItemTree) (x : ItemTree) where
   broken_push : (now next : Option Broken) → now ≡ merge others (least (told (has_bad_data r) K10 [] before)) → next ≡ merge now (least (broken_if (has_bad_data r before x) x.line K10)) → next ≡ merge others (least (told (has_bad_data r) K10 [] (before ++ x ∷ [])))
   broken_push now next so_far added =
       let front = told (has_bad_data r) K10 [] before in
@@ -102,7 +102,7 @@ merge_none None = refl
 merge_none (Some b) = refl
 
 -- in front of all statements
-pub none_passed : (r : Roles) (o : Option Broken) (f : Filling) → stage_by f ≡ stage nothing [] → IsPassed r o [] (record { broken = o; filling = Some f })
+pub none_passed : (r : Symbols) (o : Option Broken) (f : Filling) → stage_by f ≡ stage nothing [] → IsPassed r o [] (record { broken = o; filling = Some f })
 none_passed r o f is = record {
   broken = merge_none o ∙ ap (λ bs. merge o (least bs)) (sym (told_none (has_bad_data r) K10));
   filling = subst (IsFilledBy r []) (sym is) (filled_none r);

@@ -6,9 +6,9 @@ use Rattle.meaning.specs.declared.syntax.DataSet.{DataSet}
 use Rattle.meaning.specs.declared.syntax.DataValue.{DataValue}
 use Rattle.meaning.specs.Initial.{and_also}
 use Rattle.meaning.specs.Syntax.{data_set_tree, data_value_tree, list_items_tree}
-use Rattle.meaning.specs.Uses.{Roles}
+use Rattle.meaning.specs.Uses.{Symbols}
 use Rattle.meaning.specs.Values.{Known}
-use Rattle.roles.specs.RolesAt.{roles_at}
+use Rattle.symbols.specs.SymbolsAt.{symbols_at}
 use Rattle.data_rules.specs.declared.data_values.Values.{Values}
 use Rattle.data_rules.specs.declared.filling.Filling.{Filling}
 use Rattle.declarations.specs.declared.known.Scope.{Scope}
@@ -25,13 +25,13 @@ used_up_given b o s is h =
     ap (λ p. and_also p if_used_up) is ∙ ap (λ d. if d then Some (with_values [] s) else None) (sym h)
 
 -- what the list of a set is given, in a scope with no names of its own
-pub set_given : (t : Table) (s : Scope) (v : Values) (f : Filling) (x : DataSet) (xs : List DataValue) → s.table.now ≡ t → s.own.items ≡ [] → values_left v ≡ values_of (known_at t) (map data_value_tree xs) → xs ≡ x.values.items → fill_list (roles_at s.table.now.roles.now) (scope_known s) (list_items_tree x.list) (stage_at f v) ≡ fill_set (roles_at t.roles.now) (known_at t) (data_set_tree x) (stage_by f)
+pub set_given : (t : Table) (s : Scope) (v : Values) (f : Filling) (x : DataSet) (xs : List DataValue) → s.table.now ≡ t → s.own.items ≡ [] → values_left v ≡ values_of (known_at t) (map data_value_tree xs) → xs ≡ x.values.items → fill_list (symbols_at s.table.now.symbols.now) (scope_known s) (list_items_tree x.list) (stage_at f v) ≡ fill_set (symbols_at t.symbols.now) (known_at t) (data_set_tree x) (stage_by f)
 set_given t s v f x xs table own left are =
-    ap (λ os. fill_list (roles_at s.table.now.roles.now) (with_own (known_at s.table.now) os) (list_items_tree x.list) (stage_at f v)) own
-    ∙ ap (λ u. fill_list (roles_at u.roles.now) (known_at u) (list_items_tree x.list) (stage_at f v)) table
-    ∙ ap (λ os. fill_list (roles_at t.roles.now) (known_at t) (list_items_tree x.list) (with_values os (stage_by f))) (left ∙ ap (λ ys. values_of (known_at t) (map data_value_tree ys)) are)
+    ap (λ os. fill_list (symbols_at s.table.now.symbols.now) (with_own (known_at s.table.now) os) (list_items_tree x.list) (stage_at f v)) own
+    ∙ ap (λ u. fill_list (symbols_at u.symbols.now) (known_at u) (list_items_tree x.list) (stage_at f v)) table
+    ∙ ap (λ os. fill_list (symbols_at t.symbols.now) (known_at t) (list_items_tree x.list) (with_values os (stage_by f))) (left ∙ ap (λ ys. values_of (known_at t) (map data_value_tree ys)) are)
 
-module _ (r : Roles) (known : Known) (sets : List DataSet) (i : ℕ) where
+module _ (r : Symbols) (known : Known) (sets : List DataSet) (i : ℕ) where
   abbrev left : ℕ → Stage → Option Stage
   left k s = fill_sets r known (map data_set_tree (drop k sets)) s
 

@@ -13,7 +13,7 @@ use Rattle.meaning.specs.declared.ending.Value.{Value}
 use Rattle.meaning.specs.Arrays.{AreOneToOne, place}
 use Rattle.meaning.specs.Syntax.{ItemTree}
 use Rattle.meaning.specs.Typing.{Names}
-use Rattle.meaning.specs.Uses.{Roles}
+use Rattle.meaning.specs.Uses.{Symbols}
 use Rattle.meaning.specs.Values.{dimensions_in}
 use Rattle.meaning.specs.NumberRules.{known_behind_all}
 use Rattle.meaning.specs.Initial.{Start, and_also, given_twice, has_bad_data, same_target, sets_at, starts_at, starts_from, starts_or_none}
@@ -112,7 +112,7 @@ module _ (ns : Names) where
 
 -- ---- statements
 
-module _ (r : Roles) where
+module _ (r : Symbols) where
   pub starts_none : (before : List ItemTree) → starts_from r before [] ≡ []
   unfolding starts_from
   starts_none before = refl

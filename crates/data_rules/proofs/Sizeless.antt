@@ -11,8 +11,8 @@ use Rattle.meaning.specs.declared.syntax.ListItems.TheVariants as lists
 use Rattle.meaning.specs.Initial.{list_uses}
 use Rattle.meaning.specs.NumberRules.{sizeless_at, sizeless_in}
 use Rattle.meaning.specs.Syntax.{DeclaratorTree, ItemTree, declarator_tree, limits_tree, list_item_tree, list_items_tree, more_items}
-use Rattle.meaning.specs.Uses.{Roles, Use, limit_uses}
-use Rattle.roles.proofs.Passes.{map_more}
+use Rattle.meaning.specs.Uses.{Symbols, Use, limit_uses}
+use Rattle.symbols.proofs.Passes.{map_more}
 use Rattle.rule_passes.proofs.Missing.{any_both}
 
 -- an implied DO and the items behind it
@@ -45,7 +45,7 @@ module _ (test : DeclaratorTree → Bool) where
 
 -- ---- statements
 
-module _ (r : Roles) where
+module _ (r : Symbols) where
   sizeless_append : (before xs : List ItemTree) (x : ItemTree) → sizeless_in r before (xs ++ x ∷ []) ≡ sizeless_in r before xs ++ sizeless_at r (before ++ xs) x
   unfolding sizeless_in
   sizeless_append before [] x = append-nil (sizeless_at r before x) ∙ ap (λ b. sizeless_at r b x) (sym (append-nil before))

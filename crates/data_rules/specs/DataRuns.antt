@@ -1,5 +1,6 @@
 -- The values of DATA statements, one after another (ANSI X3.9-1978, 9.1).
-use Rattle.std.specs.Prelude.{◌++◌, ℕ, List, [], ◌∷◌, map, flat_map, option_map, replicate, Option, Some, None}
+use Rattle.std.specs.Prelude.{◌++◌, ℕ, List, [], ◌∷◌, map, flat_map, option_map, replicate, Option}
+use Rattle.std.specs.Prelude.{Some, None}
 use Rattle.meaning.specs.declared.ending.Value.{Value}
 use Rattle.meaning.specs.declared.syntax.DataConstant.{DataConstant}
 use Rattle.meaning.specs.declared.syntax.DataValue.{DataValue}

@@ -1,5 +1,6 @@
 -- What the places of one name are given, one after another.
-use Rattle.std.specs.Prelude.{◌≡◌, ◌+◌, ◌^◌, ◌≤◌, ◌⊎◌, ℕ, ◌||◌, ◌==◌, List, [], ◌∷◌, is_some, if◌then◌else◌, Bool, Option, Some, None}
+use Rattle.std.specs.Prelude.{◌≡◌, ◌+◌, ◌^◌, ◌≤◌, ◌⊎◌, ℕ, ◌||◌, ◌==◌, List, [], ◌∷◌, is_some}
+use Rattle.std.specs.Prelude.{if◌then◌else◌, Bool, Option, Some, None}
 use Rattle.std.specs.Global.{Vec}
 use Rattle.std.specs.List.{range_with_len}
 use Rattle.expressions.specs.Places.{capped}
@@ -25,7 +26,8 @@ with_next i v s = record { given = with_slot i v s.given; values = behind_first 
 
 abbrev pub give_next : SomeType → ℕ → Slots → Option Value → Option Slots
 give_next type i s None = None
-give_next type i s (Some v) = if clash type (value_type v) || is_some (s.given i) then None else Some (with_next i v s)
+give_next type i s (Some v) =
+    if clash type (value_type v) || is_some (s.given i) then None else Some (with_next i v s)
 
 abbrev pub give_slot : SomeType → ℕ → Slots → Option Slots
 give_slot type i s = give_next type i s (first_of s.values)
@@ -44,6 +46,7 @@ GivesSlot type i old new = Comes (give_slot type i old) new
 abbrev pub GivesSlots : SomeType → ℕ → ℕ → Slots → Slots → Bool → Type 0
 GivesSlots type first count old new = Comes (give_slots type (range_with_len first count) old) new
 
--- a place that is counted to 2^64-1 stands for the first of so many, where these are fewer, or one at most
+-- a place that is counted to 2^64-1 stands for the first of so many, where these are fewer, or one
+-- at most
 abbrev pub StandsFor : ℕ → ℕ → ℕ → Type 0
 StandsFor first count i = (first ≡ capped i) × ((i + count ≤ 2 ^ 64) ⊎ (count ≤ 1))

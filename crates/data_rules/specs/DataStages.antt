@@ -1,5 +1,6 @@
 -- What DATA statements give, one variable or element after another (ANSI X3.9-1978, 9.1).
-use Rattle.std.specs.Prelude.{ℕ, Bool, true, false, ◌&&◌, ◌||◌, ◌==◌, List, [], ◌∷◌, is_some, if◌then◌else◌, Option, Some, None}
+use Rattle.std.specs.Prelude.{ℕ, Bool, true, false, ◌&&◌, ◌||◌, ◌==◌, List, [], ◌∷◌, is_some}
+use Rattle.std.specs.Prelude.{if◌then◌else◌, Option, Some, None}
 use Rattle.std.specs.Str.{bytes_eq}
 use Rattle.meaning.specs.declared.ending.Value.{Value}
 use Rattle.meaning.specs.Arrays.{place}
@@ -39,7 +40,8 @@ with_given n i v s = record { given = with_found n i v s.given; values = behind_
 abbrev pub give_value : Types → List ℕ → ℕ → Stage → Option Value → Option Stage
 give_value types n i s None = None
 give_value types n i s (Some v) =
-    if clash (types n) (value_type v) || is_some (s.given n i) then None else Some (with_given n i v s)
+    if clash (types n) (value_type v) || is_some (s.given n i) then None
+    else Some (with_given n i v s)
 
 abbrev pub give : Types → List ℕ → ℕ → Stage → Option Stage
 give types n i s = give_value types n i s (first_of s.values)
@@ -50,7 +52,8 @@ give_places types n [] s = Some s
 give_places types n (i ∷ is) s = and_also (give types n i s) (give_places types n is)
 
 abbrev pub give_target : Names → Target → Stage → Option Stage
-give_target ns t s = and_also (place (dimensions_in (ns.arrays t.name)) t.subscripts) (λ i. give ns.types t.name i s)
+give_target ns t s =
+    and_also (place (dimensions_in (ns.arrays t.name)) t.subscripts) (λ i. give ns.types t.name i s)
 
 abbrev pub give_all : Names → List Target → Stage → Option Stage
 give_all ns [] s = Some s

@@ -10,10 +10,12 @@ use Rattle.meaning.specs.declared.syntax.Declarator.{Declarator}
 use Rattle.meaning.specs.declared.syntax.RepeatCount.{RepeatCount}
 use Rattle.meaning.specs.Initial.{lacks_value, set_uses, sets_by, sets_of}
 use Rattle.meaning.specs.NumberRules.{lacks_bound}
-use Rattle.meaning.specs.Syntax.{DataSetTree, ShapeTree, data_constant_tree, data_set_tree, data_value_tree, declarator_tree, repeat_tree}
+use Rattle.meaning.specs.Syntax.{DataSetTree, ShapeTree, data_constant_tree, data_set_tree}
+use Rattle.meaning.specs.Syntax.{data_value_tree, declarator_tree, repeat_tree}
 use Rattle.meaning.specs.Typing.{option_list}
-use Rattle.meaning.specs.Uses.{Use, bare_use, data_constant_uses, data_value_uses, is_one_of, repeat_uses}
-use Rattle.roles.specs.RolesAt.{roles_at}
+use Rattle.meaning.specs.Uses.{Use, bare_use, data_constant_uses, data_value_uses, is_one_of}
+use Rattle.meaning.specs.Uses.{repeat_uses}
+use Rattle.symbols.specs.SymbolsAt.{symbols_at}
 use Rattle.declarations.specs.declared.known.Table.{Table}
 use Rattle.declarations.specs.Tables.{known_at, types_in}
 use Rattle.data_rules.specs.declared.lacking.Known.{Known}
@@ -27,7 +29,10 @@ is_sizeless_at ns n = is_one_of (names_kept ns) n
 
 -- a use of a name that has no value where these are known
 abbrev pub lacks : Known → Use → Bool
-lacks k u = lacks_value (roles_at k.table.now.roles.now) (known_at k.table.now) (names_kept k.sizeless.now) u
+lacks k u =
+    lacks_value (symbols_at k.table.now.symbols.now) (known_at k.table.now)
+    (names_kept k.sizeless.now)
+    u
 
 abbrev pub lacks_name : Known → List ℕ → Bool
 lacks_name k n = lacks k (bare_use n)
@@ -50,11 +55,15 @@ sets_lack k sets = any_lacks k (flat_map set_uses (map data_set_tree sets))
 
 -- the sets of a statement that count
 abbrev pub sets_counted : Known → ShapeTree → List DataSetTree
-sets_counted k s = sets_by (roles_at k.table.now.roles.now) (known_at k.table.now) (names_kept k.sizeless.now) (sets_of s)
+sets_counted k s =
+    sets_by (symbols_at k.table.now.symbols.now) (known_at k.table.now) (names_kept k.sizeless.now)
+    (sets_of s)
 
 -- the names of declarators one of whose bounds has no value come behind those before
 abbrev pub sizeless_by : Table → List Declarator → List (List ℕ)
-sizeless_by t ds = map (λ d. d.name) (filter (lacks_bound (types_in t) (known_at t)) (map declarator_tree ds))
+sizeless_by t ds =
+    map (λ d. d.name) (filter (lacks_bound (types_in t) (known_at t)) (map declarator_tree ds))
 
-abbrev pub GainsSizeless : Table → List Declarator → Vec (Bor (List ℕ)) → Vec (Bor (List ℕ)) → Type 0
+abbrev pub GainsSizeless : Table → List Declarator → Vec (Bor (List ℕ)) → Vec (Bor (List ℕ)) →
+    Type 0
 GainsSizeless t ds old new = names_kept new.items ≡ names_kept old.items ++ sizeless_by t ds

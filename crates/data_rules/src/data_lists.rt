@@ -3,9 +3,9 @@
 ghost use Rattle.std.specs.Prelude.{◌≡◌, IfOk, OnOk};
 ghost use Rattle.meaning.specs.Initial.{is_counter as is_counter_by};
 ghost use Rattle.data_rules.specs.SameScope.{IsSameScope};
-ghost use Rattle.roles.specs.RolesAt.{roles_at};
+ghost use Rattle.symbols.specs.SymbolsAt.{symbols_at};
 ghost use Rattle.declarations.specs.ArraysKept.{AreArrays};
-ghost use Rattle.data_rules.specs.DataGiving.{roles_in};
+ghost use Rattle.data_rules.specs.DataGiving.{symbols_in};
 ghost use Rattle.data_rules.specs.DataTargets.{FillsItem, FillsItems, Repeats};
 ghost use Rattle.data_rules.specs.DataTrips.{AreIntegers};
 
@@ -16,21 +16,22 @@ use expressions::Dimensions;
 use indexmap::IndexMap;
 use meaning::ending::Value;
 use meaning::syntax::{DataType, ListItem, ListItems};
-use roles::{Roles, is_other_name, type_of_name};
 use std::alloc::{AllocError, Global};
+use symbols::{Symbols, is_other_name, type_of_name};
 
 /// Whether a name can be that of the variable of an implied DO.
-pub fn is_counter(roles: &Roles, name: &[u8]) -> bool
-    ensures { result ≡ is_counter_by (roles_at roles.now) name.now }
+pub fn is_counter(symbols: &Symbols, name: &[u8]) -> bool
+    ensures { result ≡ is_counter_by (symbols_at symbols.now) name.now }
 {
-    match type_of_name(roles, name) {
-        Some(DataType::Integer) => is_other_name(roles, name),
+    match type_of_name(symbols, name) {
+        Some(DataType::Integer) => is_other_name(symbols, name),
         Some(DataType::Logical) => false,
         None => false,
     }
 }
 
-/// Gives values to the items of an implied DO, trip after trip; false where one doesn't get its value.
+/// Gives values to the items of an implied DO, trip after trip; false where one doesn't get its
+/// value.
 #[cycle(data_lists)]
 fn give_trips<'a>(
     giving: &mut Giving<'a>,
@@ -40,7 +41,7 @@ fn give_trips<'a>(
     variable: &'a [u8],
     trips: Trips,
 ) -> Result<bool, AllocError>
-    requires arrays { AreArrays (roles_in giving.old) arrays.now }
+    requires arrays { AreArrays (symbols_in giving.old) arrays.now }
     requires integers { AreIntegers trips }
     ensures filled { IfOk result (Repeats items.entry variable.entry trips giving.old giving.new) }
     ensures same { OnOk result (IsSameScope giving.old.scope giving.new.scope) }
@@ -59,7 +60,8 @@ fn give_trips<'a>(
     Ok(true)
 }
 
-/// Gives values to what an item stands for; false where it stands for nothing, or doesn't get its values.
+/// Gives values to what an item stands for; false where it stands for nothing, or doesn't get its
+/// values.
 #[cycle(data_lists)]
 fn give_item<'a>(
     giving: &mut Giving<'a>,
@@ -67,7 +69,7 @@ fn give_item<'a>(
     arrays: &IndexMap<Vec<u8>, Dimensions>,
     item: &'a ListItem,
 ) -> Result<bool, AllocError>
-    requires { AreArrays (roles_in giving.old) arrays.now }
+    requires { AreArrays (symbols_in giving.old) arrays.now }
     ensures filled { IfOk result (FillsItem item.entry giving.old giving.new) }
     ensures same { OnOk result (IsSameScope giving.old.scope giving.new.scope) }
 {
@@ -78,7 +80,7 @@ fn give_item<'a>(
             variable,
             limits,
         } => {
-            if !is_counter(giving.scope.table.roles, variable) {
+            if !is_counter(giving.scope.table.symbols, variable) {
                 return Ok(false);
             }
             match trips_of(&giving.scope, limits) {
@@ -89,7 +91,8 @@ fn give_item<'a>(
     }
 }
 
-/// Gives values to what items stand for; false where one stands for nothing, or doesn't get its values.
+/// Gives values to what items stand for; false where one stands for nothing, or doesn't get its
+/// values.
 #[cycle(data_lists)]
 pub fn give_items<'a>(
     giving: &mut Giving<'a>,
@@ -97,7 +100,7 @@ pub fn give_items<'a>(
     arrays: &IndexMap<Vec<u8>, Dimensions>,
     items: &'a ListItems,
 ) -> Result<bool, AllocError>
-    requires { AreArrays (roles_in giving.old) arrays.now }
+    requires { AreArrays (symbols_in giving.old) arrays.now }
     ensures filled { IfOk result (FillsItems items.entry giving.old giving.new) }
     ensures same { OnOk result (IsSameScope giving.old.scope giving.new.scope) }
 {

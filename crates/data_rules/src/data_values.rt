@@ -3,7 +3,8 @@
 ghost use Rattle.std.specs.Prelude.{◌≡◌, ◌<◌, [], pos, map, IfSome};
 ghost use Rattle.meaning.specs.Initial.{number_given, sign_value};
 ghost use Rattle.meaning.specs.Syntax.{data_value_tree};
-ghost use Rattle.data_rules.specs.DataRuns.{constant_at, count_at, run_of, values_at, values_left, values_of};
+ghost use Rattle.data_rules.specs.DataRuns.{constant_at, count_at, run_of, values_at, values_left};
+ghost use Rattle.data_rules.specs.DataRuns.{values_of};
 ghost use Rattle.data_rules.specs.DataStages.{behind_first, first_of, is_empty_list};
 ghost use Rattle.declarations.specs.Tables.{known_at};
 
@@ -13,7 +14,8 @@ use meaning::ending::Value;
 use meaning::number::number;
 use meaning::syntax::{DataConstant, DataValue, RepeatCount, Sign};
 
-/// The number that digits spell, or 2147483647 where it is more, which breaks another rule at the same line.
+/// The number that digits spell, or 2147483647 where it is more, which breaks another rule at the
+/// same line.
 fn number_by(digits: &[u8]) -> u64
     ensures { pos result ≡ number_given digits.now }
 {
@@ -44,7 +46,8 @@ fn count_of(table: &Table, repeat_count: &Option<RepeatCount>) -> Option<u64>
     }
 }
 
-/// The number that a sign and digits spell, or the greatest of this sign where it is above 2147483647 without its sign.
+/// The number that a sign and digits spell, or the greatest of this sign where it is above
+/// 2147483647 without its sign.
 fn integer_by(sign: Option<Sign>, digits: &[u8]) -> i32
     ensures { result ≡ sign_value sign (number_given digits.now) }
 {

@@ -8,7 +8,8 @@ use declarations::{Scope, is_no_constant, value_of};
 use expressions::{Dimension, as_integer};
 use meaning::syntax::{Expr, Exprs};
 
-/// The value of an expression of constants and of the variables of implied DOs around it, if it is one and has one.
+/// The value of an expression of constants and of the variables of implied DOs around it, if it is
+/// one and has one.
 pub fn known_value(scope: &Scope, expression: &Expr) -> Option<i32>
     ensures { result ≡ value_in scope.now expression.now }
 {
@@ -28,7 +29,8 @@ fn combined(above: u64, extent: u64, place: u64) -> u64
     above.saturating_add(extent.saturating_mul(place))
 }
 
-/// The place of the element with these subscripts, or 2^64-1 where it is more, if they are known and within their bounds.
+/// The place of the element with these subscripts, or 2^64-1 where it is more, if they are known
+/// and within their bounds.
 pub fn place_in(scope: &Scope, dimensions: &[Dimension], subscripts: &Exprs) -> Option<u64>
     ensures { result ≡ option_map capped (place_by scope.now dimensions.now subscripts.now) }
 {

@@ -12,14 +12,15 @@ use crate::data_values::{Values, next_value};
 use indexmap::IndexMap;
 use meaning::ending::Value;
 use meaning::syntax::DataType;
-use roles::{Roles, type_of_name};
 use std::alloc::{AllocError, Global};
+use symbols::{Symbols, type_of_name};
 
 /// What DATA statements have given so far.
 #[derive(Drop)]
 pub struct Filling {
-    /// By the names of variables and arrays the values of their places in column-major order, from 0, which is the only one of a
-    /// variable. A place that was given none has none, and so have those behind the last one that is kept.
+    /// By the names of variables and arrays the values of their places in column-major order, from
+    /// 0, which is the only one of a variable. A place that was given none has none, and so have
+    /// those behind the last one that is kept.
     pub given: IndexMap<Vec<u8>, Vec<Option<Value>>>,
 }
 
@@ -33,7 +34,8 @@ fn is_given(slots: &[Option<Value>], place: u64) -> bool
     }
 }
 
-/// Gives a place a value. The `AllocError` comes where a growth was refused, as it is for 2^64-1 places.
+/// Gives a place a value. The `AllocError` comes where a growth was refused, as it is for 2^64-1
+/// places.
 fn put(slots: &mut Vec<Option<Value>>, place: u64, value: Value) -> Result<(), AllocError>
     ensures put { OnOk result (
         slot_at slots.new.items ≡ with_slot place value (slot_at slots.old.items)) }
@@ -66,8 +68,8 @@ fn differs(data_type: Option<DataType>, value: Value) -> bool
     }
 }
 
-/// Gives the next value to a place of a name of this type, which is counted to 2^64-1; false where there is none, it is of another
-/// type, or the place has one.
+/// Gives the next value to a place of a name of this type, which is counted to 2^64-1; false where
+/// there is none, it is of another type, or the place has one.
 fn give(
     slots: &mut Vec<Option<Value>>,
     values: &mut Values,
@@ -90,8 +92,8 @@ fn give(
     }
 }
 
-/// Gives the next values to so many places of a name of this type, from this one on; false where one of them doesn't get its value.
-/// A single place is counted to 2^64-1.
+/// Gives the next values to so many places of a name of this type, from this one on; false where
+/// one of them doesn't get its value. A single place is counted to 2^64-1.
 fn give_each(
     slots: &mut Vec<Option<Value>>,
     values: &mut Values,
@@ -112,24 +114,25 @@ fn give_each(
     Ok(true)
 }
 
-/// Gives the next values to so many places of a name, from this one on; false where one of them doesn't get its value. A single
-/// place is counted to 2^64-1. The `AllocError` comes where a growth was refused.
+/// Gives the next values to so many places of a name, from this one on; false where one of them
+/// doesn't get its value. A single place is counted to 2^64-1. The `AllocError` comes where a
+/// growth was refused.
 pub fn give_places(
     filling: &mut Filling,
     values: &mut Values,
     alloc: Global,
-    roles: &Roles,
+    symbols: &Symbols,
     name: &[u8],
     first: u64,
     count: u64,
 ) -> Result<bool, AllocError>
     requires { first + count ≤ 2 ^ 64 }
     ensures given { (i : ℕ) → StandsFor first count i →
-        IfOk result (GivesPlaces roles.now name.now i count
+        IfOk result (GivesPlaces symbols.now name.now i count
         (stage_at filling.old values.old) (stage_at filling.new values.new)) }
     ensures kept { IfOk result (λ given. given ≡ true → count < 2 ^ 64 - 1) }
 {
-    let data_type = type_of_name(roles, name);
+    let data_type = type_of_name(symbols, name);
     match filling.given.get_mut(name) {
         Some(slots) => give_each(slots, values, data_type, first, count),
         None => {

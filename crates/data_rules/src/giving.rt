@@ -4,7 +4,7 @@ ghost use Rattle.std.specs.Prelude.{◌≡◌, ◌-◌, ◌^◌, map, min, IfOk}
 ghost use Rattle.meaning.specs.Arrays.{size};
 ghost use Rattle.expressions.specs.Dimensions.{dimension};
 ghost use Rattle.declarations.specs.ArraysKept.{AreArrays};
-ghost use Rattle.data_rules.specs.DataGiving.{roles_in};
+ghost use Rattle.data_rules.specs.DataGiving.{symbols_in};
 ghost use Rattle.data_rules.specs.DataTargets.{FillsElement, FillsName, FillsValue};
 
 use crate::data_values::Values;
@@ -14,10 +14,11 @@ use declarations::Scope;
 use expressions::{Dimension, Dimensions};
 use indexmap::IndexMap;
 use meaning::syntax::{Expr, Exprs};
-use roles::is_other_name;
 use std::alloc::{AllocError, Global};
+use symbols::is_other_name;
 
-/// What DATA statements have given so far, the values of a set that are left, and the names that are known in its list.
+/// What DATA statements have given so far, the values of a set that are left, and the names that
+/// are known in its list.
 #[derive(Drop)]
 pub struct Giving<'a> {
     pub filling: Filling,
@@ -35,18 +36,19 @@ fn size_of(dimensions: &[Dimension]) -> u64
     }
 }
 
-/// Gives values to a variable or a whole array; false where the name is neither, or a value is missing or doesn't fit.
+/// Gives values to a variable or a whole array; false where the name is neither, or a value is
+/// missing or doesn't fit.
 fn give_name(
     giving: &mut Giving,
     alloc: Global,
     arrays: &IndexMap<Vec<u8>, Dimensions>,
     name: &[u8],
 ) -> Result<bool, AllocError>
-    requires { AreArrays (roles_in giving.old) arrays.now }
+    requires { AreArrays (symbols_in giving.old) arrays.now }
     ensures filled { IfOk result (FillsName name.entry giving.old giving.new) }
     ensures same { giving.new.scope ≡ giving.old.scope }
 {
-    let roles = giving.scope.table.roles;
+    let symbols = giving.scope.table.symbols;
     match arrays.get(name) {
         Some(dimensions) => {
             let size = size_of(dimensions);
@@ -54,19 +56,19 @@ fn give_name(
                 &mut giving.filling,
                 &mut giving.values,
                 alloc,
-                roles,
+                symbols,
                 name,
                 0,
                 size,
             )
         }
         None => {
-            if is_other_name(roles, name) {
+            if is_other_name(symbols, name) {
                 give_places(
                     &mut giving.filling,
                     &mut giving.values,
                     alloc,
-                    roles,
+                    symbols,
                     name,
                     0,
                     1,
@@ -78,7 +80,8 @@ fn give_name(
     }
 }
 
-/// Gives a value to an array element; false where there is none, or the value is missing or doesn't fit.
+/// Gives a value to an array element; false where there is none, or the value is missing or doesn't
+/// fit.
 fn give_element(
     giving: &mut Giving,
     alloc: Global,
@@ -86,19 +89,19 @@ fn give_element(
     name: &[u8],
     subscripts: &Exprs,
 ) -> Result<bool, AllocError>
-    requires { AreArrays (roles_in giving.old) arrays.now }
+    requires { AreArrays (symbols_in giving.old) arrays.now }
     ensures filled { IfOk result (FillsElement name.entry subscripts.now giving.old giving.new) }
     ensures same { giving.new.scope ≡ giving.old.scope }
 {
     match arrays.get(name) {
         Some(dimensions) => match place_in(&giving.scope, dimensions, subscripts) {
             Some(place) => {
-                let roles = giving.scope.table.roles;
+                let symbols = giving.scope.table.symbols;
                 give_places(
                     &mut giving.filling,
                     &mut giving.values,
                     alloc,
-                    roles,
+                    symbols,
                     name,
                     place,
                     1,
@@ -110,15 +113,15 @@ fn give_element(
     }
 }
 
-/// Gives values to what an item of a list that is no implied DO stands for; false where it stands for nothing, or a value is
-/// missing or doesn't fit.
+/// Gives values to what an item of a list that is no implied DO stands for; false where it stands
+/// for nothing, or a value is missing or doesn't fit.
 pub fn give_value(
     giving: &mut Giving,
     alloc: Global,
     arrays: &IndexMap<Vec<u8>, Dimensions>,
     expression: &Expr,
 ) -> Result<bool, AllocError>
-    requires { AreArrays (roles_in giving.old) arrays.now }
+    requires { AreArrays (symbols_in giving.old) arrays.now }
     ensures filled { IfOk result (FillsValue expression.entry giving.old giving.new) }
     ensures same { giving.new.scope ≡ giving.old.scope }
 {

@@ -1,11 +1,14 @@
-//! DATA statements with a constant that has no value, or an array that has no size: another rule is broken where these are
-//! defined, and so this one counts no such statement (ANSI X3.9-1978, 5.1, 8.6 and 9.1).
+//! DATA statements with a constant that has no value, or an array that has no size: another rule is
+//! broken where these are defined, and so this one counts no such statement (ANSI X3.9-1978, 5.1,
+//! 8.6 and 9.1).
 
 ghost use Rattle.std.specs.Prelude.{◌≡◌, ◌∷◌, [], OnOk};
 ghost use Rattle.meaning.specs.Initial.{list_uses};
 ghost use Rattle.meaning.specs.Syntax.{expr_tree, exprs_tree, limits_tree, list_items_tree};
 ghost use Rattle.meaning.specs.Uses.{limit_uses, uses_in, uses_in_all};
-ghost use Rattle.data_rules.specs.Lacking.{any_lacks, constant_uses, count_uses, is_sizeless_at, lacks_name, names_kept, sets_lack, values_uses, GainsSizeless};
+ghost use Rattle.data_rules.specs.Lacking.{any_lacks, constant_uses, count_uses, is_sizeless_at};
+ghost use Rattle.data_rules.specs.Lacking.{lacks_name, names_kept, sets_lack, values_uses};
+ghost use Rattle.data_rules.specs.Lacking.{GainsSizeless};
 
 use declarations::{Table, lacks_bound};
 use expressions::Constants;
@@ -13,8 +16,8 @@ use meaning::syntax::{
     DataConstant, DataSet, DataValue, Declarator, Expr, Exprs, Item, Limits, ListItem, ListItems,
     RepeatCount,
 };
-use roles::{declarators_in, is_constant_name};
 use std::alloc::AllocError;
+use symbols::{declarators_in, is_constant_name};
 
 /// What is known where a DATA statement stands.
 #[derive(Clone, Copy)]
@@ -41,7 +44,7 @@ fn is_sizeless(sizeless: &[&[u8]], name: &[u8]) -> bool
 fn lacks(known: &Known, name: &[u8]) -> bool
     ensures { result ≡ lacks_name known.now name.now }
 {
-    (is_constant_name(known.table.roles, name) && known.table.constant(name).is_none())
+    (is_constant_name(known.table.symbols, name) && known.table.constant(name).is_none())
         || is_sizeless(known.sizeless, name)
 }
 
@@ -152,7 +155,8 @@ fn in_values(known: &Known, values: &[DataValue]) -> bool
     false
 }
 
-/// Whether a name in the sets of a DATA statement is a constant's that has no value, or an array's that has no size.
+/// Whether a name in the sets of a DATA statement is a constant's that has no value, or an array's
+/// that has no size.
 #[tactic(auto, using(rule_passes::proofs::Missing::any_both))]
 pub fn lack_value(known: &Known, sets: &[DataSet]) -> bool
     ensures { result ≡ sets_lack known.now sets.now }
@@ -180,7 +184,8 @@ fn add_one<'a>(
     Ok(())
 }
 
-/// Adds the names of declarators one of whose bounds has no value. The `AllocError` comes where a growth was refused.
+/// Adds the names of declarators one of whose bounds has no value. The `AllocError` comes where a
+/// growth was refused.
 pub fn add_sizeless<'a>(
     sizeless: &mut Vec<&'a [u8]>,
     table: &Table,

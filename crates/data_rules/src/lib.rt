@@ -1,4 +1,5 @@
-//! What DATA statements give variables, arrays and elements, and the rule on them (ANSI X3.9-1978, chapter 9). K10: `given_by_data`.
+//! What DATA statements give variables, arrays and elements, and the rule on them (ANSI X3.9-1978,
+//! chapter 9). K10: `given_by_data`.
 #![tactic(auto)]
 
 mod data_lists;

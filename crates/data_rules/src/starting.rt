@@ -4,12 +4,13 @@ ghost use Rattle.std.specs.Prelude.{◌≡◌, map, IfOk};
 ghost use Rattle.meaning.specs.Initial.{sets_of};
 ghost use Rattle.meaning.specs.Syntax.{data_set_tree, shape_tree};
 ghost use Rattle.meaning.specs.Trees.{item_tree};
-ghost use Rattle.roles.specs.RolesAt.{roles_at};
-ghost use Rattle.data_rules.specs.DataPassed.{GoesOn, IsPassed, IsSettled, IsSettledBehind, comes_first};
+ghost use Rattle.symbols.specs.SymbolsAt.{symbols_at};
+ghost use Rattle.data_rules.specs.DataPassed.{GoesOn, IsPassed, IsSettled, IsSettledBehind};
+ghost use Rattle.data_rules.specs.DataPassed.{comes_first};
 ghost use Rattle.rule_passes.specs.InOrder.{AreInOrder};
 ghost use Rattle.rule_passes.specs.Listed.{tree_at};
 ghost use Rattle.declarations.specs.ArraysKept.{AreArrays};
-ghost use Rattle.data_rules.specs.DataGiving.{roles_in};
+ghost use Rattle.data_rules.specs.DataGiving.{symbols_in};
 ghost use Rattle.data_rules.specs.DataSets.{FillsSet, FillsSets};
 ghost use Rattle.data_rules.specs.DataTargets.{FillsList};
 ghost use Rattle.data_rules.specs.Lacking.{names_kept, sets_counted};
@@ -24,17 +25,18 @@ use expressions::Dimensions;
 use indexmap::IndexMap;
 use meaning::refusal::{Broken, Rule};
 use meaning::syntax::{DataSet, Item, ListItems, Shape};
-use roles::{Roles, declarators_in};
 use std::alloc::{AllocError, Global};
+use symbols::{Symbols, declarators_in};
 
-/// Gives a list the values of its set; false where an item doesn't get its value, or a value is left over.
+/// Gives a list the values of its set; false where an item doesn't get its value, or a value is
+/// left over.
 fn give_list<'a>(
     giving: &mut Giving<'a>,
     alloc: Global,
     arrays: &IndexMap<Vec<u8>, Dimensions>,
     list: &'a ListItems,
 ) -> Result<bool, AllocError>
-    requires { AreArrays (roles_in giving.old) arrays.now }
+    requires { AreArrays (symbols_in giving.old) arrays.now }
     ensures { IfOk result (FillsList list.entry giving.old giving.new) }
 {
     let given = give_items(giving, alloc, arrays, list)?;
@@ -52,7 +54,7 @@ fn give_set<'a>(
     arrays: &IndexMap<Vec<u8>, Dimensions>,
     set: &'a DataSet,
 ) -> Result<Option<Filling>, AllocError>
-    requires { AreArrays (roles_at table.now.roles.now) arrays.now }
+    requires { AreArrays (symbols_at table.now.symbols.now) arrays.now }
     ensures { IfOk result (FillsSet table.now set.entry filling) }
 {
     let mut giving = Giving {
@@ -90,7 +92,7 @@ fn give_sets<'a>(
     arrays: &IndexMap<Vec<u8>, Dimensions>,
     sets: &'a [DataSet],
 ) -> Result<Option<Filling>, AllocError>
-    requires { AreArrays (roles_at table.now.roles.now) arrays.now }
+    requires { AreArrays (symbols_at table.now.symbols.now) arrays.now }
     ensures { IfOk result (FillsSets table.now sets.entry filling) }
 {
     let mut so_far = filling;
@@ -113,7 +115,8 @@ fn sets_in(shape: &Shape) -> &[DataSet]
     }
 }
 
-/// The sets of a DATA statement that count: none where a constant among them has no value, or an array no size.
+/// The sets of a DATA statement that count: none where a constant among them has no value, or an
+/// array no size.
 fn counted_sets<'a>(known: &Known, shape: &'a Shape) -> &'a [DataSet]
     ensures { map data_set_tree result.now ≡ sets_counted known.now (shape_tree shape.now) }
 {
@@ -136,8 +139,8 @@ fn is_first(line: u32, others: Option<Broken>) -> bool
     }
 }
 
-/// What the statements that were passed come to: the least broken pair, and what DATA statements have given; nothing where one
-/// doesn't fit, or stands behind that pair.
+/// What the statements that were passed come to: the least broken pair, and what DATA statements
+/// have given; nothing where one doesn't fit, or stands behind that pair.
 #[derive(Drop)]
 pub struct Passed {
     /// The least broken pair.
@@ -155,7 +158,7 @@ fn pass_data<'a>(
     arrays: &IndexMap<Vec<u8>, Dimensions>,
     item: &'a Item,
 ) -> Result<Passed, AllocError>
-    requires arrays { AreArrays (roles_at table.now.roles.now) arrays.now }
+    requires arrays { AreArrays (symbols_at table.now.symbols.now) arrays.now }
     requires settled { IsSettled item.now.line passed }
     ensures passed { IfOk result (λ p.
         GoesOn table.now (names_kept sizeless.now) (item_tree item.entry.now) passed p) }
@@ -194,20 +197,21 @@ fn pass_data<'a>(
     }
 }
 
-/// K10: the least pair of the others and of the DATA statements, and what they give where there is none. The `AllocError` comes
-/// where a growth was refused.
+/// K10: the least pair of the others and of the DATA statements, and what they give where there is
+/// none. The `AllocError` comes where a growth was refused.
 pub fn given_by_data(
     alloc: Global,
-    roles: &Roles,
+    symbols: &Symbols,
     arrays: &IndexMap<Vec<u8>, Dimensions>,
     items: &[&Item],
     others: Option<Broken>,
 ) -> Result<Passed, AllocError>
-    requires arrays { AreArrays (roles_at roles.now) arrays.now }
+    requires arrays { AreArrays (symbols_at symbols.now) arrays.now }
     requires ordered { AreInOrder (map tree_at items.now) }
-    ensures { IfOk result (λ p. IsPassed (roles_at roles.now) others (map tree_at items.now) p) }
+    ensures { IfOk
+        result (λ p. IsPassed (symbols_at symbols.now) others (map tree_at items.now) p) }
 {
-    let mut table = table_of(alloc, roles);
+    let mut table = table_of(alloc, symbols);
     let mut sizeless = Vec::new(alloc);
     let given = IndexMap::new(alloc);
     let mut passed = Passed {

@@ -20,7 +20,7 @@ use Rattle.meaning.specs.Values.{Known}
 use Rattle.meaning.specs.Scopes.{arrays_from, declarators_in, dimension_of, dimensions_in, gives_bounds, known_behind, known_of, nothing_known, or_dimensions}
 use Rattle.name_maps.specs.Keeping.{kept_at}
 use Rattle.name_maps.proofs.FirstKept.{kept_new}
-use Rattle.roles.proofs.Passes.{map_more}
+use Rattle.symbols.proofs.Passes.{map_more}
 use Rattle.expressions.specs.declared.dimension.Dimension.{Dimension}
 use Rattle.declarations.specs.ArraysKept.{arrays_kept, dimensions_of}
 use Rattle.rule_passes.specs.Listed.{tree_at}

@@ -15,7 +15,7 @@ use Rattle.meaning.specs.Types.{Types}
 use Rattle.meaning.specs.Values.{Known}
 use Rattle.meaning.specs.Scopes.{constant_value, known_behind, known_of, nothing_known, with_constant}
 use Rattle.name_maps.specs.Keeping.{kept_at}
-use Rattle.roles.proofs.Passes.{map_more}
+use Rattle.symbols.proofs.Passes.{map_more}
 use Rattle.declarations.specs.KnownNames.{known_in, value_kept, with_name}
 
 same_name : (own name other : List ℕ) → bytes_eq own other ≡ false → bytes_eq name other ≡ true → bytes_eq name own ≡ false

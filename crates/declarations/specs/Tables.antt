@@ -11,7 +11,7 @@ use Rattle.meaning.specs.Trees.{item_tree}
 use Rattle.meaning.specs.Types.{Types}
 use Rattle.meaning.specs.Values.{Known}
 use Rattle.meaning.specs.Scopes.{constant_value, known_behind, known_of, with_constant}
-use Rattle.roles.specs.RolesAt.{roles_at}
+use Rattle.symbols.specs.SymbolsAt.{symbols_at}
 use Rattle.declarations.specs.declared.known.Table.{Table}
 use Rattle.declarations.specs.declared.known.Own.{Own}
 use Rattle.declarations.specs.declared.known.Scope.{Scope}
@@ -19,7 +19,7 @@ use Rattle.declarations.specs.KnownNames.{known_in, with_name}
 
 -- the types of the names, and the constants of a table
 abbrev pub types_in : Table → Types
-types_in t = (roles_at t.roles.now).names.types
+types_in t = (symbols_at t.symbols.now).names.types
 
 abbrev pub known_at : Table → Known
 known_at t = known_in t.values
@@ -58,7 +58,9 @@ abbrev pub EntersName : Scope → Scope → List ℕ → Option Value → Type 0
 EntersName old new name value = scope_known new ≡ with_name name value (scope_known old)
 
 abbrev pub EntersOwn : Scope → Scope → Bor (List ℕ) → Option Value → Type 0
-EntersOwn old new name value = new.own.items ≡ old.own.items ++ record { name = name; value = value } ∷ []
+EntersOwn old new name value =
+    new.own.items ≡ old.own.items ++ record { name = name; value = value } ∷ []
 
 abbrev pub LeavesOwn : Scope → Scope → Type 0
-LeavesOwn old new = (outer : List Own) (one : Own) → old.own.items ≡ outer ++ one ∷ [] → new.own.items ≡ outer
+LeavesOwn old new =
+    (outer : List Own) (one : Own) → old.own.items ≡ outer ++ one ∷ [] → new.own.items ≡ outer

@@ -5,14 +5,14 @@ ghost use Rattle.expressions.specs.Dimensions.{dimension};
 ghost use Rattle.declarations.specs.ArraysKept.{AreArrays, AreConstants, GainsDeclared};
 ghost use Rattle.declarations.specs.Dimensioned.{bound_at, dimension_at, dimensions_at};
 ghost use Rattle.declarations.specs.Tables.{known_at};
-ghost use Rattle.roles.specs.RolesAt.{roles_at};
+ghost use Rattle.symbols.specs.SymbolsAt.{symbols_at};
 
 use crate::known::{Table, pass_constants, table_of, value_of};
 use expressions::{Dimension, Dimensions, as_integer};
 use indexmap::IndexMap;
 use meaning::syntax::{Bounds, Declarator, Expr};
-use roles::{Roles, declarators_in};
 use std::alloc::{AllocError, Global};
+use symbols::{Symbols, declarators_in};
 
 /// The value of a bound; 0 where it has none.
 fn bound(table: &Table, expression: &Expr) -> i32
@@ -38,7 +38,8 @@ pub fn dimension_of(table: &Table, bounds: &Bounds) -> Dimension
     }
 }
 
-/// The dimensions that several bounds give. The `AllocError` comes where they are more than seven, and a growth was refused.
+/// The dimensions that several bounds give. The `AllocError` comes where they are more than seven,
+/// and a growth was refused.
 fn dimensions_by(alloc: Global, table: &Table, bounds: &[Bounds]) -> Result<Dimensions, AllocError>
     ensures are { IfOk result (λ v. map dimension v.items ≡ dimensions_at table.now bounds.now) }
     ensures inline { length bounds.now ≤ 7 → IsOk result }
@@ -92,16 +93,17 @@ pub struct Declared<'a> {
     pub arrays: IndexMap<Vec<u8>, Dimensions>,
 }
 
-/// The constants and the arrays that the statements of a unit define (ANSI X3.9-1978, 5.1 and 8.6). The `AllocError` comes where a
-/// growth was refused.
-pub fn declared_in<'a>(alloc: Global, roles: &'a Roles<'a>) -> Result<Declared<'a>, AllocError>
-    ensures roles { IfOk result (λ declared. declared.table.roles.now ≡ roles.now) }
-    ensures constants { IfOk result (λ declared. AreConstants roles.now (known_at declared.table)) }
-    ensures arrays { IfOk result (λ declared. AreArrays (roles_at roles.now) declared.arrays) }
+/// The constants and the arrays that the statements of a unit define (ANSI X3.9-1978, 5.1 and 8.6).
+/// The `AllocError` comes where a growth was refused.
+pub fn declared_in<'a>(alloc: Global, symbols: &'a Symbols<'a>) -> Result<Declared<'a>, AllocError>
+    ensures symbols { IfOk result (λ declared. declared.table.symbols.now ≡ symbols.now) }
+    ensures constants { IfOk
+        result (λ declared. AreConstants symbols.now (known_at declared.table)) }
+    ensures arrays { IfOk result (λ declared. AreArrays (symbols_at symbols.now) declared.arrays) }
 {
-    let mut table = table_of(alloc, roles);
+    let mut table = table_of(alloc, symbols);
     let mut arrays = IndexMap::new(alloc);
-    for item in roles.items {
+    for item in symbols.items {
         add_arrays(
             &mut arrays,
             alloc,

@@ -34,7 +34,8 @@ fn is_open(table: &Table, bounds: &Bounds) -> bool
     }
 }
 
-/// Whether a declarator has a bound that is no INTEGER constant: by the constants so far an array of it has no size.
+/// Whether a declarator has a bound that is no INTEGER constant: by the constants so far an array
+/// of it has no size.
 #[tactic(auto, using(rule_passes::proofs::Missing::any_both))]
 pub fn lacks_bound(table: &Table, declarator: &Declarator) -> bool
     ensures { result ≡ lacks_bound_at table.now declarator.now }

@@ -2,14 +2,16 @@
 
 ghost use Rattle.std.specs.Prelude.{◌≡◌, [], OnOk};
 ghost use Rattle.rule_passes.specs.Telling.{Passes};
-ghost use Rattle.declarations.specs.Tables.{EntersName, EntersOwn, IsBehind, LeavesOwn, PutsName, known_at, known_passing, known_with, scope_known, scope_types, types_in, value_at};
+ghost use Rattle.declarations.specs.Tables.{EntersName, EntersOwn, IsBehind, LeavesOwn, PutsName};
+ghost use Rattle.declarations.specs.Tables.{known_at, known_passing, known_with, scope_known};
+ghost use Rattle.declarations.specs.Tables.{scope_types, types_in, value_at};
 
 use expressions::{Constants, constant_value};
 use indexmap::IndexMap;
 use meaning::ending::Value;
 use meaning::syntax::{DataType, Expr, Item, NamedConstant, Shape};
-use roles::{Roles, type_of_name};
 use std::alloc::{AllocError, Global};
+use symbols::{Symbols, type_of_name};
 
 /// The value of an expression of constants, if it has one; none where it faults.
 pub fn value_of<C: Constants>(constants: &C, expression: &Expr) -> Option<Value>
@@ -26,7 +28,7 @@ pub fn value_of<C: Constants>(constants: &C, expression: &Expr) -> Option<Value>
 #[derive(Drop)]
 pub struct Table<'a> {
     /// What names are.
-    pub roles: &'a Roles<'a>,
+    pub symbols: &'a Symbols<'a>,
     /// The values by the names; none where the expression faults.
     pub values: IndexMap<Vec<u8>, Option<Value>>,
 }
@@ -39,7 +41,7 @@ impl Constants for Table<'_> {
     ghost known = { known_at };
 
     fn data_type(&self, name: &[u8]) -> Option<DataType> {
-        type_of_name(self.roles, name)
+        type_of_name(self.symbols, name)
     }
 
     fn constant(&self, name: &[u8]) -> Option<Value> {
@@ -51,12 +53,12 @@ impl Constants for Table<'_> {
 }
 
 /// The table in front of all statements, which has no constants.
-pub fn table_of<'a>(alloc: Global, roles: &'a Roles<'a>) -> Table<'a>
-    ensures roles { result.roles.now ≡ roles.now }
+pub fn table_of<'a>(alloc: Global, symbols: &'a Symbols<'a>) -> Table<'a>
+    ensures symbols { result.symbols.now ≡ symbols.now }
     ensures behind { IsBehind result [] }
 {
     Table {
-        roles,
+        symbols,
         values: IndexMap::new(alloc),
     }
 }
@@ -69,7 +71,7 @@ fn put_name(
     value: Option<Value>,
 ) -> Result<(), AllocError>
     ensures known { OnOk result (PutsName table.old table.new name.now value) }
-    ensures roles { OnOk result (table.new.roles ≡ table.old.roles) }
+    ensures symbols { OnOk result (table.new.symbols ≡ table.old.symbols) }
 {
     let own = Vec::from_slice(alloc, name)?;
     table.values.insert(own, value)?;
@@ -83,7 +85,7 @@ fn put_constants(
     constants: &[NamedConstant],
 ) -> Result<(), AllocError>
     ensures known { OnOk result (known_at table.new ≡ known_with table.old constants.now) }
-    ensures roles { OnOk result (table.new.roles ≡ table.old.roles) }
+    ensures symbols { OnOk result (table.new.symbols ≡ table.old.symbols) }
 {
     for constant in constants {
         let value = value_of(table, &constant.value);
@@ -92,10 +94,11 @@ fn put_constants(
     Ok(())
 }
 
-/// Passes a statement: the table has its constants, too. The `AllocError` comes where a growth was refused.
+/// Passes a statement: the table has its constants, too. The `AllocError` comes where a growth was
+/// refused.
 pub fn pass_constants(table: &mut Table, alloc: Global, item: &Item) -> Result<(), AllocError>
     ensures known { OnOk result (known_at table.new ≡ known_passing table.old item.now) }
-    ensures roles { OnOk result (table.new.roles ≡ table.old.roles) }
+    ensures symbols { OnOk result (table.new.symbols ≡ table.old.symbols) }
     ensures behind { OnOk result (Passes (IsBehind table.old) (IsBehind table.new) item.now) }
 {
     match &*item.form.shape {
@@ -155,7 +158,8 @@ pub fn scope_of<'a>(alloc: Global, table: &'a Table<'a>) -> Scope<'a>
     }
 }
 
-/// Puts a name of one's own in front of what is known. The `AllocError` comes where a growth was refused.
+/// Puts a name of one's own in front of what is known. The `AllocError` comes where a growth was
+/// refused.
 pub fn enter_name<'a: 'b, 'b>(
     scope: &mut Scope<'b>,
     name: &'a [u8],

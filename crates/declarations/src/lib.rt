@@ -1,5 +1,5 @@
-//! The constants and the arrays that the statements of a program unit define, and expressions that have to be constants (ANSI
-//! X3.9-1978, 5.1, 6.1.3 and 8.6).
+//! The constants and the arrays that the statements of a program unit define, and expressions that
+//! have to be constants (ANSI X3.9-1978, 5.1, 6.1.3 and 8.6).
 #![tactic(auto)]
 
 mod arrays;

@@ -4,9 +4,10 @@ ghost use Rattle.std.specs.Prelude.{◌≡◌, ◌++◌, ◌∷◌, [], None, If
 ghost use Rattle.meaning.specs.declared.syntax.Loop.{out-Loop};
 ghost use Rattle.meaning.specs.Syntax.{shape_tree};
 ghost use Rattle.meaning.specs.Trees.{arms_tree, member_before, members_tree, none};
-ghost use Rattle.do_statements.specs.Listing.{inner_of, is_while as is_while_shape, listed_in, listed_in_arms, listed_of, standing_of};
+ghost use Rattle.do_statements.specs.Listing.{inner_of, is_while as is_while_shape, listed_in};
+ghost use Rattle.do_statements.specs.Listing.{listed_in_arms, listed_of, standing_of};
 
-use landmarks::is_quiet_list;
+use label_targets::is_quiet_list;
 use meaning::syntax::{Arm, Loop, Member, Shape, Tree};
 use std::alloc::{AllocError, Global};
 

@@ -7,7 +7,7 @@ use Rattle.meaning.specs.Names.{fault_name, rule_name}
 use Rattle.meaning.specs.Trees.{Nested}
 use Rattle.command_line.specs.declared.asked.OptionsFault.{OptionsFault}
 use Rattle.command_line.specs.declared.asked.OptionsFault.TheVariants as faults
-use Rattle.rule_texts.specs.Named.{IsNoFault, IsNoRule, Spells}
+use Rattle.rule_help.specs.Named.{IsNoFault, IsNoRule, Spells}
 use Rattle.engine.specs.declared.running.NoRun.{NoRun}
 use Rattle.engine.specs.declared.running.NoRun.TheVariants as no_runs
 

@@ -12,8 +12,8 @@ use Rattle.meaning.specs.Arrays.{Named}
 use Rattle.meaning.specs.Names.{rule_name}
 use Rattle.meaning.specs.Promise.{Told}
 use Rattle.meaning.specs.Trees.{members_tree}
-use Rattle.numbering.specs.Checked.{named_of_program, tree_of}
-use Rattle.further_rules.specs.Further.{AreFurther}
+use Rattle.storage.specs.Checked.{named_of_program, tree_of}
+use Rattle.all_breaches.specs.Further.{AreFurther}
 use Rattle.do_statements.specs.declared.listing.DoStatement.{DoStatement}
 use Rattle.do_statements.specs.Listing.{listed_in}
 use Rattle.loop_reports.specs.declared.row.Row.{Row}

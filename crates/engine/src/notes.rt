@@ -2,11 +2,11 @@
 
 use array_store::Whole;
 use command_line::asked::Options;
-use executor::{StageTold, Watcher};
+use executor::{Observer, StageStats};
 use fault_details::{add_text, detail_of};
 use loop_reports::{Loops, Row};
 use meaning::ending::Fault;
-use programs::Program;
+use program::Program;
 use std::alloc::{AllocError, Global};
 use std::cell::Cell;
 use std::collections::BTreeMap;
@@ -72,7 +72,7 @@ impl Notes {
     }
 }
 
-impl Watcher for Notes {
+impl Observer for Notes {
     fn reached(&self, line: u32, trips: u64) {
         self.loops.reached(line, trips);
     }
@@ -81,7 +81,7 @@ impl Watcher for Notes {
         self.loops.passed(line, trips);
     }
 
-    fn staged(&self, line: u32, done: u64, told: &StageTold) {
+    fn staged(&self, line: u32, done: u64, told: &StageStats) {
         self.loops.staged(line, done, told);
     }
 

@@ -22,7 +22,7 @@ use in_order::program_in;
 use meaning::ending::{Ending, Report};
 use meaning::refusal::Refusal;
 use messages::{Texts, cause_of, file_name, matter_of, put, put_shown, tell_hint};
-use rule_texts::{FaultText, RuleText, fault_named, rule_named};
+use rule_help::{FaultText, RuleText, fault_named, rule_named};
 use std::alloc::{AllocError, AllocFailed, Global};
 use std::env::Env;
 use std::fmt::Write as _;

@@ -10,10 +10,10 @@ ghost use Rattle.engine.specs.Told.{AreAlso, ArePairs, AreStages, IsOutline, IsO
 ghost use Rattle.engine.specs.Told.{is_alone, is_further, is_staged, not_told};
 
 use crate::lines::put_at;
+use all_breaches::further_pairs;
 use cell_names::{Named, names_of};
 use command_line::asked::{Options, Speculation};
 use do_statements::{DoStatement, do_statements};
-use further_rules::further_pairs;
 use in_order::{program_in, unit_in};
 use loop_reports::{Row, told_loops};
 use meaning::ending::Ending;

@@ -16,15 +16,15 @@ use Rattle.meaning.specs.Maps.{Map, put}
 use Rattle.meaning.specs.Values.{Scope, value, as_integer, as_logical, integer}
 use Rattle.meaning.specs.Execution.{Ran, more, Ways, onward, at_label, turn, with_ok, failed, added, assigned, unless_defined, simple, step, condition_of, truth_of, holds, turn_if, tested}
 use Rattle.meaning.proofs.Running.{more-none}
-use Rattle.landmarks.specs.Quiet.{is_writing, output_in, writes}
-use Rattle.numbering.specs.Checked.{items_in}
+use Rattle.label_targets.specs.Quiet.{is_writing, output_in, writes}
+use Rattle.storage.specs.Checked.{items_in}
 use Rattle.postfix.specs.declared.code.Code.{Code}
-use Rattle.programs.specs.declared.action.ListCodes.{ListCodes}
-use Rattle.programs.specs.declared.action.Repeat.{Repeat}
-use Rattle.programs.specs.Acts.{is_idle, Conditional, Defines, Repeats}
-use Rattle.programs.specs.Acts as acts
-use Rattle.programs.specs.Asked.{is_logical_if}
-use Rattle.programs.specs.Items.{AreItemsOf}
+use Rattle.program.specs.declared.action.ListCodes.{ListCodes}
+use Rattle.program.specs.declared.action.Repeat.{Repeat}
+use Rattle.program.specs.Acts.{is_idle, Conditional, Defines, Repeats}
+use Rattle.program.specs.Acts as acts
+use Rattle.program.specs.Asked.{is_logical_if}
+use Rattle.program.specs.Items.{AreItemsOf}
 use Rattle.evaluator.specs.Over.{condition_tested}
 use Rattle.evaluator.specs.Statements.{Sums, Leaves, Passes, Moves, Tests}
 

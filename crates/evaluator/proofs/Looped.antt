@@ -26,10 +26,10 @@ use Rattle.meaning.proofs.Running.{exec_is, more-more}
 use Rattle.meaning.proofs.Stores.{does_then}
 use Rattle.meaning.proofs.Ranges.{range_is, row_arms-items, member_before-block, left_arms}
 use Rattle.meaning.specs.declared.syntax.Tree.{Tree}
-use Rattle.programs.specs.declared.action.Repeat.{Repeat}
-use Rattle.programs.specs.Acts.{Repeats}
-use Rattle.programs.specs.Asked.{is_doing}
-use Rattle.programs.specs.Codes.{IsCell}
+use Rattle.program.specs.declared.action.Repeat.{Repeat}
+use Rattle.program.specs.Acts.{Repeats}
+use Rattle.program.specs.Asked.{is_doing}
+use Rattle.program.specs.Codes.{IsCell}
 use Rattle.evaluator.specs.Quiet.{variable_of}
 use Rattle.evaluator.specs.Member.{member_does}
 use Rattle.evaluator.specs.Over.{condition_tested, loop_as, values_by, trips_as, repeated_as, while_as}

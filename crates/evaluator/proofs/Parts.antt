@@ -18,13 +18,13 @@ use Rattle.meaning.specs.Rules.{checked}
 use Rattle.meaning.specs.Statements.{broken_if}
 use Rattle.meaning.specs.Syntax.{ItemTree}
 use Rattle.meaning.specs.Trees.{Members, none, Arms, no_arms, arm, flat, flat_arms, item_tree, member_before, members_tree, nested, row_arms}
-use Rattle.landmarks.proofs.Labelled.{placed, placed-before}
-use Rattle.landmarks.specs.Entries.{at_if, entry}
-use Rattle.landmarks.specs.Kept.{IsKept}
-use Rattle.landmarks.specs.Places.{own_place, place_in}
-use Rattle.numbering.proofs.Unbroken.{labels_once}
-use Rattle.numbering.specs.Checked.{items_in}
-use Rattle.programs.specs.Programs.{IsStatement}
+use Rattle.label_targets.proofs.Labelled.{placed, placed-before}
+use Rattle.label_targets.specs.Entries.{at_if, entry}
+use Rattle.label_targets.specs.Kept.{IsKept}
+use Rattle.label_targets.specs.Places.{own_place, place_in}
+use Rattle.storage.proofs.Unbroken.{labels_once}
+use Rattle.storage.specs.Checked.{items_in}
+use Rattle.program.specs.Programs.{IsStatement}
 use Rattle.evaluator.specs.Known.{AreStatements}
 use Rattle.evaluator.specs.Slices.{IsSlice}
 use Rattle.evaluator.proofs.Looped.{flat-before, split-all}

@@ -9,12 +9,12 @@ use Rattle.meaning.proofs.Ranges.{left_more}
 use Rattle.meaning.specs.Execution.{heads}
 use Rattle.meaning.specs.LabelRules.{is_label_at}
 use Rattle.meaning.specs.Trees.{Members, none, arms_tree, member_before, members_tree}
-use Rattle.landmarks.proofs.Labelled.{block_at, placed, placed-before}
-use Rattle.landmarks.specs.Entries.{entry}
-use Rattle.landmarks.specs.Kept.{AreKept, IsKept, IsPartKept}
-use Rattle.landmarks.specs.Lists.{IsListIn}
-use Rattle.landmarks.specs.Loud.{is_loud_in}
-use Rattle.landmarks.specs.Places.{own_place, place_in}
+use Rattle.label_targets.proofs.Labelled.{block_at, placed, placed-before}
+use Rattle.label_targets.specs.Entries.{entry}
+use Rattle.label_targets.specs.Kept.{AreKept, IsKept, IsPartKept}
+use Rattle.label_targets.specs.Lists.{IsListIn}
+use Rattle.label_targets.specs.Output.{has_output_in}
+use Rattle.label_targets.specs.Places.{own_place, place_in}
 use Rattle.evaluator.specs.Places.{IsLedTo}
 use Rattle.evaluator.specs.Slices.{IsSlice, IsSliceFrom}
 
@@ -25,7 +25,7 @@ whole_list t ms kept = record { own = kept.own; inner = kept.inner }
 
 module _ (t : Tree) where
   abbrev pub Inner : Members → Type 0
-  Inner ms = AreKept (place_in t) (is_loud_in t) (IsListIn t) ms
+  Inner ms = AreKept (place_in t) (has_output_in t) (IsListIn t) ms
 
   pub split : (x : Member) (ms : Members) → Inner (member_before x ms) → Inner (member_before x none) × Inner ms
   split (Plain x) ms h = (tt, h)

@@ -4,7 +4,8 @@ use Rattle.std.specs.Global.{Vec}
 use Rattle.meaning.specs.declared.ending.FaultKind.{FaultKind}
 use Rattle.meaning.specs.declared.ending.Value.{Value}
 use Rattle.meaning.specs.declared.syntax.Tree.{Tree}
-use Rattle.meaning.specs.Lists.{Listed, faulted, with_value, item_value, one_item, loop_listed, listed}
+use Rattle.meaning.specs.Lists.{Listed, faulted, with_value, item_value, one_item, loop_listed}
+use Rattle.meaning.specs.Lists.{listed}
 use Rattle.meaning.specs.Maps.{Map}
 use Rattle.meaning.specs.Stores.{World, Does}
 use Rattle.meaning.specs.Syntax.{ListItemTree, value_item, loop_item}
@@ -20,18 +21,25 @@ Items = Map → ℕ → Listed
 unfoldable pub item_listed : Scope → ListItemTree → Items
 item_listed s (value_item e) m left = item_value s e m left
 item_listed s (loop_item ys variable limits) m left =
-    one_item left m (λ n. with_value (span_of s limits m) m (λ span. loop_listed (listed s ys) variable m n span))
+    one_item left
+    m (λ n. with_value (span_of s limits m)
+    m (λ span. loop_listed (listed s ys) variable m n span))
 
 -- values behind those before, and the room that is left, whatever values the store stands on
-pub record Finds (t : Tree) (u v : World) (items : Items) (before after : List Value) (given left : ℕ) : Type 0 where
+pub record Finds (t : Tree) (u v : World) (items : Items) (before after : List Value)
+    (given left : ℕ) : Type 0 where
   pub values : List Value
   pub behind : after ≡ before ++ values
-  pub does : Does u v (λ m n. items (map_at t m) given ≡ Ok (record { values = values; map = map_at t n; left = left }))
+  pub does : Does u
+      v (λ m n. items (map_at t m) given
+      ≡ Ok (record { values = values; map = map_at t n; left = left }))
 
 -- or the fault, with the map that it leaves
-abbrev pub FindsOver : Tree → World → World → Items → List Value → List Value → ℕ → ℕ → Result (Unit {0}) FaultKind → Type 0
+abbrev pub FindsOver : Tree → World → World → Items → List Value → List Value → ℕ → ℕ →
+    Result (Unit {0}) FaultKind → Type 0
 FindsOver t u v items before after given left (Ok x) = Finds t u v items before after given left
-FindsOver t u v items before after given left (Err kind) = Does u v (λ m n. items (map_at t m) given ≡ faulted kind (map_at t n))
+FindsOver t u v items before after given left (Err kind) =
+    Does u v (λ m n. items (map_at t m) given ≡ faulted kind (map_at t n))
 
 -- ---- a whole list
 

@@ -20,7 +20,8 @@ passed_behind (outcomes.Left s) = Ended (outcomes.Left s)
 passed_behind (outcomes.Stopped line) = Ended (outcomes.Stopped line)
 passed_behind (outcomes.Fault f) = Ended (outcomes.Fault f)
 
--- the turns that are left, whatever was lost: a transfer has taken one, and so has what is executed again
+-- the turns that are left, whatever was lost: a transfer has taken one, and so has what is executed
+-- again
 abbrev pub SpendsBy : Passed → ℕ → ℕ → Type 0
 SpendsBy (Ended o) old new = Spends o old new
 SpendsBy Again old new = new < old

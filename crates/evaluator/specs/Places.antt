@@ -2,9 +2,10 @@
 use Rattle.std.specs.Prelude.{◌≡◌, ℕ, Option, Some, None}
 use Rattle.meaning.specs.declared.syntax.Member.{Member}
 use Rattle.meaning.specs.Execution.{Next, onward, at_label}
-use Rattle.landmarks.specs.Entries.{entry}
+use Rattle.label_targets.specs.Entries.{entry}
 
--- the label by which a transfer leads to a member, and how far behind its beginning it goes on; none where no label does
+-- the label by which a transfer leads to a member, and how far behind its beginning it goes on;
+-- none where no label does
 abbrev pub IsLedTo : Member → Option (ℕ × ℕ) → Type 0
 IsLedTo x (Some h) = entry h.0 x ≡ Some h.1
 IsLedTo x None = (s : ℕ) → entry s x ≡ None

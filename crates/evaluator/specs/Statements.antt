@@ -1,5 +1,6 @@
 -- What the parts of one statement give.
-use Rattle.std.specs.Prelude.{◌≡◌, ◌<◌, ◌≤◌, ℕ, suc, ℤ, ◌+◌, ◌+ℤ◌, Bool, true, false, List, [], Result, Ok, Err}
+use Rattle.std.specs.Prelude.{◌≡◌, ◌<◌, ◌≤◌, ℕ, suc, ℤ, ◌+◌, ◌+ℤ◌, Bool, true, false, List, []}
+use Rattle.std.specs.Prelude.{Result, Ok, Err}
 use Rattle.meaning.specs.declared.ending.Fault.{Fault}
 use Rattle.meaning.specs.declared.ending.FaultKind.{FaultKind}
 use Rattle.meaning.specs.declared.ending.Outcome.{Outcome}
@@ -8,7 +9,8 @@ use Rattle.meaning.specs.declared.ending.Run.{Run}
 use Rattle.meaning.specs.declared.ending.Value.{Value}
 use Rattle.meaning.specs.Maps.{Map, put}
 use Rattle.meaning.specs.Values.{as_integer, integer}
-use Rattle.meaning.specs.Execution.{Outcome as Ended, normal, jump, stopped, fault, Ran, more, Next, onward, at_label, Follow, Ways}
+use Rattle.meaning.specs.Execution.{Outcome as Ended, normal, jump, stopped, fault, Ran, more, Next}
+use Rattle.meaning.specs.Execution.{onward, at_label, Follow, Ways}
 
 abbrev pub outcome_of : Outcome → Ended
 outcome_of outcomes.Normal = normal
@@ -37,17 +39,20 @@ pub record Leaves (r : Ran) (given : ℕ) (new : Map) (left : ℕ) (o : Outcome)
   pub turns : r.used + left ≡ given
 
 -- a statement that goes on there from this map and these turns
-pub record Passes (does : Ways → Ran) (given : ℕ) (next : Next) (new : Map) (left : ℕ) : Type 0 where
-  pub used : ℕ
-  pub is : (go : Ways) → does go ≡ more [] used (go next new left)
-  pub turns : used + left ≡ given
+pub record Passes (does : Ways → Ran) (given : ℕ) (next : Next) (new : Map) (left : ℕ) : Type 0
+  where
+    pub used : ℕ
+    pub is : (go : Ways) → does go ≡ more [] used (go next new left)
+    pub turns : used + left ≡ given
 
 -- a statement, which goes on or ends, whatever follows
 abbrev pub Moves : (Ways → Ran) → ℕ → Map → ℕ → Outcome → Type 0
 Moves does given new left outcomes.Normal = Passes does given onward new left
 Moves does given new left (outcomes.Left s) = Passes does given (at_label s) new left
-Moves does given new left (outcomes.Stopped line) = (go : Ways) → Leaves (does go) given new left (outcomes.Stopped line)
-Moves does given new left (outcomes.Fault f) = (go : Ways) → Leaves (does go) given new left (outcomes.Fault f)
+Moves does given new left (outcomes.Stopped line) =
+    (go : Ways) → Leaves (does go) given new left (outcomes.Stopped line)
+Moves does given new left (outcomes.Fault f) =
+    (go : Ways) → Leaves (does go) given new left (outcomes.Fault f)
 
 -- the turns that are left, whatever was lost: a transfer has taken one
 abbrev pub Spends : Outcome → ℕ → ℕ → Type 0
@@ -69,7 +74,8 @@ pub record Comes (whole rest : Ways → Ran) (given left : ℕ) : Type 0 where
   pub turns : used + left ≡ given
 
 -- a DO WHILE whose range ended normally: from this map and these turns it is executed again
-pub record GoesAgain (does : Ways → Ran) (given : ℕ) (again : Follow) (new : Map) (left : ℕ) : Type 0 where
+pub record GoesAgain (does : Ways → Ran) (given : ℕ) (again : Follow) (new : Map) (left : ℕ) : Type
+    0 where
   pub used : ℕ
   pub is : (go : Ways) → does go ≡ more [] used (again new left)
   pub turns : used + left ≡ given
@@ -77,14 +83,16 @@ pub record GoesAgain (does : Ways → Ran) (given : ℕ) (again : Follow) (new :
 -- ---- the tests of conditions
 
 -- whether what is tested is picked, with these turns left
-pub record Picks (does : (Bool → ℕ → Ran) → Ran) (given : ℕ) (picked : Bool) (left : ℕ) : Type 0 where
-  pub used : ℕ
-  pub is : (go : Bool → ℕ → Ran) → does go ≡ more [] used (go picked left)
-  pub turns : used + left ≡ given
+pub record Picks (does : (Bool → ℕ → Ran) → Ran) (given : ℕ) (picked : Bool) (left : ℕ) : Type 0
+  where
+    pub used : ℕ
+    pub is : (go : Bool → ℕ → Ran) → does go ≡ more [] used (go picked left)
+    pub turns : used + left ≡ given
 
 abbrev pub Tests : ((Bool → ℕ → Ran) → Ran) → ℕ → Map → ℕ → Result Bool Fault → Type 0
 Tests does given m left (Ok picked) = Picks does given picked left
-Tests does given m left (Err f) = (go : Bool → ℕ → Ran) → Leaves (does go) given m left (outcomes.Fault f)
+Tests does given m left (Err f) =
+    (go : Bool → ℕ → Ran) → Leaves (does go) given m left (outcomes.Fault f)
 
 -- ---- the parts of a statement
 

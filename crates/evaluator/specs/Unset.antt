@@ -9,4 +9,5 @@ use Rattle.meaning.specs.Trees.{members_tree}
 -- no statement of its range sets its variable
 abbrev pub LeavesItsVariable : Loop → Type 0
 LeavesItsVariable l =
-    AllByRecursion (λ v. NeverSets v (members_tree (out-Loop l).range.items)) (counted_by (shape_tree (out-Loop l).head.form.shape.value))
+    AllByRecursion (λ v. NeverSets v (members_tree (out-Loop l).range.items))
+    (counted_by (shape_tree (out-Loop l).head.form.shape.value))

@@ -1,22 +1,23 @@
-//! Statements that stand by themselves and write nothing (ANSI X3.9-1978, 10.1, 11.1 to 11.5, 11.11 and 11.12), and the
-//! conditions of block IFs (11.6 and 11.7).
+//! Statements that stand by themselves and write nothing (ANSI X3.9-1978, 10.1, 11.1 to 11.5, 11.11
+//! and 11.12), and the conditions of block IFs (11.6 and 11.7).
 
 ghost use Rattle.std.specs.Prelude.{◌≡◌, ◌<◌, ◌≤◌, ℕ, List, IsTrue, IfOk, map, not};
 ghost use Rattle.meaning.specs.Characters.{number_of};
 ghost use Rattle.meaning.specs.Execution.{at_label, by_count, by_sign, simple};
 ghost use Rattle.meaning.specs.Maps.{Map};
 ghost use Rattle.meaning.specs.Stores.{IsLater, Reads};
-ghost use Rattle.meaning.specs.Syntax.{ExprTree, ItemTree, ShapeTree, StopTree, continuing, shape_tree, stopping};
+ghost use Rattle.meaning.specs.Syntax.{ExprTree, ItemTree, ShapeTree, StopTree, continuing};
+ghost use Rattle.meaning.specs.Syntax.{shape_tree, stopping};
 ghost use Rattle.meaning.specs.Trees.{item_tree};
-ghost use Rattle.numbering.specs.Checked.{items_in, count_in};
-ghost use Rattle.programs.specs.Acts.{Acts, Goes, GoesByCount, GoesBySign};
-ghost use Rattle.programs.specs.Asked.{ConditionIs};
-ghost use Rattle.programs.specs.Codes.{IsCode};
-ghost use Rattle.programs.specs.Programs.{IsStatement};
+ghost use Rattle.storage.specs.Checked.{items_in, count_in};
+ghost use Rattle.program.specs.Acts.{Acts, Goes, GoesByCount, GoesBySign};
+ghost use Rattle.program.specs.Asked.{ConditionIs};
+ghost use Rattle.program.specs.Codes.{IsCode};
+ghost use Rattle.program.specs.Programs.{IsStatement};
 ghost use Rattle.evaluator.specs.Over.{ConditionAt, StaysAt, TestsAt};
 ghost use Rattle.evaluator.specs.Parts.{IsBare};
 ghost use Rattle.evaluator.specs.Places.{next_of};
-ghost use Rattle.landmarks.specs.Quiet.{writes};
+ghost use Rattle.label_targets.specs.Quiet.{writes};
 ghost use Rattle.evaluator.specs.Statements.{Moves, Spends, TakesTurn};
 
 use array_store::Store;
@@ -24,7 +25,7 @@ use expressions::{as_integer, as_logical};
 use meaning::ending::{Fault, FaultKind, Outcome};
 use meaning::syntax::Item;
 use postfix::Code;
-use programs::{Action, Program};
+use program::{Action, Program};
 use values::value;
 
 /// Takes one of the turns that are left, if there is one.
@@ -136,7 +137,8 @@ fn run_computed_go_to<S: Store>(
 
 // The label that an arithmetic IF picks, by a value that is negative, zero or positive.
 fn signed_target(value: i32, negative: u32, zero: u32, positive: u32) -> u32
-    ensures { (below at_zero above : List ℕ) → number_of below ≡ negative → number_of at_zero ≡ zero →
+    ensures { (below at_zero above : List ℕ) → number_of below ≡ negative → number_of at_zero
+        ≡ zero →
         number_of above ≡ positive → at_label result ≡ by_sign below at_zero above value }
 {
     if value < 0 {
@@ -180,7 +182,8 @@ fn run_arithmetic_if<S: Store>(
     }
 }
 
-/// Executes a statement without an assignment or a logical IF in it, which writes nothing, or passes over one that isn't executable.
+/// Executes a statement without an assignment or a logical IF in it, which writes nothing, or
+/// passes over one that isn't executable.
 #[inline(always)]
 pub(crate) fn run_bare<S: Store>(
     program: &Program,
@@ -230,7 +233,8 @@ fn condition_in<'a>(program: &'a Program, head: &Item) -> Option<&'a Code>
     }
 }
 
-/// Whether the condition of a statement at a line is true, or the fault of its test, which takes a turn.
+/// Whether the condition of a statement at a line is true, or the fault of its test, which takes a
+/// turn.
 #[inline(always)]
 pub fn test_condition<S: Store>(
     program: &Program,
@@ -258,8 +262,8 @@ pub fn test_condition<S: Store>(
     }
 }
 
-/// Whether an arm of a block IF is executed, or the fault of its test. The block IF takes a turn, so its first arm does in any
-/// case; each ELSE IF that is tested takes another, and ELSE none.
+/// Whether an arm of a block IF is executed, or the fault of its test. The block IF takes a turn,
+/// so its first arm does in any case; each ELSE IF that is tested takes another, and ELSE none.
 pub fn test_arm<S: Store>(
     program: &Program,
     first: bool,

@@ -1,4 +1,5 @@
-//! Statements without output, executed over any store (ANSI X3.9-1978, 10.1, chapter 11 and 12.8.2).
+//! Statements without output, executed over any store (ANSI X3.9-1978, 10.1, chapter 11 and
+//! 12.8.2).
 #![tactic(auto)]
 
 mod assignment;

@@ -3,15 +3,16 @@
 ghost use Rattle.std.specs.Prelude.{◌≡◌, ◌≤◌, IfSome, drop, length, option_map};
 ghost use Rattle.meaning.specs.Execution.{labelled};
 ghost use Rattle.meaning.specs.Trees.{members_tree};
-ghost use Rattle.landmarks.specs.Kept.{IsKept};
+ghost use Rattle.label_targets.specs.Kept.{IsKept};
 ghost use Rattle.evaluator.specs.Slices.{IsSliceFrom};
 
-use landmarks::place_in_slice;
+use label_targets::place_in_slice;
 use meaning::syntax::Member;
-use programs::Program;
+use program::Program;
 
-// Where in a slice of the program, which begins at a place of its list, a transfer to the label goes on, if the slice has the
-// label: at the first member that begins with it, or behind the block IF whose END IF statement has it.
+// Where in a slice of the program, which begins at a place of its list, a transfer to the label
+// goes on, if the slice has the label: at the first member that begins with it, or behind the block
+// IF whose END IF statement has it.
 pub(crate) fn place_from(
     program: &Program,
     members: &[Member],
@@ -26,8 +27,8 @@ pub(crate) fn place_from(
     place_in_slice(members, first, program.place(label), label)
 }
 
-/// Where in a list of the program a transfer to the label goes on, if the list has the label: at the first member that begins
-/// with it, or behind the block IF whose END IF statement has it.
+/// Where in a list of the program a transfer to the label goes on, if the list has the label: at
+/// the first member that begins with it, or behind the block IF whose END IF statement has it.
 pub fn place_of(program: &Program, members: &[Member], label: u32) -> Option<usize>
     requires kept { IsKept program.now (members_tree members.now) }
     ensures at { option_map (λ i. members_tree (drop i members.now)) result ≡

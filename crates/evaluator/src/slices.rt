@@ -9,7 +9,7 @@ ghost use Rattle.evaluator.specs.Places.{IsLedTo};
 ghost use Rattle.evaluator.specs.Slices.{IsSlice, IsSliceFrom};
 
 use meaning::syntax::{Arm, Member};
-use programs::Program;
+use program::Program;
 
 // The label of a block IF, which is that of its first arm.
 fn label_of(arms: &[Arm]) -> Option<u32>
@@ -21,8 +21,8 @@ fn label_of(arms: &[Arm]) -> Option<u32>
     }
 }
 
-// The label by which a transfer leads to a member, if there is one, and how far behind its beginning: the label of its first
-// statement, or else that of its END IF statement.
+// The label by which a transfer leads to a member, if there is one, and how far behind its
+// beginning: the label of its first statement, or else that of its END IF statement.
 fn led_by(member: &Member) -> Option<(u32, usize)>
     ensures is { IsLedTo member.now result }
     ensures near { IfSome result (λ h. h.1 ≤ 1) }
@@ -37,8 +37,8 @@ fn led_by(member: &Member) -> Option<(u32, usize)>
     }
 }
 
-// The place in its list at which a slice of the program begins, by the first of its members that a label leads to; any place
-// will do where no label leads to one.
+// The place in its list at which a slice of the program begins, by the first of its members that a
+// label leads to; any place will do where no label leads to one.
 pub(crate) fn first_of(program: &Program, members: &[Member]) -> usize
     requires slice { IsSlice program.now (members_tree members.now) }
     ensures { IsSliceFrom program.now result (members_tree members.now) }
@@ -57,7 +57,8 @@ pub(crate) fn first_of(program: &Program, members: &[Member]) -> usize
     0
 }
 
-/// The members of a program's body from one place up to another, which `run_list` executes where they write nothing.
+/// The members of a program's body from one place up to another, which `run_list` executes where
+/// they write nothing.
 pub fn body_members(program: &Program, from: usize, to: usize) -> &[Member]
     requires order { from ≤ to }
     requires within { to ≤ length program.now.body.items }

@@ -1,5 +1,6 @@
-//! Statements that write nothing, by their codes: assignments, and logical IFs with what stands under them (ANSI X3.9-1978, 10.1 and
-//! 11.5), over any store. All their codes are run at one place, in which the machine stands.
+//! Statements that write nothing, by their codes: assignments, and logical IFs with what stands
+//! under them (ANSI X3.9-1978, 10.1 and 11.5), over any store. All their codes are run at one
+//! place, in which the machine stands.
 
 ghost use Rattle.std.specs.Prelude.{◌≡◌, ◌≤◌, ℕ, IsOk, IsTrue, IfOk, not};
 ghost use Rattle.meaning.specs.declared.syntax.Tree.{Tree};
@@ -7,13 +8,14 @@ ghost use Rattle.meaning.specs.Execution.{step};
 ghost use Rattle.meaning.specs.Stores.{IsLater};
 ghost use Rattle.meaning.specs.Syntax.{ShapeTree, shape_tree};
 ghost use Rattle.meaning.specs.Trees.{item_tree};
-ghost use Rattle.landmarks.specs.Quiet.{is_writing};
-ghost use Rattle.numbering.specs.Checked.{items_in, count_in};
-ghost use Rattle.programs.specs.Acts.{Acts};
-ghost use Rattle.programs.specs.Programs.{IsStatement};
+ghost use Rattle.label_targets.specs.Quiet.{is_writing};
+ghost use Rattle.storage.specs.Checked.{items_in, count_in};
+ghost use Rattle.program.specs.Acts.{Acts};
+ghost use Rattle.program.specs.Programs.{IsStatement};
 ghost use Rattle.evaluator.specs.Acting.{IsOfStatement};
 ghost use Rattle.evaluator.specs.Over.{MovesOver};
-ghost use Rattle.evaluator.specs.Parts.{AssignsBy, IsBareUnless, IsPart, IsSafe, IsSafeIf, IsShortIf, Rest, StepsBy};
+ghost use Rattle.evaluator.specs.Parts.{AssignsBy, IsBareUnless, IsPart, IsSafe, IsSafeIf};
+ghost use Rattle.evaluator.specs.Parts.{IsShortIf, Rest, StepsBy};
 ghost use Rattle.evaluator.specs.Statements.{Spends};
 
 use crate::control::{run_bare, take_turn};
@@ -23,7 +25,7 @@ use meaning::cell::Cell;
 use meaning::ending::{Fault, FaultKind, Outcome};
 use meaning::syntax::Item;
 use postfix::Code;
-use programs::{Action, Program, Target};
+use program::{Action, Program, Target};
 use std::alloc::AllocError;
 use values::{cell_by, number_of, value_by};
 
@@ -86,7 +88,8 @@ fn first_part(action: &Action) -> Option<Part<'_>>
     }
 }
 
-// Runs the codes that are left of a statement, one after another, and does what it says with their numbers.
+// Runs the codes that are left of a statement, one after another, and does what it says with their
+// numbers.
 #[inline(always)]
 fn run_codes<S: Store>(
     program: &Program,
@@ -172,8 +175,8 @@ fn run_action<S: Store>(
     }
 }
 
-/// Executes one statement that stands by itself and writes nothing, or passes over one that isn't executable. The
-/// `AllocError` comes where the store refused a write.
+/// Executes one statement that stands by itself and writes nothing, or passes over one that isn't
+/// executable. The `AllocError` comes where the store refused a write.
 #[inline(always)]
 pub fn run_item<S: Store>(
     program: &Program,

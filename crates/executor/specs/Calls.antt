@@ -3,9 +3,9 @@ use Rattle.std.specs.Prelude.{◌≡◌, ◌≢◌, ◌≤◌, ℕ, ℤ, List, l
 use Rattle.meaning.specs.declared.syntax.Loop.{Loop, out-Loop}
 use Rattle.meaning.specs.declared.syntax.Tree.{Tree}
 use Rattle.meaning.specs.Syntax.{shape_tree}
-use Rattle.numbering.specs.Checked.{count_in}
-use Rattle.programs.specs.declared.action.Repeat.{Repeat}
-use Rattle.programs.specs.Acts.{Repeats}
+use Rattle.storage.specs.Checked.{count_in}
+use Rattle.program.specs.declared.action.Repeat.{Repeat}
+use Rattle.program.specs.Acts.{Repeats}
 use Rattle.whole_runs.specs.declared.trips.Advance.{Advance}
 use Rattle.whole_runs.specs.declared.trips.Remaining.{Remaining}
 use Rattle.whole_runs.specs.Trips.{IsQuietLoop, LeavesIn, trips_in}

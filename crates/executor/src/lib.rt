@@ -8,5 +8,5 @@ mod staged;
 
 pub use program_runs::{InOrder, QuietLoops};
 pub use record_sinks::{Out, Refused, Sink, put_all};
-pub use stage_loop::{Cause, Dependence, Gate, Open, StageTold, Unwatched, Watcher};
+pub use stage_loop::{Cause, Dependence, Gate, Observer, Open, StageStats, Unwatched};
 pub use staged::{Staged, Watched};

@@ -12,10 +12,10 @@ pub use in_order::{run_by, run_in_order};
 use meaning::ending::{Ending, Report};
 use meaning::plan::Plan;
 use meaning::syntax::Loop;
+use program::{Program, Repeat};
 use program_runs::{InOrder, QuietLoops};
-use programs::{Program, Repeat};
 use record_sinks::Sink;
-use stage_loop::{Gate, Kept, Unwatched, Watcher, run_some_trips};
+use stage_loop::{DoLoop, Gate, LoopHistory, Observer, Speculation, Unwatched, run_some_trips};
 use std::alloc::Global;
 use std::cell::Cell;
 use std::sync::Wait;
@@ -48,7 +48,7 @@ pub fn run<R: Threads + Wait + Sync, S: Sink, G: Gate + Sync>(
 /// The same with a watcher, which is told of each DO statement that is run by stages, and of its
 /// stages; with one worker there are none. It is told of a fault that ends the program, too. What
 /// it does is never seen in the answer.
-pub fn run_watched<R: Threads + Wait + Sync, S: Sink, G: Gate + Sync, W: Watcher>(
+pub fn run_watched<R: Threads + Wait + Sync, S: Sink, G: Gate + Sync, W: Observer>(
     rt: &R,
     alloc: Global,
     source: &[u8],
@@ -70,14 +70,14 @@ pub fn run_watched<R: Threads + Wait + Sync, S: Sink, G: Gate + Sync, W: Watcher
         sink,
         gate,
         watcher,
-        Kept::new(alloc),
+        LoopHistory::new(alloc),
     )
 }
 
 /// The same, where DO statements are tried only as far as that is worth it, by what their trips
 /// cost and what came of earlier stages. The plan's blocks say nothing then; its window is the most
 /// blocks of a stage, and its workers are the most workers.
-pub fn run_adaptive<R: Threads + Wait + Sync, S: Sink, G: Gate + Sync, W: Watcher>(
+pub fn run_adaptive<R: Threads + Wait + Sync, S: Sink, G: Gate + Sync, W: Observer>(
     rt: &R,
     alloc: Global,
     source: &[u8],
@@ -99,12 +99,12 @@ pub fn run_adaptive<R: Threads + Wait + Sync, S: Sink, G: Gate + Sync, W: Watche
         sink,
         gate,
         watcher,
-        Kept::adaptive(alloc),
+        LoopHistory::adaptive(alloc),
     )
 }
 
 // Runs a source, where this is what is known of its DO statements at first.
-fn run_keeping<R: Threads + Wait + Sync, S: Sink, G: Gate + Sync, W: Watcher>(
+fn run_keeping<R: Threads + Wait + Sync, S: Sink, G: Gate + Sync, W: Observer>(
     rt: &R,
     alloc: Global,
     source: &[u8],
@@ -112,7 +112,7 @@ fn run_keeping<R: Threads + Wait + Sync, S: Sink, G: Gate + Sync, W: Watcher>(
     sink: &mut S,
     gate: &G,
     watcher: &W,
-    first: Kept,
+    first: LoopHistory,
 ) -> Report
     requires { (S.told sink.old).refused ≡ false }
     ensures promise { Keeps (answer source.now plan.now.turns)
@@ -127,6 +127,12 @@ fn run_keeping<R: Threads + Wait + Sync, S: Sink, G: Gate + Sync, W: Watcher>(
     // asking that.
     let kept = Cell::new(first);
     let briefs = Briefs::new();
+    let context = Speculation {
+        rt,
+        alloc,
+        plan,
+        gate,
+    };
     let staged = Staged {
         call: |program: &Program, repeated: &Loop, repeat: &Repeat, remaining: Remaining, cells: &mut Whole, turns: &mut u64| -> Advance
             requires { IsAsked program.now repeated.now repeat.now remaining cells.now }
@@ -142,11 +148,15 @@ fn run_keeping<R: Threads + Wait + Sync, S: Sink, G: Gate + Sync, W: Watcher>(
                 briefs.count(line, given.saturating_sub(*turns));
                 return advance;
             }
-            let mut own = kept.replace(Kept::new(alloc));
+            let mut own = kept.replace(LoopHistory::new(alloc));
             own.count_brief(briefs.take_used());
+            let statement = DoLoop {
+                program,
+                repeated,
+                repeat,
+            };
             let advance = run_some_trips(
-                rt, alloc, program, repeated, repeat, remaining, cells, turns, plan, &mut own,
-                gate, watcher,
+                &context, watcher, &statement, remaining, cells, turns, &mut own,
             );
             briefs.keep(line, own.brief_of(line));
             kept.set(own);

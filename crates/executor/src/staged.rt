@@ -5,14 +5,14 @@ ghost use Rattle.executor.specs.Calls.{IsAsked, IsGiven};
 use array_store::Whole;
 use meaning::ending::Fault;
 use meaning::syntax::Loop;
+use program::{Program, Repeat};
 use program_runs::{InOrder, QuietLoops};
-use programs::{Program, Repeat};
-use stage_loop::Watcher;
+use stage_loop::Observer;
 use whole_runs::{Advance, Remaining};
 
 /// By calls of a closure, each of which executes trips of a DO statement.
 #[derive(Drop)]
-pub struct Staged<'w, F, W: Watcher> {
+pub struct Staged<'w, F, W: Observer> {
     /// What is called.
     pub call: F,
     /// Who is told of DO statements without trips, and of a fault that ends the program.
@@ -22,7 +22,7 @@ pub struct Staged<'w, F, W: Watcher> {
 impl<
     'w,
     F: Fn(&Program, &Loop, &Repeat, Remaining, &mut Whole, &mut u64) -> Advance,
-    W: Watcher,
+    W: Observer,
 > QuietLoops for Staged<'w, F, W> {
     ghost ready = { λ s.
         ((p : _) (l : _) (r : _) (m : _) (c : _) (t : _) → IsAsked p.now l.now r.now m c.now →
@@ -54,12 +54,12 @@ impl<
 
 /// One trip after another, with somebody who is told of a fault that ends the program.
 #[derive(Drop)]
-pub struct Watched<'w, W: Watcher> {
+pub struct Watched<'w, W: Observer> {
     /// Who is told.
     pub watcher: &'w W,
 }
 
-impl<'w, W: Watcher> QuietLoops for Watched<'w, W> {
+impl<'w, W: Observer> QuietLoops for Watched<'w, W> {
     ghost ready = { λ _. Unit {0} };
 
     fn run_trips(

@@ -1,4 +1,5 @@
-//! The expressions of a statement, each with the type that its place asks for (ANSI X3.9-1978, chapters 5 to 13).
+//! The expressions of a statement, each with the type that its place asks for (ANSI X3.9-1978,
+//! chapters 5 to 13).
 #![tactic(auto)]
 
 mod expected;

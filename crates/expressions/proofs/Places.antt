@@ -3,7 +3,7 @@ use Rattle.std.proofs.Common.{◌≡◌, ℕ, suc, ◌+◌, ◌*◌, ◌<◌, �
 use Rattle.std.proofs.Math.Nat.{mul-add, mul_assoc, mul-le-mul_left}
 use Rattle.std.proofs.lemmas.Bool.{true≢false}
 use Rattle.meaning.specs.Arrays.{Dimension, place}
-use Rattle.expressions.specs.declared.place.Place.{Place}
+use Rattle.expressions.specs.declared.place.ElementAddress.{ElementAddress}
 use Rattle.expressions.specs.declared.dimension.Dimension.{Dimension as Own}
 use Rattle.expressions.specs.Dimensions.{dimension}
 use Rattle.expressions.specs.Places.{left, from_cell, behind}
@@ -25,7 +25,7 @@ module _ (c s k e m count : ℕ) where
   distance_below le h = let p = moved_below le h in omega (arith, p)
 
 -- subscripts are left
-pub no_cell : (p : Place) → (left p ≡ [] → ⊥) → behind p [] ≡ None
+pub no_cell : (p : ElementAddress) → (left p ≡ [] → ⊥) → behind p [] ≡ None
 no_cell p some = by (left p) refl p.cell
   where
     by : (ds : List Dimension) → left p ≡ ds → (o : Option ℕ) → from_cell o p.stride (place (left p) []) ≡ None

@@ -1,5 +1,7 @@
--- Functions in expressions: the names of their dummies, what they make of their arguments, and which may be called.
-use Rattle.std.specs.Prelude.{◌≡◌, ◌<◌, ℕ, pos, false, List, [], map, slice_get, Option, Some, None, Ok}
+-- Functions in expressions: the names of their dummies, what they make of their arguments, and
+-- which may be called.
+use Rattle.std.specs.Prelude.{◌≡◌, ◌<◌, ℕ, pos, false, List, [], map, slice_get, Option, Some, None}
+use Rattle.std.specs.Prelude.{Ok}
 use Rattle.std.specs.Str.{bytes_eq}
 use Rattle.std.specs.Borrow.{Bor}
 use Rattle.meaning.specs.declared.ending.Value.TheVariants as values
@@ -44,11 +46,13 @@ nothing_behind s es m = arguments s es m >>= λ vs. Ok (values.Int (pos 0))
 
 -- none of the first so many statement functions has the name
 abbrev pub AreOthers : List Definition → ℕ → List ℕ → Type 0
-AreOthers ds n letters = (at : ℕ) (d : Definition) → at < n → slice_get ds at ≡ Some d → bytes_eq letters d.name ≡ false
+AreOthers ds n letters =
+    (at : ℕ) (d : Definition) → at < n → slice_get ds at ≡ Some d → bytes_eq letters d.name ≡ false
 
--- the first so many statement functions have this one, whose expression may call those before it; or none of them has the name, which
--- is that of an intrinsic function at most
+-- the first so many statement functions have this one, whose expression may call those before it;
+-- or none of them has the name, which is that of an intrinsic function at most
 abbrev pub IsCallable : Glossary → ℕ → List ℕ → Option Function → Type 0
 IsCallable g n letters (Some f) = IsDefined g.definitions letters f × (f.at < n)
 IsCallable g n letters None =
-    ((scope_in g [] [] n).calls letters ≡ intrinsic_call (intrinsic_named letters)) × AreOthers g.definitions n letters
+    ((scope_in g [] [] n).calls letters ≡ intrinsic_call (intrinsic_named letters))
+    × AreOthers g.definitions n letters

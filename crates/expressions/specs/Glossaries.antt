@@ -1,7 +1,9 @@
 -- What the names of a program unit stand for, and the scope of an expression in it.
-use Rattle.std.specs.Prelude.{ℕ, zero, suc, ◌+◌, List, [], ◌∷◌, Option, Some, None, slice_get, reverse}
+use Rattle.std.specs.Prelude.{ℕ, zero, suc, ◌+◌, List, [], ◌∷◌, Option, Some, None, slice_get}
+use Rattle.std.specs.Prelude.{reverse}
 use Rattle.meaning.specs.declared.ending.Value.{Value}
-use Rattle.meaning.specs.Syntax.{ExprTree, number, truth, name, signed, negated, binary, paren, element, call, ExprsTree, no_exprs, exprs}
+use Rattle.meaning.specs.Syntax.{ExprTree, number, truth, name, signed, negated, binary, paren}
+use Rattle.meaning.specs.Syntax.{element, call, ExprsTree, no_exprs, exprs}
 use Rattle.meaning.specs.Types.{Types}
 use Rattle.meaning.specs.Values.{Arrays, Known, Scope}
 use Rattle.meaning.specs.Scopes.{Definition, nothing_known, with_dummies, calls_by}
@@ -15,7 +17,14 @@ pub record Glossary : Type 0 where
 
 -- the scope of a statement
 abbrev pub scope_by : Glossary → Scope
-scope_by g = record { types = g.types; arrays = g.arrays; known = g.known; calls = calls_by g.types g.arrays g.known (reverse g.definitions) }
+scope_by g =
+    record {
+      types = g.types;
+      arrays = g.arrays;
+      known = g.known;
+      calls = calls_by g.types g.arrays
+          g.known (reverse g.definitions);
+    }
 
 abbrev pub in_front : Option Definition → List Definition → List Definition
 in_front None ds = ds
@@ -29,11 +38,18 @@ before ds (suc n) = in_front (slice_get ds n) (before ds n)
 -- the scope of an expression with these dummies and their values, which may call so many functions
 abbrev pub scope_in : Glossary → List ExprTree → List Value → ℕ → Scope
 scope_in g dummies vs n =
-    record { types = g.types; arrays = g.arrays; known = with_dummies dummies vs g.known; calls = calls_by g.types g.arrays g.known (before g.definitions n) }
+    record {
+      types = g.types;
+      arrays = g.arrays;
+      known = with_dummies dummies vs g.known;
+      calls =
+          calls_by g.types g.arrays g.known (before g.definitions n);
+    }
 
 -- no name stands for anything
 abbrev pub nothing_named : Glossary
-nothing_named = record { types = λ n. None; arrays = λ n. None; known = nothing_known; definitions = [] }
+nothing_named =
+    record { types = λ n. None; arrays = λ n. None; known = nothing_known; definitions = [] }
 
 -- ---- how long an evaluation can take
 

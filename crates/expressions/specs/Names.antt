@@ -1,5 +1,6 @@
 -- What a numbering says of a name.
-use Rattle.std.specs.Prelude.{◌≡◌, ◌≤◌, ◌<◌, ◌^◌, ℕ, ℤ, true, false, List, length, Option, Some, None, slice_get}
+use Rattle.std.specs.Prelude.{◌≡◌, ◌≤◌, ◌<◌, ◌^◌, ℕ, ℤ, true, false, List, length, Option, Some}
+use Rattle.std.specs.Prelude.{None, slice_get}
 use Rattle.std.specs.Str.{bytes_eq}
 use Rattle.meaning.specs.Syntax.{expr_tree, exprs_tree}
 use Rattle.meaning.specs.Maps.{CellNumbers}
@@ -32,14 +33,17 @@ module _ (g : Glossary) (numbers : CellNumbers) (count : ℕ) (n : List ℕ) whe
 -- ---- statement functions
 
 abbrev pub definition_by : List ℕ → Function → Definition
-definition_by n f = record { name = n; dummies = listed (exprs_tree f.dummies.now); body = expr_tree f.body.now }
+definition_by n f =
+    record { name = n; dummies = listed (exprs_tree f.dummies.now); body = expr_tree f.body.now }
 
 -- it stands at its place, no other has its name, and it has sixteen dummies at most
 pub record IsDefined (ds : List Definition) (n : List ℕ) (f : Function) : Type 0 where
   pub found : slice_get ds f.at ≡ Some (definition_by n f)
-  pub only : (k : ℕ) (d : Definition) → slice_get ds k ≡ Some d → bytes_eq n d.name ≡ true → k ≡ f.at
+  pub only : (k : ℕ) (d : Definition) → slice_get ds k ≡ Some d → bytes_eq n d.name ≡ true → k
+      ≡ f.at
   pub few : length (listed (exprs_tree f.dummies.now)) ≤ 16
 
 abbrev pub IsFunction : List Definition → List ℕ → Option Function → Type 0
-IsFunction ds n None = (k : ℕ) (d : Definition) → slice_get ds k ≡ Some d → bytes_eq n d.name ≡ false
+IsFunction ds n None =
+    (k : ℕ) (d : Definition) → slice_get ds k ≡ Some d → bytes_eq n d.name ≡ false
 IsFunction ds n (Some f) = IsDefined ds n f

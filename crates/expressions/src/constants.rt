@@ -36,12 +36,14 @@ pub trait Constants {
         ensures { result ≡ known self.now name.now };
 }
 
-/// The value of an expression of constants, or its leftmost fault. A name that is no constant's would count as 0 or
-/// false, and as 0 with arguments.
+/// The value of an expression of constants, or its leftmost fault. A name that is no constant's
+/// would count as 0 or false, and as 0 with arguments.
 #[cycle(evaluation)]
 pub fn constant_value<C: Constants>(expression: &Expr, constants: &C) -> Result<Value, FaultKind>
     requires { C.is_sound constants.now }
-    ensures { result ≡ value_of (constants_alone (C.types constants.now) (C.known constants.now)) (expr_tree expression.now) start }
+    ensures { result
+        ≡ value_of (constants_alone (C.types constants.now) (C.known constants.now))
+        (expr_tree expression.now) start }
 {
     match expression {
         Expr::Number(digits) => constant(digits),
@@ -74,7 +76,8 @@ pub fn constant_value<C: Constants>(expression: &Expr, constants: &C) -> Result<
 // The value of a name.
 fn name_value<C: Constants>(name: &[u8], constants: &C) -> Value
     requires { C.is_sound constants.now }
-    ensures { or_known (C.known constants.now name.now) (typed (C.types constants.now name.now) (pos 0)) ≡ Ok result }
+    ensures { or_known (C.known constants.now name.now)
+        (typed (C.types constants.now name.now) (pos 0)) ≡ Ok result }
 {
     match constants.constant(name) {
         Some(x) => x,
@@ -86,7 +89,9 @@ fn name_value<C: Constants>(name: &[u8], constants: &C) -> Value
 #[cycle(evaluation)]
 fn call_of<C: Constants>(name: &[u8], list: &Exprs, constants: &C) -> Result<Value, FaultKind>
     requires { C.is_sound constants.now }
-    ensures { result ≡ call_value (constants_alone (C.types constants.now) (C.known constants.now)) name.now (exprs_tree list.now) start }
+    ensures { result
+        ≡ call_value (constants_alone (C.types constants.now) (C.known constants.now)) name.now
+        (exprs_tree list.now) start }
 {
     match Intrinsic::named(name) {
         Some(function) => intrinsic_value(function, Arguments::None, list, constants),
@@ -103,7 +108,9 @@ fn intrinsic_value<C: Constants>(
     constants: &C,
 ) -> Result<Value, FaultKind>
     requires { C.is_sound constants.now }
-    ensures { result ≡ value_behind (constants_alone (C.types constants.now) (C.known constants.now)) (intrinsic function) so_far (exprs_tree list.now) start }
+    ensures { result
+        ≡ value_behind (constants_alone (C.types constants.now) (C.known constants.now))
+        (intrinsic function) so_far (exprs_tree list.now) start }
 {
     match list {
         Exprs::Empty => so_far.value(function),
@@ -118,7 +125,9 @@ fn intrinsic_value<C: Constants>(
 #[cycle(evaluation)]
 fn nothing_of<C: Constants>(list: &Exprs, constants: &C) -> Result<Value, FaultKind>
     requires { C.is_sound constants.now }
-    ensures { result ≡ nothing_behind (constants_alone (C.types constants.now) (C.known constants.now)) (exprs_tree list.now) start }
+    ensures { result
+        ≡ nothing_behind (constants_alone (C.types constants.now) (C.known constants.now))
+        (exprs_tree list.now) start }
 {
     match list {
         Exprs::Empty => Ok(Value::Int(0)),

@@ -14,7 +14,8 @@ pub struct Dimension {
     pub upper: i32,
 }
 
-/// The dimensions of an array, in their order. The seven that are allowed at most (5.1.1) take no growth.
+/// The dimensions of an array, in their order. The seven that are allowed at most (5.1.1) take no
+/// growth.
 pub type Dimensions = SmallVec<Dimension, 7>;
 
 impl Dimension {

@@ -2,7 +2,11 @@
 
 ghost use Rattle.std.specs.Prelude.{◌≡◌, ℤ, List, [], ◌∷◌, option_map, FitsSigned, SomeIff};
 ghost use Rattle.std.specs.Int.{w32};
-ghost use Rattle.meaning.specs.Intrinsics.{intrinsic_named, magnitude as magnitude_of, greater as greater_of, lesser as lesser_of, with_sign_of, remainder as remainder_function, positive_difference as difference_function, of_two as value_of_two};
+ghost use Rattle.meaning.specs.Intrinsics.{intrinsic_named, magnitude as magnitude_of};
+ghost use Rattle.meaning.specs.Intrinsics.{greater as greater_of, lesser as lesser_of};
+ghost use Rattle.meaning.specs.Intrinsics.{with_sign_of, remainder as remainder_function};
+ghost use Rattle.meaning.specs.Intrinsics.{positive_difference as difference_function};
+ghost use Rattle.meaning.specs.Intrinsics.{of_two as value_of_two};
 ghost use Rattle.expressions.specs.Functions.{intrinsic, value_from};
 
 use crate::integer_of;
@@ -117,7 +121,8 @@ fn positive_difference(a: i32, b: i32) -> Result<Value, FaultKind>
     }
 }
 
-/// What an intrinsic function keeps of its arguments so far: none, one or the extreme of all, or the first two.
+/// What an intrinsic function keeps of its arguments so far: none, one or the extreme of all, or
+/// the first two.
 #[derive(Clone, Copy, Debug, PartialEq, Eq)]
 pub enum Arguments {
     None,
@@ -128,7 +133,8 @@ pub enum Arguments {
 impl Arguments {
     /// One argument more.
     pub fn with(self, function: Intrinsic, x: i32) -> Arguments
-        ensures { (zs : List ℤ) → value_from (intrinsic function) result zs ≡ value_from (intrinsic function) self (x ∷ zs) }
+        ensures { (zs : List ℤ) → value_from (intrinsic function) result zs
+            ≡ value_from (intrinsic function) self (x ∷ zs) }
     {
         match self {
             Arguments::None => Arguments::One(x),

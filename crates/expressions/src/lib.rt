@@ -1,5 +1,5 @@
-//! Operators and intrinsic functions, expressions of constants, and what the names of a program unit stand for (ANSI X3.9-1978, 6.1,
-//! 6.6 and chapter 15).
+//! Operators and intrinsic functions, expressions of constants, and what the names of a program
+//! unit stand for (ANSI X3.9-1978, 6.1, 6.6 and chapter 15).
 #![tactic(auto)]
 
 mod constants;
@@ -11,7 +11,10 @@ mod trips;
 
 ghost use Rattle.std.specs.Prelude.{◌≡◌, ℤ, pos, int_div, FitsSigned, SomeIff, Ok};
 ghost use Rattle.std.specs.Int.{w32};
-ghost use Rattle.meaning.specs.Values.{integer, typed as typed_as, as_integer as integer_in, as_logical as logical_in, with_sign, operated as operated_on, decided as decided_by, divided as divided_by, raised as raised_to};
+ghost use Rattle.meaning.specs.Values.{integer, typed as typed_as, as_integer as integer_in};
+ghost use Rattle.meaning.specs.Values.{as_logical as logical_in, with_sign};
+ghost use Rattle.meaning.specs.Values.{operated as operated_on, decided as decided_by};
+ghost use Rattle.meaning.specs.Values.{divided as divided_by, raised as raised_to};
 ghost use Rattle.meaning.specs.Characters.{number_of};
 
 pub use constants::{Constants, constant_value};
@@ -21,7 +24,7 @@ use meaning::ending::{FaultKind, Value};
 use meaning::number::number;
 use meaning::syntax::{DataType, Operator, Sign};
 pub use numbering::{Cells, Function, Named, Numbering, callable};
-pub use place::Place;
+pub use place::ElementAddress;
 pub use trips::trip_count;
 
 // What a name of a type has where nothing gives it a value.
@@ -35,8 +38,8 @@ fn zero_of(data_type: Option<DataType>) -> Value
     }
 }
 
-/// A value as the operand of an arithmetic operator. The rules of the language leave only integers there; a LOGICAL
-/// would count as 0 or 1.
+/// A value as the operand of an arithmetic operator. The rules of the language leave only integers
+/// there; a LOGICAL would count as 0 or 1.
 pub fn as_integer(value: Value) -> i32
     ensures { result ≡ integer_in value }
 {
@@ -64,8 +67,8 @@ pub fn signed(sign: Sign, x: i32) -> Result<Value, FaultKind>
     }
 }
 
-/// A value as the operand of a logical operator. The rules of the language leave only LOGICAL values there; an INTEGER would
-/// count as true unless it is 0.
+/// A value as the operand of a logical operator. The rules of the language leave only LOGICAL
+/// values there; an INTEGER would count as true unless it is 0.
 pub fn as_logical(value: Value) -> bool
     ensures { result ≡ logical_in value }
 {
@@ -86,8 +89,8 @@ fn decided(operator: Operator, x: Value) -> Option<bool>
     }
 }
 
-/// An operator and the values of its operands: F1 where a divisor is zero, F2 where a result leaves the range of INTEGER, F6 where
-/// zero has an exponent of zero or less.
+/// An operator and the values of its operands: F1 where a divisor is zero, F2 where a result leaves
+/// the range of INTEGER, F6 where zero has an exponent of zero or less.
 #[inline(always)]
 pub fn operated(operator: Operator, x: Value, y: Value) -> Result<Value, FaultKind>
     ensures { result ≡ operated_on operator x y }
@@ -137,7 +140,8 @@ fn raised(x: i32, y: i32) -> Result<Value, FaultKind>
     integer_of(power)
 }
 
-// The quotient of 1 by a power z, which is there exactly where z is an INTEGER: it is 0 unless z is 1 or -1.
+// The quotient of 1 by a power z, which is there exactly where z is an INTEGER: it is 0 unless z is
+// 1 or -1.
 fn inverse(power: Option<i32>) -> Result<Value, FaultKind>
     ensures { (z : ℤ) → SomeIff power (FitsSigned w32 z) z → result ≡ integer (int_div (pos 1) z) }
 {

@@ -8,14 +8,15 @@ ghost use Rattle.expressions.specs.Calls.{IsCallable};
 ghost use Rattle.expressions.specs.Names.{IsNamed, IsArray, IsFunction};
 ghost use Rattle.expressions.specs.Places.{left, behind, limit};
 
-use crate::Place;
+use crate::ElementAddress;
 use meaning::ending::Value;
 use meaning::syntax::{DataType, Expr, Exprs};
 
-/// The cells of a variable or an array, and its type; `None` where it is neither INTEGER nor LOGICAL.
+/// The cells of a variable or an array, and its type; `None` where it is neither INTEGER nor
+/// LOGICAL.
 #[derive(Clone, Copy)]
 pub struct Cells<'a> {
-    pub place: Place<'a>,
+    pub place: ElementAddress<'a>,
     pub data_type: Option<DataType>,
 }
 
@@ -39,7 +40,8 @@ pub struct Function<'a> {
     pub body: &'a Expr,
 }
 
-/// What the names of a program unit stand for, and how its variables and array elements are numbered as cells.
+/// What the names of a program unit stand for, and how its variables and array elements are
+/// numbered as cells.
 pub trait Numbering {
     /// Whether it says what is so.
     ghost is_sound: { Self → Type 0 };
@@ -59,7 +61,7 @@ pub trait Numbering {
         ensures { result ≡ length (names self.now).definitions };
 
     /// The place of a variable or an array.
-    fn find(&self, name: &[u8]) -> Place<'_>
+    fn find(&self, name: &[u8]) -> ElementAddress<'_>
         requires { is_sound self.now }
         ensures left { left result ≡ dimensions_in ((names self.now).arrays name.now) }
         ensures behind { (ss : List ℤ) → behind result ss ≡ numbers self.now name.now ss }
@@ -76,7 +78,8 @@ pub trait Numbering {
         requires { is_sound self.now }
         ensures { IsArray (names self.now) (numbers self.now) (count self.now) name.now result };
 
-    /// The statement function with a name. No other has the name, and it has sixteen dummy arguments at most.
+    /// The statement function with a name. No other has the name, and it has sixteen dummy
+    /// arguments at most.
     fn function(&self, name: &[u8]) -> Option<Function<'_>>
         requires { is_sound self.now }
         ensures { IsFunction (names self.now).definitions name.now result };

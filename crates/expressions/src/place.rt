@@ -8,22 +8,25 @@ ghost use Rattle.expressions.specs.Places.{capped, left, behind, limit};
 use crate::Dimension;
 use meaning::cell::Cell;
 
-/// What a name and the subscripts that are known lead to: the cells by the subscripts that are left.
+/// What a name and the subscripts that are known lead to: the cells by the subscripts that are
+/// left.
 #[derive(Clone, Copy)]
-pub struct Place<'a> {
+pub struct ElementAddress<'a> {
     cell: Option<usize>,
     stride: usize,
     left: &'a [Dimension],
 }
 
-impl<'a> Place<'a> {
-    /// The place of a variable, or of an array of which no subscript is known yet: its first cell, and its dimensions.
-    pub fn new(first: usize, dimensions: &'a [Dimension]) -> Place<'a>
+impl<'a> ElementAddress<'a> {
+    /// The place of a variable, or of an array of which no subscript is known yet: its first cell,
+    /// and its dimensions.
+    pub fn new(first: usize, dimensions: &'a [Dimension]) -> ElementAddress<'a>
         ensures left { left result ≡ map dimension dimensions.now }
-        ensures behind { (ss : List ℤ) → behind result ss ≡ option_map (λ i. first + i) (place_in (map dimension dimensions.now) ss) }
+        ensures behind { (ss : List ℤ) → behind result ss
+            ≡ option_map (λ i. first + i) (place_in (map dimension dimensions.now) ss) }
         ensures limited { limit result ≤ first + size (map dimension dimensions.now) }
     {
-        Place {
+        ElementAddress {
             cell: Some(first),
             stride: 1,
             left: dimensions,
@@ -31,12 +34,12 @@ impl<'a> Place<'a> {
     }
 
     /// The place of what has no cells.
-    pub fn nowhere() -> Place<'a>
+    pub fn nowhere() -> ElementAddress<'a>
         ensures left { left result ≡ [] }
         ensures behind { (ss : List ℤ) → behind result ss ≡ None }
         ensures limited { limit result ≡ 0 }
     {
-        Place {
+        ElementAddress {
             cell: None,
             stride: 1,
             left: &[],

@@ -1,5 +1,6 @@
 -- What is told of a fault, as text.
-use Rattle.std.specs.Prelude.{◌++◌, ℤ, pos, ℕ, Bool, true, false, List, [], int_lt, codes, flat_map, ◌==◌, if◌then◌else◌}
+use Rattle.std.specs.Prelude.{◌++◌, ℤ, pos, ℕ, Bool, true, false, List, [], int_lt, codes, flat_map}
+use Rattle.std.specs.Prelude.{◌==◌, if◌then◌else◌}
 use Rattle.std.specs.Fmt.{decimal, signed_decimal}
 use Rattle.meaning.specs.Spelling.{operator_text}
 use Rattle.meaning.specs.declared.ending.Value.{Value}
@@ -63,9 +64,11 @@ field_text (fields.Logical width) = codes "L" ++ decimal width
 abbrev pub detail_text : Detail → List ℕ
 detail_text (details.Outside array before subscript bounds further) =
     element_text array.now (subscripts_of before) subscript further ++ bounds_text bounds
-detail_text (details.Operands operator left right) = operand_text left ++ operator_text operator ++ operand_text right
+detail_text (details.Operands operator left right) =
+    operand_text left ++ operator_text operator ++ operand_text right
 detail_text (details.Signed sign operand) = sign_text sign ++ operand_text operand
 detail_text (details.Function name function arguments) = name.now ++ codes "(" ++ arguments_text arguments ++ codes ")"
 detail_text details.Step = codes "STEP 0"
-detail_text (details.Clash value field) = value_text value ++ codes ", EDIT DESCRIPTOR " ++ field_text field
+detail_text (details.Clash value field) =
+    value_text value ++ codes ", EDIT DESCRIPTOR " ++ field_text field
 detail_text (details.Unedited value) = value_text value ++ codes ", NO EDIT DESCRIPTOR"

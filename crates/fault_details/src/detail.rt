@@ -6,8 +6,8 @@ use expressions::{Arguments, Dimension, Intrinsic};
 use meaning::ending::{FaultKind, Value};
 use meaning::syntax::{Operator, Sign};
 
-/// The values of an element's first subscripts, in their order. An array has seven dimensions at most (ANSI X3.9-1978, 5.1.1), so
-/// there are no more than seven.
+/// The values of an element's first subscripts, in their order. An array has seven dimensions at
+/// most (ANSI X3.9-1978, 5.1.1), so there are no more than seven.
 #[derive(Clone, Copy)]
 pub struct Subscripts {
     pub(crate) values: [i32; 7],

@@ -1,11 +1,12 @@
-//! Expressions, evaluated from the left up to the first fault (ANSI X3.9-1978, 5.4, 6.1, 6.6 and 15.3).
+//! Expressions, evaluated from the left up to the first fault (ANSI X3.9-1978, 5.4, 6.1, 6.6 and
+//! 15.3).
 
 ghost use Rattle.std.specs.Prelude.{◌≡◌, Some, map, IfErr};
 ghost use Rattle.meaning.specs.Intrinsics.{intrinsic_named};
 ghost use Rattle.expressions.specs.Dimensions.{dimension};
 ghost use Rattle.expressions.specs.Functions.{intrinsic};
 ghost use Rattle.expressions.specs.Places.{left};
-ghost use Rattle.numbering.specs.Checked.{names_in};
+ghost use Rattle.storage.specs.Checked.{names_in};
 ghost use Rattle.fault_details.specs.Details.{IsStop};
 
 use crate::detail::{Detail, Stop, Subscripts};
@@ -17,22 +18,23 @@ use expressions::{
 use meaning::ending::{FaultKind, Value};
 use meaning::number::number;
 use meaning::syntax::{DataType, Expr, Exprs, Operator, Sign};
-use numbering::Program;
+use storage::CheckedProgram;
 
 /// Where an expression stands, and the values of the program's cells.
 #[derive(Clone, Copy)]
 pub(crate) struct Scene<'a> {
-    pub program: &'a Program,
+    pub program: &'a CheckedProgram,
     pub cells: &'a [i32],
     /// How many statement functions may be called there, the first so many.
     pub callable: usize,
-    /// The dummy arguments of the statement function whose expression it stands in, and their values.
+    /// The dummy arguments of the statement function whose expression it stands in, and their
+    /// values.
     pub dummies: Option<&'a Exprs>,
     pub arguments: Given,
 }
 
-/// How far a subscript list was evaluated: the subscripts, the cell that they lead to among those of the array, and how many cells
-/// the next value of the next subscript is further.
+/// How far a subscript list was evaluated: the subscripts, the cell that they lead to among those
+/// of the array, and how many cells the next value of the next subscript is further.
 #[derive(Clone, Copy)]
 struct Passed {
     subscripts: Subscripts,
@@ -226,7 +228,8 @@ pub(crate) fn element_in<'a>(
     cell_value(array.data_type, at, scene)
 }
 
-// The cell of an element, its subscripts first to last behind those that were passed, or why there is none.
+// The cell of an element, its subscripts first to last behind those that were passed, or why there
+// is none.
 #[cycle(evaluation)]
 fn cell_in<'a>(
     name: &'a [u8],
@@ -235,7 +238,8 @@ fn cell_in<'a>(
     list: &'a Exprs,
     scene: &Scene<'a>,
 ) -> Result<usize, Stop<'a>>
-    requires { (names_in scene.now.program.now).arrays name.now ≡ Some (map dimension dimensions.now) }
+    requires { (names_in scene.now.program.now).arrays name.now
+        ≡ Some (map dimension dimensions.now) }
     ensures { IfErr result (IsStop scene.now.program.now) }
 {
     match list {
@@ -265,7 +269,8 @@ fn subscripted<'a>(
     further: bool,
     scene: &Scene<'a>,
 ) -> Result<Passed, Stop<'a>>
-    requires { (names_in scene.now.program.now).arrays array.now ≡ Some (map dimension dimensions.now) }
+    requires { (names_in scene.now.program.now).arrays array.now
+        ≡ Some (map dimension dimensions.now) }
     ensures { IfErr result (IsStop scene.now.program.now) }
 {
     let before = passed.subscripts;
@@ -365,7 +370,8 @@ fn call_in<'a>(name: &[u8], arguments: Given, scene: &Scene<'a>) -> Result<Value
     }
 }
 
-// The value of an intrinsic function, its arguments first to last behind those so far, or why there is none.
+// The value of an intrinsic function, its arguments first to last behind those so far, or why there
+// is none.
 #[cycle(evaluation)]
 fn intrinsic_in<'a>(
     name: &'a [u8],

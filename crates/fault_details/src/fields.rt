@@ -1,6 +1,7 @@
 //! The edit descriptors to which values go (ANSI X3.9-1978, 13.3).
 
-ghost use Rattle.std.specs.Prelude.{◌≡◌, ◌<◌, ◌-◌, ◌^◌, Some, None, length, min, option_map, slice_get, if◌then◌else◌};
+ghost use Rattle.std.specs.Prelude.{◌≡◌, ◌<◌, ◌-◌, ◌^◌, Some, None, length, min, option_map};
+ghost use Rattle.std.specs.Prelude.{slice_get, if◌then◌else◌};
 ghost use Rattle.meaning.specs.Records.{unrolled, pass, is_field};
 ghost use Rattle.format_edit.specs.Formatted.{descriptor_of, part_of, parts_of, descriptors};
 ghost use Rattle.fault_details.specs.Fields.{field_of, fields, field_for};
@@ -11,7 +12,8 @@ use format_edit::{Descriptor, Format, Part, reverted};
 // An edit descriptor, if values go to it.
 fn field_in(descriptor: &Descriptor) -> Option<Field>
     ensures { option_map field_of result ≡
-        if is_field (descriptor_of descriptor.now) then Some (descriptor_of descriptor.now) else None }
+        if is_field (descriptor_of descriptor.now) then Some (descriptor_of descriptor.now)
+        else None }
 {
     match descriptor {
         Descriptor::Integer { width, least } => Some(Field::Integer {
@@ -93,8 +95,8 @@ fn field_among(parts: &[Part], before: usize) -> Option<Field>
     None
 }
 
-/// The edit descriptor to which the value behind so many others of an output list goes, with repeats written out and control going
-/// back where the format is used up.
+/// The edit descriptor to which the value behind so many others of an output list goes, with
+/// repeats written out and control going back where the format is used up.
 pub(crate) fn field_for(format: &Format, before: usize) -> Option<Field>
     requires { before < 2 ^ 64 - 1 }
     ensures { option_map field_of result ≡ field_for (descriptors format.now) before }

@@ -11,7 +11,7 @@ use crate::steady::are_limits_steady;
 use expressions::Numbering;
 use meaning::ending::{Fault, FaultKind};
 use meaning::syntax::{Arm, Item, Loop, Member, Shape};
-use numbering::Program;
+use storage::CheckedProgram;
 
 // A statement: the DO statement or DO WHILE of a range, or another one.
 enum Found<'a> {
@@ -70,7 +70,7 @@ fn found_in_arms(arms: &[Arm], line: u32) -> Option<Found<'_>> {
 }
 
 // What stopped an evaluation, if it was a fault of this kind.
-fn of_kind<'a>(kind: FaultKind, stop: Stop<'a>, program: &Program) -> Option<Detail<'a>>
+fn of_kind<'a>(kind: FaultKind, stop: Stop<'a>, program: &CheckedProgram) -> Option<Detail<'a>>
     requires { IsStop program.now stop }
     ensures { IfSome result (IsDetail program.now kind) }
 {
@@ -83,9 +83,9 @@ fn of_kind<'a>(kind: FaultKind, stop: Stop<'a>, program: &Program) -> Option<Det
     }
 }
 
-// What a statement says, where evaluating it now meets the fault that it met. F2 may be that of the addition to a DO variable, when the
-// range had set what the limits are made of.
-fn shape_of<'a>(found: Found<'a>, kind: FaultKind, program: &Program) -> Option<&'a Shape> {
+// What a statement says, where evaluating it now meets the fault that it met. F2 may be that of the
+// addition to a DO variable, when the range had set what the limits are made of.
+fn shape_of<'a>(found: Found<'a>, kind: FaultKind, program: &CheckedProgram) -> Option<&'a Shape> {
     match found {
         Found::Head(repeated) => {
             if kind == FaultKind::F2 && !are_limits_steady(repeated, program) {
@@ -97,10 +97,14 @@ fn shape_of<'a>(found: Found<'a>, kind: FaultKind, program: &Program) -> Option<
     }
 }
 
-/// What a fault of a program was about, by the values of the cells as it left them. None where that can't be found by evaluating
-/// the statement once more: within a statement function or an implied DO, where a value was changed since, or where the fault is
-/// none of an expression.
-pub fn detail_of<'a>(program: &'a Program, fault: Fault, cells: &'a [i32]) -> Option<Detail<'a>>
+/// What a fault of a program was about, by the values of the cells as it left them. None where that
+/// can't be found by evaluating the statement once more: within a statement function or an implied
+/// DO, where a value was changed since, or where the fault is none of an expression.
+pub fn detail_of<'a>(
+    program: &'a CheckedProgram,
+    fault: Fault,
+    cells: &'a [i32],
+) -> Option<Detail<'a>>
     ensures { IfSome result (IsDetail program.now fault.kind) }
 {
     let scene = Scene {

@@ -14,12 +14,13 @@ use expressions::{Cells, Numbering};
 use format_edit::Format;
 use meaning::ending::{FaultKind, Value};
 use meaning::syntax::{Expr, FormatSource, ListItem, ListItems};
-use numbering::Program;
+use storage::CheckedProgram;
 
 /// The most items of an output list.
 const MOST_VALUES: usize = 65_536;
 
-// Whether an output list has no implied DO, the variables of which would have other values than at the fault.
+// Whether an output list has no implied DO, the variables of which would have other values than at
+// the fault.
 fn is_plain(list: &ListItems) -> bool {
     match list {
         ListItems::Empty => true,
@@ -204,7 +205,7 @@ fn edit_items<'a>(
 }
 
 // The format that a statement names or has.
-fn format_of<'a>(source: &FormatSource, program: &'a Program) -> Option<&'a Format>
+fn format_of<'a>(source: &FormatSource, program: &'a CheckedProgram) -> Option<&'a Format>
     ensures { IfSome result (λ f. HasFormat program.now (descriptors f.now)) }
 {
     match source {

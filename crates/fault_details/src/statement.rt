@@ -113,7 +113,8 @@ fn execute_simple<'a>(shape: &'a Shape, scene: &Scene<'a>) -> Result<(), Stop<'a
     }
 }
 
-/// A statement up to its first fault; of a logical IF the condition, and where that is true its statement.
+/// A statement up to its first fault; of a logical IF the condition, and where that is true its
+/// statement.
 pub(crate) fn execute<'a>(shape: &'a Shape, scene: &Scene<'a>) -> Result<(), Stop<'a>>
     ensures { IfErr result (IsStop scene.now.program.now) }
 {

@@ -1,9 +1,9 @@
-//! Whether the limits of a DO statement have the values still that they had when it was executed: its range may have set what they
-//! are made of (ANSI X3.9-1978, 11.10.3).
+//! Whether the limits of a DO statement have the values still that they had when it was executed:
+//! its range may have set what they are made of (ANSI X3.9-1978, 11.10.3).
 
 use expressions::Numbering;
 use meaning::syntax::{Arm, Expr, Exprs, Limits, ListItem, ListItems, Loop, Member, Shape};
-use numbering::Program;
+use storage::CheckedProgram;
 
 // Whether an item of an output list sets a variable, which an implied DO does.
 #[cycle(listed)]
@@ -27,7 +27,8 @@ fn list_sets(list: &ListItems, name: &[u8]) -> bool {
     }
 }
 
-// Whether a statement that is no logical IF sets a variable, or an element of an array, of this name.
+// Whether a statement that is no logical IF sets a variable, or an element of an array, of this
+// name.
 fn simple_sets(shape: &Shape, name: &[u8]) -> bool {
     match shape {
         Shape::Assignment {
@@ -95,9 +96,10 @@ fn loop_sets(repeated: &Loop, name: &[u8]) -> bool {
     sets(&repeated.head.form.shape, name) || some_sets(&repeated.range, name)
 }
 
-// Whether an expression has the value that it had. Of a function that isn't known, since it may read any variable.
+// Whether an expression has the value that it had. Of a function that isn't known, since it may
+// read any variable.
 #[cycle(steady)]
-fn is_steady(expression: &Expr, repeated: &Loop, program: &Program) -> bool {
+fn is_steady(expression: &Expr, repeated: &Loop, program: &CheckedProgram) -> bool {
     match expression {
         Expr::Number(_) => true,
         Expr::Truth(_) => true,
@@ -119,7 +121,7 @@ fn is_steady(expression: &Expr, repeated: &Loop, program: &Program) -> bool {
 
 // Whether each of some expressions has.
 #[cycle(steady)]
-fn are_steady(expressions: &Exprs, repeated: &Loop, program: &Program) -> bool {
+fn are_steady(expressions: &Exprs, repeated: &Loop, program: &CheckedProgram) -> bool {
     match expressions {
         Exprs::Empty => true,
         Exprs::More(first, rest) => {
@@ -129,15 +131,16 @@ fn are_steady(expressions: &Exprs, repeated: &Loop, program: &Program) -> bool {
 }
 
 // Whether the step has, if one is written.
-fn is_step_steady(step: &Option<Expr>, repeated: &Loop, program: &Program) -> bool {
+fn is_step_steady(step: &Option<Expr>, repeated: &Loop, program: &CheckedProgram) -> bool {
     match step {
         Some(step) => is_steady(step, repeated, program),
         None => true,
     }
 }
 
-/// Whether the limits of a DO statement have the values that they had when it was executed. A DO WHILE has none.
-pub(crate) fn are_limits_steady(repeated: &Loop, program: &Program) -> bool {
+/// Whether the limits of a DO statement have the values that they had when it was executed. A DO
+/// WHILE has none.
+pub(crate) fn are_limits_steady(repeated: &Loop, program: &CheckedProgram) -> bool {
     match &*repeated.head.form.shape {
         Shape::Do {
             label: _,

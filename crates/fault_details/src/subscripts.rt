@@ -18,7 +18,8 @@ impl Subscripts {
 
     /// One more; `None` where there are seven.
     pub fn with(self, value: i32) -> Option<Subscripts>
-        ensures one_more { IfSome result (λ more. subscripts_of more ≡ subscripts_of self ++ value ∷ []) }
+        ensures one_more { IfSome
+            result (λ more. subscripts_of more ≡ subscripts_of self ++ value ∷ []) }
         ensures full { IfNone result (length (subscripts_of self) ≡ 7) }
     {
         if self.count >= 7 {

@@ -1,12 +1,14 @@
-//! What a fault was about, as text: `A(2,11,..), BOUNDS 1 TO 10`, `7/0`, `-(-2147483648)`, `MOD(7,0)`, `STEP 0`,
-//! `5, EDIT DESCRIPTOR L3` or `5, NO EDIT DESCRIPTOR`.
+//! What a fault was about, as text: `A(2,11,..), BOUNDS 1 TO 10`, `7/0`, `-(-2147483648)`,
+//! `MOD(7,0)`, `STEP 0`, `5, EDIT DESCRIPTOR L3` or `5, NO EDIT DESCRIPTOR`.
 
 ghost use Rattle.std.specs.Prelude.{◌≡◌, ◌≤◌, ◌++◌, OnOk, codes, length};
 ghost use Rattle.std.specs.Fmt.{decimal, signed_decimal};
 ghost use Rattle.meaning.specs.Records.{logical_text};
 ghost use Rattle.meaning.specs.Spelling.{operator_text};
 ghost use Rattle.fault_details.specs.Subscripts.{subscripts_of};
-ghost use Rattle.fault_details.specs.Texts.{arguments_text, bounds_text, detail_text, element_text, field_text, further_text, last_text, least_text, operand_text, passed_text, sign_text, value_text};
+ghost use Rattle.fault_details.specs.Texts.{arguments_text, bounds_text, detail_text, element_text};
+ghost use Rattle.fault_details.specs.Texts.{field_text, further_text, last_text, least_text};
+ghost use Rattle.fault_details.specs.Texts.{operand_text, passed_text, sign_text, value_text};
 
 use crate::detail::{Detail, Field, Subscripts};
 use expressions::{Arguments, Dimension};
@@ -92,7 +94,8 @@ fn add_operands(
 
 // Puts a sign in front of its operand.
 fn add_signed(bytes: &mut Vec<u8>, sign: Sign, operand: i32) -> Result<(), AllocError>
-    ensures { OnOk result (bytes.new.items ≡ bytes.old.items ++ sign_text sign ++ operand_text operand) }
+    ensures { OnOk result
+        (bytes.new.items ≡ bytes.old.items ++ sign_text sign ++ operand_text operand) }
 {
     add(bytes, sign_symbol(sign))?;
     add_operand(bytes, operand)
@@ -250,7 +253,8 @@ fn add_unedited(bytes: &mut Vec<u8>, value: Value) -> Result<(), AllocError>
     add(bytes, ", NO EDIT DESCRIPTOR")
 }
 
-/// Puts what a fault was about behind a text. Where memory was refused, a beginning of it may stand there.
+/// Puts what a fault was about behind a text. Where memory was refused, a beginning of it may stand
+/// there.
 pub fn add_text(bytes: &mut Vec<u8>, detail: Detail) -> Result<(), AllocError>
     ensures { OnOk result (bytes.new.items ≡ bytes.old.items ++ detail_text detail.entry) }
 {

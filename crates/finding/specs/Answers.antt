@@ -1,4 +1,5 @@
--- What is told of a question of yes or no: a witness where the answer is yes, and nothing only where it is no.
+-- What is told of a question of yes or no: a witness where the answer is yes, and nothing only
+-- where it is no.
 use Rattle.std.specs.Prelude.{◌≡◌, Bool, false, Option, Some, None, IsTrue}
 
 abbrev pub IsAnswer : {K : Type 0} → (K → Type 0) → Bool → Option K → Type 0

@@ -1,11 +1,13 @@
--- What a WRITE statement makes from a point on: the bytes so far, the blanks that are due before the next byte of the
--- record, and the course that is ahead (ANSI X3.9-1978, 13.5.3: a move to the right writes nothing by itself).
+-- What a WRITE statement makes from a point on: the bytes so far, the blanks that are due before
+-- the next byte of the record, and the course that is ahead (ANSI X3.9-1978, 13.5.3: a move to the
+-- right writes nothing by itself).
 use Rattle.std.specs.Prelude.{ℕ, ◌+◌, List, [], ◌∷◌, ◌++◌, replicate, Option, Some, None, Result}
 use Rattle.std.specs.Borrow.{Bor}
 use Rattle.meaning.specs.declared.ending.Value.{Value}
 use Rattle.meaning.specs.Characters.{blank}
 use Rattle.meaning.specs.Formats.{Descriptor}
-use Rattle.meaning.specs.Records.{Course, stops, clashes, puts, moves, ends, course, is_clash, outcome_of}
+use Rattle.meaning.specs.Records.{Course, stops, clashes, puts, moves, ends, course, is_clash}
+use Rattle.meaning.specs.Records.{outcome_of}
 use Rattle.format_edit.specs.declared.sheet.Sheet.{Sheet}
 use Rattle.format_edit.specs.Edits.{Made, Follows}
 use Rattle.format_edit.specs.declared.fault.EditFault.{EditFault}
@@ -31,8 +33,10 @@ abbrev pub onward : Option (Bor (List Value)) → List Descriptor → Course
 onward None more = stops
 onward (Some left) more = course more left.now
 
--- descriptors are walked from one sheet to another: what is made by them and any that come behind is what is made of the
--- values that are left by those behind
-abbrev pub Walks : Result (Option (Bor (List Value))) EditFault → Sheet → List Value → List Descriptor → Sheet → Type 0
+-- descriptors are walked from one sheet to another: what is made by them and any that come behind
+-- is what is made of the values that are left by those behind
+abbrev pub Walks : Result (Option (Bor (List Value))) EditFault → Sheet → List Value →
+    List Descriptor → Sheet → Type 0
 Walks result old vs ds new =
-    (more : List Descriptor) → Follows result (ahead old (course (ds ++ more) vs)) (λ left. ahead new (onward left more))
+    (more : List Descriptor) →
+    Follows result (ahead old (course (ds ++ more) vs)) (λ left. ahead new (onward left more))

@@ -1,9 +1,11 @@
--- The formats in character constants of WRITE and PRINT statements (ANSI X3.9-1978, 12.4 and 13.1.2).
+-- The formats in character constants of WRITE and PRINT statements (ANSI X3.9-1978, 12.4 and
+-- 13.1.2).
 use Rattle.std.specs.Prelude.{ℕ, Bool, false, List, if◌then◌else◌, Option, None}
 use Rattle.std.specs.List.{list_any}
 use Rattle.std.specs.Str.{bytes_eq}
 use Rattle.meaning.specs.Formats.{Parts, format_in, undoubled}
-use Rattle.meaning.specs.Syntax.{FormatTree, format_label, format_constant, ShapeTree, writing, printing, logical_if, ItemTree}
+use Rattle.meaning.specs.Syntax.{FormatTree, format_label, format_constant, ShapeTree, writing}
+use Rattle.meaning.specs.Syntax.{printing, logical_if, ItemTree}
 
 -- a format is that in the constant of this text
 abbrev pub is_constant : List ℕ → FormatTree → Bool

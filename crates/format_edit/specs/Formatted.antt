@@ -1,11 +1,15 @@
 -- What a value of `Format` stands for, and what reading one answers.
-use Rattle.std.specs.Prelude.{◌≡◌, ℕ, List, [], ◌∷◌, Option, Some, None, Result, Ok, Err, ◌==◌, if◌then◌else◌}
-use Rattle.meaning.specs.Formats.{Descriptor, integer_field, logical_field, characters, skip, slash, colon, Part, single, group, Parts, no_parts, parts, is_count}
+use Rattle.std.specs.Prelude.{◌≡◌, ℕ, List, [], ◌∷◌, Option, Some, None, Result, Ok, Err, ◌==◌}
+use Rattle.std.specs.Prelude.{if◌then◌else◌}
+use Rattle.meaning.specs.Formats.{Descriptor, integer_field, logical_field, characters, skip, slash}
+use Rattle.meaning.specs.Formats.{colon, Part, single, group, Parts, no_parts, parts, is_count}
 use Rattle.meaning.specs.Characters.{apostrophe}
 use Rattle.meaning.specs.Reading.{Reader, ◌>>=◌, after}
 use Rattle.format_edit.specs.declared.format.Descriptor.{Descriptor as DescriptorOf}
-use Rattle.format_edit.specs.declared.format.Descriptor.TheVariants.{Integer, Logical, Characters, Skip, Slash, Colon}
-use Rattle.format_edit.specs.declared.format.Part.{Part as PartOf, Single, Group', Row_of-Part, end_of-Part, more_of-Part}
+use Rattle.format_edit.specs.declared.format.Descriptor.TheVariants.{Integer, Logical, Characters}
+use Rattle.format_edit.specs.declared.format.Descriptor.TheVariants.{Skip, Slash, Colon}
+use Rattle.format_edit.specs.declared.format.Part.{Part as PartOf, Single, Group', Row_of-Part}
+use Rattle.format_edit.specs.declared.format.Part.{end_of-Part, more_of-Part}
 use Rattle.format_edit.specs.declared.format.Format.{Format}
 use Rattle.format_edit.specs.declared.fault.FormatFault.{FormatFault}
 use Rattle.format_edit.specs.declared.fault.FormatFault.TheVariants as faults
@@ -44,7 +48,8 @@ unfoldable pub character_at : Reader ℕ
 unfolding ◌>>=◌
 character_at [] = None
 character_at (c ∷ t) =
-    if c == apostrophe then (after (apostrophe ∷ []) t >>= λ u. Some (apostrophe, u)) else Some (c, t)
+    if c == apostrophe then (after (apostrophe ∷ []) t >>= λ u. Some (apostrophe, u))
+    else Some (c, t)
 
 -- what a fault says of what was read: nothing where memory was refused
 abbrev pub Breaks : {A : Type 0} → FormatFault → Option A → Type 0

@@ -1,8 +1,10 @@
 //! Editing values under a format (ANSI X3.9-1978, 13.3).
 
 ghost use Rattle.std.specs.Prelude.{◌≡◌, [], ◌∷◌, length, if◌then◌else◌};
-ghost use Rattle.meaning.specs.Formats.{integer_field, logical_field, characters, skip as move, colon, slash};
-ghost use Rattle.meaning.specs.Records.{times, unrolled, pass, is_field, has_field, have_field, is_group, reverted, sequence, course, stops, edited};
+ghost use Rattle.meaning.specs.Formats.{integer_field, logical_field, characters, skip as move};
+ghost use Rattle.meaning.specs.Formats.{colon, slash};
+ghost use Rattle.meaning.specs.Records.{times, unrolled, pass, is_field, has_field, have_field};
+ghost use Rattle.meaning.specs.Records.{is_group, reverted, sequence, course, stops, edited};
 ghost use Rattle.format_edit.specs.Formatted.{descriptor_of, part_of, parts_of, descriptors};
 ghost use Rattle.format_edit.specs.Edits.{Follows, Edits};
 ghost use Rattle.format_edit.specs.Ahead.{ahead, onward, Walks};
@@ -14,8 +16,8 @@ use crate::sheet::Sheet;
 use meaning::ending::Value;
 use std::alloc::Global;
 
-/// Edits the next value as an integer. This and the functions below answer the values that are left, or `None` where
-/// editing stops because the list is used up.
+/// Edits the next value as an integer. This and the functions below answer the values that are
+/// left, or `None` where editing stops because the list is used up.
 fn edit_integer<'a>(
     sheet: &mut Sheet,
     width: u16,
@@ -122,7 +124,8 @@ fn edit_single<'a>(
     descriptor: &Descriptor,
     values: &'a [Value],
 ) -> Result<Option<&'a [Value]>, EditFault>
-    ensures { Walks result sheet.old values.now (times repeat (descriptor_of descriptor.now ∷ [])) sheet.new }
+    ensures { Walks result sheet.old values.now (times repeat (descriptor_of descriptor.now ∷ []))
+        sheet.new }
 {
     let mut left = values;
     for _ in 0..repeat {
@@ -142,7 +145,8 @@ fn edit_group<'a>(
     parts: &[Part],
     values: &'a [Value],
 ) -> Result<Option<&'a [Value]>, EditFault>
-    ensures { Walks result sheet.old values.now (times repeat (pass (parts_of parts.now))) sheet.new }
+    ensures { Walks result sheet.old values.now (times repeat (pass (parts_of parts.now)))
+        sheet.new }
 {
     let mut left = values;
     for _ in 0..repeat {
@@ -243,8 +247,8 @@ fn from_group<'a>(part: &Part, from_part: &'a [Part], found: &'a [Part]) -> &'a 
     if is_group(part) { from_part } else { found }
 }
 
-/// What control goes back to where parts are used up and values are left: those from the last group on, or all where there is none
-/// (ANSI X3.9-1978, 13.3).
+/// What control goes back to where parts are used up and values are left: those from the last group
+/// on, or all where there is none (ANSI X3.9-1978, 13.3).
 pub fn reverted(parts: &[Part]) -> &[Part]
     ensures { parts_of result.now ≡ reverted (parts_of parts.now) }
 {
@@ -267,7 +271,8 @@ fn close(sheet: &Sheet, left: &[Value]) -> Result<(), EditFault>
     }
 }
 
-/// Walks a new record and the parts that control goes back to, so many times at most, until the list is used up.
+/// Walks a new record and the parts that control goes back to, so many times at most, until the
+/// list is used up.
 fn go_back(
     sheet: &mut Sheet,
     parts: &[Part],
@@ -275,7 +280,8 @@ fn go_back(
     most: usize,
 ) -> Result<(), EditFault>
     ensures { Follows result
-        (ahead sheet.old (course (times most (colon ∷ (slash ∷ pass (parts_of parts.now)))) values.now))
+        (ahead sheet.old
+        (course (times most (colon ∷ (slash ∷ pass (parts_of parts.now)))) values.now))
         (λ _. ahead sheet.new stops) }
 {
     let mut left = values;
@@ -292,8 +298,8 @@ fn go_back(
     close(sheet, left)
 }
 
-/// Walks a format over values: one pass, and where the part that control goes back to takes values, then again and
-/// again a new record and that part, until the list is used up.
+/// Walks a format over values: one pass, and where the part that control goes back to takes values,
+/// then again and again a new record and that part, until the list is used up.
 fn walk(sheet: &mut Sheet, parts: &[Part], values: &[Value]) -> Result<(), EditFault>
     ensures { Follows result
         (ahead sheet.old (course (sequence (parts_of parts.now) (length values.now)) values.now))
@@ -310,10 +316,10 @@ fn walk(sheet: &mut Sheet, parts: &[Part], values: &[Value]) -> Result<(), EditF
     }
 }
 
-/// The records that a format makes of values, each with a line feed behind (ANSI X3.9-1978, 13.3). Memory is that of
-/// the bytes, and time is linear in them and in the items that are walked. `F7` where a value meets a descriptor of
-/// another type or none, `F8` where the bytes would pass 1,048,576, whichever is met first; `Memory` where a growth
-/// was refused.
+/// The records that a format makes of values, each with a line feed behind (ANSI X3.9-1978, 13.3).
+/// Memory is that of the bytes, and time is linear in them and in the items that are walked. `F7`
+/// where a value meets a descriptor of another type or none, `F8` where the bytes would pass
+/// 1,048,576, whichever is met first; `Memory` where a growth was refused.
 pub fn edit(alloc: Global, format: &Format, values: &[Value]) -> Result<Vec<u8>, EditFault>
     ensures { Edits result (edited (descriptors format.now) values.now) }
 {

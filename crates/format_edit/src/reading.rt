@@ -1,11 +1,17 @@
 //! Reading the text of a format (ANSI X3.9-1978, 13.1 and 13.2).
 
-ghost use Rattle.std.specs.Prelude.{◌≡◌, ◌-◌, ◌^◌, min, Some, [], ◌∷◌, option_map, option_copied, IfOk};
+ghost use Rattle.std.specs.Prelude.{◌≡◌, ◌-◌, ◌^◌, min, Some, [], ◌∷◌, option_map, option_copied};
+ghost use Rattle.std.specs.Prelude.{IfOk};
 ghost use Rattle.std.specs.List.{prefix_len};
 ghost use Rattle.meaning.specs.Characters.{is_digit, number_of};
 ghost use Rattle.meaning.specs.Reading.{run, after, when};
-ghost use Rattle.meaning.specs.Formats.{is_least, count_in, items_of, items, is_short_pass, least_at, integer_at, logical_at, quoted_at, characters_at, times_read, group_at, behind_count, counted_at, part_at, marks, is_separator, next_at, parts_in, descriptors_of, between_parentheses, format_in, undoubled};
-ghost use Rattle.format_edit.specs.Formatted.{descriptor_of, part_of, parts_of, counted, character_at, Gives, Formatted};
+ghost use Rattle.meaning.specs.Formats.{is_least, count_in, items_of, items, is_short_pass};
+ghost use Rattle.meaning.specs.Formats.{least_at, integer_at, logical_at, quoted_at, characters_at};
+ghost use Rattle.meaning.specs.Formats.{times_read, group_at, behind_count, counted_at, part_at};
+ghost use Rattle.meaning.specs.Formats.{marks, is_separator, next_at, parts_in, descriptors_of};
+ghost use Rattle.meaning.specs.Formats.{between_parentheses, format_in, undoubled};
+ghost use Rattle.format_edit.specs.Formatted.{descriptor_of, part_of, parts_of, counted};
+ghost use Rattle.format_edit.specs.Formatted.{character_at, Gives, Formatted};
 
 use crate::fault::FormatFault;
 use crate::format::{Descriptor, Format, Part};
@@ -123,7 +129,8 @@ fn logical_at(text: &[u8]) -> Option<(Descriptor, &[u8])>
     Some((Descriptor::Logical(width), rest))
 }
 
-/// The next character inside apostrophes, a doubled apostrophe being one, and what stands behind it.
+/// The next character inside apostrophes, a doubled apostrophe being one, and what stands behind
+/// it.
 #[tactic(auto, unfolding(crate::specs::Formatted::character_at, meaning::specs::Reading::after, meaning::specs::Reading::when))]
 fn character_at(text: &[u8]) -> Option<(u8, &[u8])>
     ensures { option_map (λ x. (x.0, x.1.now)) result ≡ character_at text.now }
@@ -163,7 +170,8 @@ fn characters_at(alloc: Global, text: &[u8]) -> Result<(Part, &[u8]), FormatFaul
 
 /// A descriptor so many times.
 fn times_read(repeat: u16, read: Option<(Descriptor, &[u8])>) -> Result<(Part, &[u8]), FormatFault>
-    ensures { Gives (λ x. (part_of x.0, x.1.now)) result (times_read repeat (option_map (λ x. (descriptor_of x.0, x.1.now)) read.entry)) }
+    ensures { Gives (λ x. (part_of x.0, x.1.now)) result
+        (times_read repeat (option_map (λ x. (descriptor_of x.0, x.1.now)) read.entry)) }
 {
     match read {
         None => Err(FormatFault::Broken),
@@ -180,7 +188,8 @@ fn group_at(
     repeat: u16,
     text: &[u8],
 ) -> Result<(Part, &[u8]), FormatFault>
-    ensures { Gives (λ x. (part_of x.0, x.1.now)) result (group_at (parts_in levels) repeat text.now) }
+    ensures { Gives (λ x. (part_of x.0, x.1.now)) result
+        (group_at (parts_in levels) repeat text.now) }
 {
     let (parts, rest) = parts_in(alloc, levels, text)?;
     match behind(b')', rest) {
@@ -189,7 +198,8 @@ fn group_at(
     }
 }
 
-/// The letter of a descriptor or the parenthesis of a group behind its count, and what belongs to it.
+/// The letter of a descriptor or the parenthesis of a group behind its count, and what belongs to
+/// it.
 #[cycle(reading)]
 #[tactic(auto, unfolding(meaning::specs::Formats::behind_count))]
 fn behind_count(
@@ -198,7 +208,8 @@ fn behind_count(
     count: u16,
     text: &[u8],
 ) -> Result<(Part, &[u8]), FormatFault>
-    ensures { Gives (λ x. (part_of x.0, x.1.now)) result (behind_count (parts_in levels) count text.now) }
+    ensures { Gives (λ x. (part_of x.0, x.1.now)) result
+        (behind_count (parts_in levels) count text.now) }
 {
     let Some((letter, rest)) = text.split_first() else {
         return Err(FormatFault::Broken);
@@ -290,7 +301,8 @@ fn is_mark(descriptor: &Descriptor) -> bool
     }
 }
 
-/// Where the next part begins, if there is one: behind a comma, at a slash or a colon, or behind one.
+/// Where the next part begins, if there is one: behind a comma, at a slash or a colon, or behind
+/// one.
 #[tactic(auto, unfolding(meaning::specs::Formats::next_at))]
 fn next_at(behind_separator: bool, text: &[u8]) -> Option<&[u8]>
     ensures { option_copied result ≡ next_at behind_separator text.now }
@@ -336,7 +348,8 @@ fn is_short_pass(parts: &[Part]) -> bool
     items(parts) <= MOST_ITEMS
 }
 
-/// The text that a character constant stands for: of two apostrophes in it the second is left out (4.8).
+/// The text that a character constant stands for: of two apostrophes in it the second is left out
+/// (4.8).
 #[tactic(auto, unfolding(meaning::specs::Formats::single_behind, meaning::specs::Formats::undoubled))]
 fn undouble(alloc: Global, text: &[u8]) -> Result<Vec<u8>, AllocError>
     ensures { IfOk result (λ v. v.items ≡ undoubled text.now) }
@@ -363,10 +376,11 @@ fn inside(bare: &[u8]) -> Option<&[u8]>
 }
 
 impl Format {
-    /// Reads what stands between the parentheses of a FORMAT statement, its bare text (ANSI X3.9-1978, 13.1): edit descriptors and
-    /// groups, or nothing. A comma may be left out beside a slash or a colon, counts, widths and numbers of positions are 1
-    /// to 9999, groups nest at most 16 deep, and one pass has at most 65,536 items. `Broken` where it is no format,
-    /// `Memory` where a growth was refused.
+    /// Reads what stands between the parentheses of a FORMAT statement, its bare text (ANSI
+    /// X3.9-1978, 13.1): edit descriptors and groups, or nothing. A comma may be left out beside a
+    /// slash or a colon, counts, widths and numbers of positions are 1 to 9999, groups nest at most
+    /// 16 deep, and one pass has at most 65,536 items. `Broken` where it is no format, `Memory`
+    /// where a growth was refused.
     pub fn read_inside(alloc: Global, text: &[u8]) -> Result<Format, FormatFault>
         ensures { Formatted result (descriptors_of text.now) }
     {
@@ -385,9 +399,9 @@ impl Format {
         Ok(Format { parts })
     }
 
-    /// Reads a format with its parentheses, in which blanks outside apostrophes have no meaning and lower case letters stand for
-    /// upper case ones. `Broken` where it is no format, or more stands outside the parentheses; `Memory` where a growth was
-    /// refused.
+    /// Reads a format with its parentheses, in which blanks outside apostrophes have no meaning and
+    /// lower case letters stand for upper case ones. `Broken` where it is no format, or more stands
+    /// outside the parentheses; `Memory` where a growth was refused.
     #[tactic(auto, unfolding(meaning::specs::Formats::format_in))]
     pub fn read(alloc: Global, text: &[u8]) -> Result<Format, FormatFault>
         ensures { Formatted result (format_in text.now) }
@@ -399,8 +413,8 @@ impl Format {
         }
     }
 
-    /// Reads the format in a character constant, of which this stands between the apostrophes: a format with its parentheses
-    /// (ANSI X3.9-1978, 13.1.2). Faults are those of `read`.
+    /// Reads the format in a character constant, of which this stands between the apostrophes: a
+    /// format with its parentheses (ANSI X3.9-1978, 13.1.2). Faults are those of `read`.
     pub fn read_constant(alloc: Global, text: &[u8]) -> Result<Format, FormatFault>
         ensures { Formatted result (format_in (undoubled text.now)) }
     {

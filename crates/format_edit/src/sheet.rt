@@ -2,7 +2,8 @@
 
 ghost use Rattle.std.specs.Prelude.{◌≤◌, vec_len};
 
-/// The bytes of a WRITE statement so far, and the blanks that are due before the next byte of its record.
+/// The bytes of a WRITE statement so far, and the blanks that are due before the next byte of its
+/// record.
 #[derive(Drop)]
 pub struct Sheet {
     pub bytes: Vec<u8>,

@@ -8,7 +8,7 @@ use Rattle.meaning.specs.NameRules.{breaks_function_rules, defined_here, dummy_n
 use Rattle.meaning.specs.Scopes.{Definition, defined_by, definitions_of}
 use Rattle.meaning.specs.Syntax.{ItemTree, ShapeTree, logical_if}
 use Rattle.meaning.specs.Typing.{option_list}
-use Rattle.meaning.specs.Uses.{Roles, Use, is_before_executables, is_function, is_one_of, uses_in}
+use Rattle.meaning.specs.Uses.{Symbols, Use, is_before_executables, is_function, is_one_of, uses_in}
 use Rattle.rule_passes.proofs.Membership.{any_reversed}
 use Rattle.function_rules.specs.Earlier.{stands_twice}
 use Rattle.function_rules.proofs.Twice.{twice_is}
@@ -32,13 +32,13 @@ twice_answer (n ∷ ns) = by_test (is_one_of ns n) refl (stands_twice ns) (twice
 
 -- ---- references to what stands later
 
-later_same : (r : Roles) (before : List ItemTree) (u : Use) → is_later_use r (names_before r before) u ≡ (is_some u.arguments && (is_function r u.name && not (is_one_of (map (λ (e : Definition). e.name) (reverse (definitions_of r.names.arrays before))) u.name)))
+later_same : (r : Symbols) (before : List ItemTree) (u : Use) → is_later_use r (names_before r before) u ≡ (is_some u.arguments && (is_function r u.name && not (is_one_of (map (λ (e : Definition). e.name) (reverse (definitions_of r.names.arrays before))) u.name)))
 later_same r before u =
     let ds = definitions_of r.names.arrays before in
     let name : Definition → List ℕ = λ e. e.name in
     ap (λ b. is_some u.arguments && (is_function r u.name && not b)) (any_mapped name (bytes_eq u.name) ds ∙ sym (any_reversed (λ e. bytes_eq u.name (name e)) ds) ∙ sym (any_mapped name (bytes_eq u.name) (reverse ds)))
 
-module _ (r : Roles) (before : List ItemTree) (d : Definition) where
+module _ (r : Symbols) (before : List ItemTree) (d : Definition) where
   abbrev earlier : List Definition
   earlier = reverse (definitions_of r.names.arrays before)
 
@@ -86,11 +86,11 @@ module _ (r : Roles) (before : List ItemTree) (d : Definition) where
 
 -- ---- where they may stand
 
-none_under : (r : Roles) (s : ShapeTree) (d : Definition) → defined_by r.names.arrays s ≡ Some d → sets_no_array r s ≡ false
+none_under : (r : Symbols) (s : ShapeTree) (d : Definition) → defined_by r.names.arrays s ≡ Some d → sets_no_array r s ≡ false
 none_under r (logical_if e s) d is = absurd cc
 none_under r s d is = refl
 
-conditional_answer : (r : Roles) (s : ShapeTree) → IsAnswer (λ k. (before : List ItemTree) (x : ItemTree) → x.shape ≡ s → IsBy r before x k) (sets_no_array r s) (conditional_in r s)
+conditional_answer : (r : Symbols) (s : ShapeTree) → IsAnswer (λ k. (before : List ItemTree) (x : ItemTree) → x.shape ≡ s → IsBy r before x k) (sets_no_array r s) (conditional_in r s)
 conditional_answer r (logical_if e s) = by_option (defined_by r.names.arrays s) refl
   where
     by_option : (o : Option Definition) → defined_by r.names.arrays s ≡ o → IsAnswer (λ k. (before : List ItemTree) (x : ItemTree) → x.shape ≡ logical_if e s → IsBy r before x k) (is_some o) (option_map (λ (d : Definition). conditional d.name) o)
@@ -99,7 +99,7 @@ conditional_answer r (logical_if e s) = by_option (defined_by r.names.arrays s) 
         (refl, λ before x same. subst (λ t. IsConditional r t d.name) (sym same) (d, refl, record { defines = is }))
 conditional_answer r s = refl
 
-module _ (r : Roles) (before : List ItemTree) (x : ItemTree) where
+module _ (r : Symbols) (before : List ItemTree) (x : ItemTree) where
   abbrev defines : Option Definition
   defines = defined_by r.names.arrays x.shape
 
@@ -151,6 +151,6 @@ module _ (r : Roles) (before : List ItemTree) (x : ItemTree) where
       let a = subst (IsAnswer (IsByFunction r before d) (is_bad_but_deep r all_before d)) told (bad_answer r before d) in
       ap₂ (λ p q. breaks_by (is_bad_but_deep r all_before) p q (sets_no_array r x.shape)) is early ∙ here (is_bad_but_deep r all_before) d (sets_no_array r x.shape) (none_under r x.shape d is) ∙ a
 
-pub functions_told : (r : Roles) (before : List ItemTree) (x : ItemTree) → IsTold r before x (misdefined_at r before x)
+pub functions_told : (r : Symbols) (before : List ItemTree) (x : ItemTree) → IsTold r before x (misdefined_at r before x)
 functions_told r before x =
     by_parts r before x (defined_by r.names.arrays x.shape) refl (is_before_executables r before) refl _ refl

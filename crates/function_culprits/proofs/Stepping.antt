@@ -7,12 +7,12 @@ use Rattle.std.proofs.lemmas.List.{drop_all}
 use Rattle.meaning.specs.declared.syntax.Item.{Item}
 use Rattle.meaning.specs.Scopes.{Definition, defined_before, defined_by, definitions_of, is_specification}
 use Rattle.meaning.specs.Syntax.{ItemTree}
-use Rattle.meaning.specs.Uses.{Roles, is_one_of}
-use Rattle.roles.specs.Listed.{tree_at, trees_at}
-use Rattle.roles.proofs.Passes.{map_left}
+use Rattle.meaning.specs.Uses.{Symbols, is_one_of}
+use Rattle.symbols.specs.Listed.{tree_at, trees_at}
+use Rattle.symbols.proofs.Passes.{map_left}
 use Rattle.function_culprits.specs.Functions.{names_before, settled_by, settled_in}
 
-module _ (r : Roles) (n : List ℕ) where
+module _ (r : Symbols) (n : List ℕ) where
   abbrev pub defines : List ItemTree → Bool
   defines xs = is_one_of (names_before r xs) n
 

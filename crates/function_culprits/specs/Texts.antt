@@ -1,6 +1,7 @@
 -- What is told of a statement function, as text.
 use Rattle.std.specs.Prelude.{ℕ, ◌++◌, List, codes}
-use Rattle.function_culprits.specs.Told.{Told, late, conditional, crowded, unnamed, doubled, called, recursive, later}
+use Rattle.function_culprits.specs.Told.{Told, late, conditional, crowded, unnamed, doubled, called}
+use Rattle.function_culprits.specs.Told.{recursive, later}
 
 -- the name that it is about
 abbrev pub word_of : Told → List ℕ

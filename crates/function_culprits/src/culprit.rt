@@ -2,8 +2,8 @@
 
 ghost use Rattle.std.specs.Prelude.{◌≡◌};
 
-/// What breaks the rule on statement functions at a statement (ANSI X3.9-1978, 15.4): the name of the function, of a dummy argument
-/// or of another function.
+/// What breaks the rule on statement functions at a statement (ANSI X3.9-1978, 15.4): the name of
+/// the function, of a dummy argument or of another function.
 #[derive(Clone, Copy)]
 pub enum FunctionCulprit<'a> {
     /// It stands behind an executable statement.

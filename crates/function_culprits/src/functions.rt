@@ -7,20 +7,25 @@ ghost use Rattle.meaning.specs.Scopes.{defined_by as definition_by, dummy_name, 
 ghost use Rattle.meaning.specs.Syntax.{exprs_tree, shape_tree};
 ghost use Rattle.meaning.specs.Trees.{item_tree};
 ghost use Rattle.meaning.specs.Uses.{is_before_executables, is_one_of};
-ghost use Rattle.roles.specs.Functions.{definition_at};
-ghost use Rattle.roles.specs.Listed.{trees_at};
-ghost use Rattle.roles.specs.RolesAt.{roles_at};
+ghost use Rattle.symbols.specs.Functions.{definition_at};
+ghost use Rattle.symbols.specs.Listed.{trees_at};
+ghost use Rattle.symbols.specs.SymbolsAt.{symbols_at};
 ghost use Rattle.name_uses.specs.UsesAt.{uses_at};
 ghost use Rattle.finding.specs.Finding.{name_if};
-ghost use Rattle.function_culprits.specs.Functions.{bad_among, bad_dummies_in, bad_in, called_among, conditional_in, crowded_in, defined_told, doubled_in, is_dummy_use, is_later_use, later_among, later_told, misdefined_at, misdefined_in, names_before, settled_by, twice_in, unnamed_in};
+ghost use Rattle.function_culprits.specs.Functions.{bad_among, bad_dummies_in, bad_in};
+ghost use Rattle.function_culprits.specs.Functions.{called_among, conditional_in, crowded_in};
+ghost use Rattle.function_culprits.specs.Functions.{defined_told, doubled_in, is_dummy_use};
+ghost use Rattle.function_culprits.specs.Functions.{is_later_use, later_among, later_told};
+ghost use Rattle.function_culprits.specs.Functions.{misdefined_at, misdefined_in, names_before};
+ghost use Rattle.function_culprits.specs.Functions.{settled_by, twice_in, unnamed_in};
 ghost use Rattle.function_culprits.specs.Told.{tell, told_at};
 
 use crate::culprit::FunctionCulprit;
 use finding::first_passing;
 use meaning::syntax::{Expr, Exprs, Item, Shape};
 use name_uses::{NameUse, Sought, add_uses, is_bare, is_dummy};
-use roles::{Function, Roles, Stage, defined_by, is_function_name, is_specification};
 use std::alloc::{AllocError, Global};
+use symbols::{Function, Stage, Symbols, defined_by, is_function_name, is_specification};
 
 /// Whether there are more expressions than a number.
 fn is_longer(expressions: &Exprs, number: u32) -> bool
@@ -133,12 +138,12 @@ impl Sought for DummyReference<'_> {
     }
 }
 
-/// Whether what a statement says settles that a statement function of that name stands before all executable statements: it defines
-/// the function, or it is executable.
-fn settles_by(roles: &Roles, shape: &Shape, name: &[u8]) -> Option<bool>
-    ensures { result ≡ settled_by (roles_at roles.now) (shape_tree shape.now) name.now }
+/// Whether what a statement says settles that a statement function of that name stands before all
+/// executable statements: it defines the function, or it is executable.
+fn settles_by(symbols: &Symbols, shape: &Shape, name: &[u8]) -> Option<bool>
+    ensures { result ≡ settled_by (symbols_at symbols.now) (shape_tree shape.now) name.now }
 {
-    match defined_by(&roles.ranks, shape) {
+    match defined_by(&symbols.ranks, shape) {
         Some(function) => {
             if name == function.name {
                 Some(true)
@@ -157,18 +162,19 @@ fn settles_by(roles: &Roles, shape: &Shape, name: &[u8]) -> Option<bool>
 }
 
 /// The same of a statement.
-fn settles(roles: &Roles, item: &Item, name: &[u8]) -> Option<bool>
-    ensures { result ≡ settled_by (roles_at roles.now) (item_tree item.now).shape name.now }
+fn settles(symbols: &Symbols, item: &Item, name: &[u8]) -> Option<bool>
+    ensures { result ≡ settled_by (symbols_at symbols.now) (item_tree item.now).shape name.now }
 {
-    settles_by(roles, &*item.form.shape, name)
+    settles_by(symbols, &*item.form.shape, name)
 }
 
 /// Whether a statement function of that name stands among statements before all executable ones.
-fn is_defined_before(roles: &Roles, before: &[&Item], name: &[u8]) -> bool
-    ensures { result ≡ is_one_of (names_before (roles_at roles.now) (trees_at before.now)) name.now }
+fn is_defined_before(symbols: &Symbols, before: &[&Item], name: &[u8]) -> bool
+    ensures { result
+        ≡ is_one_of (names_before (symbols_at symbols.now) (trees_at before.now)) name.now }
 {
     for item in before {
-        match settles(roles, item, name) {
+        match settles(symbols, item, name) {
             Some(answer) => return answer,
             None => {}
         }
@@ -179,17 +185,18 @@ fn is_defined_before(roles: &Roles, before: &[&Item], name: &[u8]) -> bool
 /// A reference to a statement function that none before the statement is.
 #[derive(Clone, Copy)]
 struct LaterReference<'a> {
-    roles: &'a Roles<'a>,
+    symbols: &'a Symbols<'a>,
     before: &'a [&'a Item],
 }
 
 impl Sought for LaterReference<'_> {
-    ghost is_use = { λ s u. is_later_use (roles_at s.roles.now) (names_before (roles_at s.roles.now) (trees_at s.before.now)) u };
+    ghost is_use = { λ s u. is_later_use (symbols_at s.symbols.now)
+        (names_before (symbols_at s.symbols.now) (trees_at s.before.now)) u };
 
     fn is(&self, one: &NameUse) -> bool {
         !is_bare(one.arguments)
-            && is_function_name(self.roles, one.name)
-            && !is_defined_before(self.roles, self.before, one.name)
+            && is_function_name(self.symbols, one.name)
+            && !is_defined_before(self.symbols, self.before, one.name)
     }
 }
 
@@ -216,14 +223,17 @@ fn told_later<'a>(own: &[u8], name: &'a [u8]) -> FunctionCulprit<'a>
 
 /// The first function that is referred to too early.
 fn later<'a>(
-    roles: &Roles,
+    symbols: &Symbols,
     before: &[&Item],
     own: &[u8],
     uses: &[NameUse<'a>],
 ) -> Option<FunctionCulprit<'a>>
-    ensures { tell result ≡ later_among (roles_at roles.now) (names_before (roles_at roles.now) (trees_at before.now)) own.now (uses_at uses.now) }
+    ensures { tell result
+        ≡ later_among (symbols_at symbols.now)
+        (names_before (symbols_at symbols.now) (trees_at before.now))
+        own.now (uses_at uses.now) }
 {
-    match first_passing(uses, &LaterReference { roles, before }) {
+    match first_passing(uses, &LaterReference { symbols, before }) {
         Some(one) => Some(told_later(own, one.name)),
         None => None,
     }
@@ -244,42 +254,49 @@ fn bad_dummies<'a>(function: Function<'a>) -> Option<FunctionCulprit<'a>>
 
 /// What breaks the rule in what a statement function refers to.
 fn bad_references<'a>(
-    roles: &Roles,
+    symbols: &Symbols,
     before: &[&Item],
     function: Function,
     uses: &[NameUse<'a>],
 ) -> Option<FunctionCulprit<'a>>
-    ensures { tell result ≡ bad_among (roles_at roles.now) (names_before (roles_at roles.now) (trees_at before.now)) (definition_at function.entry) (uses_at uses.now) }
+    ensures { tell result
+        ≡ bad_among (symbols_at symbols.now)
+        (names_before (symbols_at symbols.now) (trees_at before.now))
+        (definition_at function.entry) (uses_at uses.now) }
 {
     match called(function, uses) {
         Some(culprit) => Some(culprit),
-        None => later(roles, before, function.name, uses),
+        None => later(symbols, before, function.name, uses),
     }
 }
 
 /// What breaks the rule at a statement function.
 fn bad_function<'a>(
     alloc: Global,
-    roles: &Roles,
+    symbols: &Symbols,
     before: &[&Item],
     function: Function<'a>,
 ) -> Result<Option<FunctionCulprit<'a>>, AllocError>
-    ensures { IfOk result (λ c. tell c ≡ bad_in (roles_at roles.now) (names_before (roles_at roles.now) (trees_at before.now)) (definition_at function.entry)) }
+    ensures { IfOk
+        result (λ c. tell c
+        ≡ bad_in (symbols_at symbols.now)
+        (names_before (symbols_at symbols.now) (trees_at before.now))
+        (definition_at function.entry)) }
 {
     if let Some(culprit) = bad_dummies(function) {
         return Ok(Some(culprit));
     }
     let mut uses = Vec::new(alloc);
     add_uses(&mut uses, function.body)?;
-    Ok(bad_references(roles, before, function, &uses))
+    Ok(bad_references(symbols, before, function, &uses))
 }
 
 /// What breaks the rule under a logical IF.
-fn conditional<'a>(roles: &Roles, shape: &'a Shape) -> Option<FunctionCulprit<'a>>
-    ensures { tell result ≡ conditional_in (roles_at roles.now) (shape_tree shape.now) }
+fn conditional<'a>(symbols: &Symbols, shape: &'a Shape) -> Option<FunctionCulprit<'a>>
+    ensures { tell result ≡ conditional_in (symbols_at symbols.now) (shape_tree shape.now) }
 {
     match shape {
-        Shape::LogicalIf(_, statement) => match defined_by(&roles.ranks, statement) {
+        Shape::LogicalIf(_, statement) => match defined_by(&symbols.ranks, statement) {
             Some(function) => Some(FunctionCulprit::Conditional {
                 name: function.name,
             }),
@@ -290,12 +307,12 @@ fn conditional<'a>(roles: &Roles, shape: &'a Shape) -> Option<FunctionCulprit<'a
 }
 
 /// Whether no executable statement stands before.
-fn is_early(roles: &Roles, before: &[&Item]) -> bool
-    ensures { result ≡ is_before_executables (roles_at roles.now) (trees_at before.now) }
+fn is_early(symbols: &Symbols, before: &[&Item]) -> bool
+    ensures { result ≡ is_before_executables (symbols_at symbols.now) (trees_at before.now) }
 {
     let mut stage = Stage::new();
     for item in before {
-        stage.pass(roles, item);
+        stage.pass(symbols, item);
     }
     stage.is_before_executables
 }
@@ -303,18 +320,23 @@ fn is_early(roles: &Roles, before: &[&Item]) -> bool
 /// What breaks the rule at a statement function that stands behind statements.
 fn misdefined_function<'a>(
     alloc: Global,
-    roles: &Roles,
+    symbols: &Symbols,
     before: &[&Item],
     function: Function<'a>,
 ) -> Result<Option<FunctionCulprit<'a>>, AllocError>
-    ensures { IfOk result (λ c. tell c ≡ defined_told (roles_at roles.now) (is_before_executables (roles_at roles.now) (trees_at before.now)) (names_before (roles_at roles.now) (trees_at before.now)) (definition_at function.entry)) }
+    ensures { IfOk
+        result (λ c. tell c
+        ≡ defined_told (symbols_at symbols.now)
+        (is_before_executables (symbols_at symbols.now) (trees_at before.now))
+        (names_before (symbols_at symbols.now) (trees_at before.now))
+        (definition_at function.entry)) }
 {
-    if !is_early(roles, before) {
+    if !is_early(symbols, before) {
         return Ok(Some(FunctionCulprit::Late {
             name: function.name,
         }));
     }
-    match bad_function(alloc, roles, before, function)? {
+    match bad_function(alloc, symbols, before, function)? {
         Some(culprit) => Ok(Some(culprit)),
         None => Ok(None),
     }
@@ -323,29 +345,37 @@ fn misdefined_function<'a>(
 /// What breaks the rule in what a statement behind others says.
 fn misdefined_shape<'a>(
     alloc: Global,
-    roles: &Roles,
+    symbols: &Symbols,
     before: &[&Item],
     shape: &'a Shape,
 ) -> Result<Option<FunctionCulprit<'a>>, AllocError>
-    ensures { IfOk result (λ c. tell c ≡ misdefined_in (roles_at roles.now) (is_before_executables (roles_at roles.now) (trees_at before.now)) (names_before (roles_at roles.now) (trees_at before.now)) (shape_tree shape.now) (definition_by (roles_at roles.now).names.arrays (shape_tree shape.now))) }
+    ensures { IfOk
+        result (λ c. tell c
+        ≡ misdefined_in (symbols_at symbols.now)
+        (is_before_executables (symbols_at symbols.now) (trees_at before.now))
+        (names_before (symbols_at symbols.now) (trees_at before.now)) (shape_tree shape.now)
+        (definition_by (symbols_at symbols.now).names.arrays (shape_tree shape.now))) }
 {
-    match defined_by(&roles.ranks, shape) {
-        None => Ok(conditional(roles, shape)),
-        Some(function) => match misdefined_function(alloc, roles, before, function)? {
+    match defined_by(&symbols.ranks, shape) {
+        None => Ok(conditional(symbols, shape)),
+        Some(function) => match misdefined_function(alloc, symbols, before, function)? {
             Some(culprit) => Ok(Some(culprit)),
             None => Ok(None),
         },
     }
 }
 
-/// K12: what breaks the rule on statement functions at a statement behind others, but how deep they go and how large they become.
+/// K12: what breaks the rule on statement functions at a statement behind others, but how deep they
+/// go and how large they become.
 pub fn misdefined_name<'a>(
     alloc: Global,
-    roles: &Roles,
+    symbols: &Symbols,
     before: &[&Item],
     item: &'a Item,
 ) -> Result<Option<FunctionCulprit<'a>>, AllocError>
-    ensures { IfOk result (λ c. tell c ≡ misdefined_at (roles_at roles.now) (trees_at before.now) (item_tree item.now)) }
+    ensures { IfOk
+        result (λ c. tell c
+        ≡ misdefined_at (symbols_at symbols.now) (trees_at before.now) (item_tree item.now)) }
 {
-    misdefined_shape(alloc, roles, before, &*item.form.shape)
+    misdefined_shape(alloc, symbols, before, &*item.form.shape)
 }

@@ -1,4 +1,5 @@
-//! What breaks the rule on statement functions (ANSI X3.9-1978, 15.4), for whoever tells people of it.
+//! What breaks the rule on statement functions (ANSI X3.9-1978, 15.4), for whoever tells people of
+//! it.
 #![tactic(auto)]
 
 mod culprit;

@@ -25,8 +25,8 @@ fn said(culprit: FunctionCulprit) -> &'static str
     }
 }
 
-/// Puts what breaks the rule on statement functions behind a text, in the words of a message. The `AllocError` comes only where a
-/// growth was refused, and leaves a part of it there.
+/// Puts what breaks the rule on statement functions behind a text, in the words of a message. The
+/// `AllocError` comes only where a growth was refused, and leaves a part of it there.
 pub fn add_function_text(bytes: &mut Vec<u8>, culprit: FunctionCulprit) -> Result<(), AllocError>
     ensures { OnOk result (bytes.new.items ≡ bytes.old.items ++ told_text (told_at culprit.entry)) }
 {

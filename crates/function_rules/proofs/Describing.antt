@@ -12,7 +12,7 @@ use Rattle.meaning.specs.NameRules.{breaks_function_rules, defined_here, greates
 use Rattle.meaning.specs.Scopes.{Definition, defined_before, defined_by, definitions_of, is_specification}
 use Rattle.meaning.specs.Syntax.{ItemTree, ShapeTree, logical_if}
 use Rattle.meaning.specs.Typing.{option_list}
-use Rattle.meaning.specs.Uses.{Roles, is_before_executables, is_one_of, uses_in}
+use Rattle.meaning.specs.Uses.{Symbols, is_before_executables, is_one_of, uses_in}
 use Rattle.function_rules.specs.Earlier.{Describes, earlier, is_bad_by, is_later_use, level_behind, nodes_behind}
 use Rattle.function_rules.specs.Measured.{capped, is_kept, level_at, nodes_at}
 use Rattle.function_rules.proofs.Measuring.{below_capped, greatest_capped, more_same, nodes_capped}
@@ -24,7 +24,7 @@ or_true : (b : Bool) → (b || true) ≡ true
 or_true true = refl
 or_true false = refl
 
-module _ (r : Roles) where
+module _ (r : Symbols) where
   abbrev pub here_if : Bool → ItemTree → List Definition
   here_if b x = if b then option_list (defined_by r.names.arrays x.shape) else []
 

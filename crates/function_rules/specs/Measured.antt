@@ -1,5 +1,7 @@
--- What is kept of statement functions that stand before others: how deep they call, and how large their expressions become.
-use Rattle.std.specs.Prelude.{ℕ, min, Bool, List, is_some, if◌then◌else◌, Option, option_map, unwrap_or}
+-- What is kept of statement functions that stand before others: how deep they call, and how large
+-- their expressions become.
+use Rattle.std.specs.Prelude.{ℕ, min, Bool, List, is_some, if◌then◌else◌, Option, option_map}
+use Rattle.std.specs.Prelude.{unwrap_or}
 use Rattle.std.specs.Global.{Vec}
 use Rattle.indexmap.specs.IndexMap.{IndexMap}
 use Rattle.meaning.specs.Uses.{Use}

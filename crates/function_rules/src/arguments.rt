@@ -3,23 +3,27 @@
 ghost use Rattle.std.specs.Prelude.{◌≡◌, ◌==◌, ◌&&◌, ◌||◌, ◌∷◌, [], length, nat_le, Some, OnOk};
 ghost use Rattle.std.specs.List.{list_any};
 ghost use Rattle.std.specs.Str.{bytes_eq};
-ghost use Rattle.meaning.specs.NameRules.{has_misuse, is_misused_array, is_misused_function, is_other_number};
+ghost use Rattle.meaning.specs.NameRules.{has_misuse, is_misused_array, is_misused_function};
+ghost use Rattle.meaning.specs.NameRules.{is_other_number};
 ghost use Rattle.meaning.specs.Scopes.{listed};
 ghost use Rattle.meaning.specs.Syntax.{exprs_tree};
 ghost use Rattle.meaning.specs.Uses.{count};
-ghost use Rattle.roles.specs.Functions.{dummies_at};
-ghost use Rattle.roles.specs.RolesAt.{roles_at};
-ghost use Rattle.roles.specs.Stages.{IsBehind};
+ghost use Rattle.symbols.specs.Functions.{dummies_at};
+ghost use Rattle.symbols.specs.SymbolsAt.{symbols_at};
+ghost use Rattle.symbols.specs.Stages.{IsBehind};
 ghost use Rattle.name_uses.specs.UsesAt.{arguments_at, use_at, uses_at};
 ghost use Rattle.rule_passes.specs.Telling.{AddsTold};
-ghost use Rattle.function_rules.specs.Numbers.{are_as_many, has_misused as has_misused_among, is_other_count as is_other_count_of, is_other_reference as is_other_to, takes_other as takes_other_than};
+ghost use Rattle.function_rules.specs.Numbers.{are_as_many, has_misused as has_misused_among};
+ghost use Rattle.function_rules.specs.Numbers.{is_other_count as is_other_count_of};
+ghost use Rattle.function_rules.specs.Numbers.{is_other_reference as is_other_to};
+ghost use Rattle.function_rules.specs.Numbers.{takes_other as takes_other_than};
 
 use meaning::refusal::{Broken, Rule};
 use meaning::syntax::{Exprs, Item};
 use name_uses::{Arguments, NameUse, Sought, has_passing, reads_of, uses_of};
-use roles::{Roles, Stage, function_named, is_intrinsic, is_other_name, rank_of_name};
 use rule_passes::{Behind, add_told};
 use std::alloc::{AllocError, Global};
+use symbols::{Stage, Symbols, function_named, is_intrinsic, is_other_name, rank_of_name};
 
 /// Whether there are so many subscripts.
 fn has_count(number: usize, subscripts: &Exprs) -> bool
@@ -91,10 +95,10 @@ fn is_other_count(dummies: Option<&Exprs>, arguments: Arguments) -> bool
 }
 
 /// Whether a statement function is referenced with another number of arguments than it has dummies.
-fn is_other_reference(roles: &Roles, one: &NameUse) -> bool
-    ensures { result ≡ is_other_to (roles_at roles.now) (use_at one.now) }
+fn is_other_reference(symbols: &Symbols, one: &NameUse) -> bool
+    ensures { result ≡ is_other_to (symbols_at symbols.now) (use_at one.now) }
 {
-    match function_named(roles, one.name) {
+    match function_named(symbols, one.name) {
         Some(function) => is_other_count(function.dummies, one.arguments),
         None => false,
     }
@@ -159,79 +163,82 @@ fn is_other_intrinsic(one: &NameUse) -> bool
 /// A use of an array with another number of subscripts than it has dimensions.
 #[derive(Clone, Copy)]
 struct MisusedArray<'a> {
-    roles: &'a Roles<'a>,
+    symbols: &'a Symbols<'a>,
 }
 
 impl Sought for MisusedArray<'_> {
-    ghost is_use = { λ s u. is_misused_array (roles_at s.roles.now) u };
+    ghost is_use = { λ s u. is_misused_array (symbols_at s.symbols.now) u };
 
     fn is(&self, one: &NameUse) -> bool {
-        is_other_rank(rank_of_name(self.roles, one.name), one.arguments)
+        is_other_rank(rank_of_name(self.symbols, one.name), one.arguments)
     }
 }
 
 /// A reference to a function with another number of arguments than it takes.
 #[derive(Clone, Copy)]
 struct MisusedFunction<'a> {
-    roles: &'a Roles<'a>,
+    symbols: &'a Symbols<'a>,
 }
 
 impl Sought for MisusedFunction<'_> {
-    ghost is_use = { λ s u. is_misused_function (roles_at s.roles.now) u };
+    ghost is_use = { λ s u. is_misused_function (symbols_at s.symbols.now) u };
 
     fn is(&self, one: &NameUse) -> bool {
-        is_other_reference(self.roles, one)
-            || is_other_name(self.roles, one.name) && is_other_intrinsic(one)
+        is_other_reference(self.symbols, one)
+            || is_other_name(self.symbols, one.name) && is_other_intrinsic(one)
     }
 }
 
 /// Whether one of the uses of a statement is one of these, or one of those whose values it has.
-fn has_misused(roles: &Roles, uses: &[NameUse], reads: &[NameUse]) -> bool
-    ensures { result ≡ has_misused_among (roles_at roles.now) (uses_at uses.now) (uses_at reads.now) }
+fn has_misused(symbols: &Symbols, uses: &[NameUse], reads: &[NameUse]) -> bool
+    ensures { result
+        ≡ has_misused_among (symbols_at symbols.now) (uses_at uses.now) (uses_at reads.now) }
 {
-    has_passing(uses, &MisusedArray { roles }) || has_passing(reads, &MisusedFunction { roles })
+    has_passing(uses, &MisusedArray { symbols }) || has_passing(reads, &MisusedFunction { symbols })
 }
 
 /// The rule on numbers of subscripts and arguments.
 #[derive(Drop)]
 struct Misuses<'a> {
     alloc: Global,
-    roles: &'a Roles<'a>,
+    symbols: &'a Symbols<'a>,
     stage: Stage,
 }
 
 impl Behind for Misuses<'_> {
-    ghost breaks = { λ s before x. has_misuse (roles_at s.roles.now) before x };
+    ghost breaks = { λ s before x. has_misuse (symbols_at s.symbols.now) before x };
 
-    ghost knows = { λ s before. IsBehind s.roles.now s.stage before };
+    ghost knows = { λ s before. IsBehind s.symbols.now s.stage before };
 
     fn is_broken(&self, item: &Item) -> Result<bool, AllocError> {
-        let defines = self.stage.is_defining(self.roles, item);
+        let defines = self.stage.is_defining(self.symbols, item);
         let shape = &*item.form.shape;
-        let uses = uses_of(self.alloc, self.roles, defines, shape)?;
-        let reads = reads_of(self.alloc, self.roles, defines, shape)?;
-        Ok(has_misused(self.roles, &uses, &reads))
+        let uses = uses_of(self.alloc, self.symbols, defines, shape)?;
+        let reads = reads_of(self.alloc, self.symbols, defines, shape)?;
+        Ok(has_misused(self.symbols, &uses, &reads))
     }
 
     fn pass(&mut self, item: &Item) -> Result<(), AllocError> {
-        self.stage.pass(self.roles, item);
+        self.stage.pass(self.symbols, item);
         Ok(())
     }
 }
 
-/// K8: adds the pair of each line at which an array or a function has a wrong number of subscripts or arguments.
+/// K8: adds the pair of each line at which an array or a function has a wrong number of subscripts
+/// or arguments.
 pub fn add_miscounts(
     pairs: &mut Vec<Broken>,
     alloc: Global,
-    roles: &Roles,
+    symbols: &Symbols,
     items: &[&Item],
 ) -> Result<(), AllocError>
     ensures { OnOk result
-        (AddsTold (has_misuse (roles_at roles.now)) Rule.K8 items.now pairs.old.items pairs.new.items) }
+        (AddsTold (has_misuse (symbols_at symbols.now)) Rule.K8 items.now pairs.old.items
+        pairs.new.items) }
 {
     let mut misuses = Misuses {
         alloc,
-        roles,
+        symbols,
         stage: Stage::new(),
     };
     add_told(pairs, &mut misuses, Rule::K8, items)

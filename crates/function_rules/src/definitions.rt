@@ -2,24 +2,27 @@
 
 ghost use Rattle.std.specs.Prelude.{◌≡◌, ◌||◌, ◌&&◌, flat_map, length, nat_lt, IfOk, OnOk};
 ghost use Rattle.std.specs.List.{list_any};
-ghost use Rattle.meaning.specs.NameRules.{breaks_function_rules, has_bad_dummies as has_bad_dummies_by, is_no_name, sets_no_array as sets_no_array_by};
+ghost use Rattle.meaning.specs.NameRules.{breaks_function_rules};
+ghost use Rattle.meaning.specs.NameRules.{has_bad_dummies as has_bad_dummies_by, is_no_name};
+ghost use Rattle.meaning.specs.NameRules.{sets_no_array as sets_no_array_by};
 ghost use Rattle.meaning.specs.Scopes.{dummy_name, listed};
 ghost use Rattle.meaning.specs.Syntax.{exprs_tree, shape_tree};
-ghost use Rattle.roles.specs.Functions.{definition_at, dummies_at};
-ghost use Rattle.roles.specs.RolesAt.{roles_at};
+ghost use Rattle.symbols.specs.Functions.{definition_at, dummies_at};
+ghost use Rattle.symbols.specs.SymbolsAt.{symbols_at};
 ghost use Rattle.function_rules.specs.Earlier.{is_dummy_use, is_later_use, stands_twice};
 ghost use Rattle.function_rules.specs.Measured.{is_kept};
 ghost use Rattle.rule_passes.specs.Telling.{AddsTold};
-ghost use Rattle.function_rules.specs.Behind.{DescribesAt, IsHere, KeepsLevel, KeepsNodes, is_bad as is_bad_behind, is_ill as is_ill_behind};
+ghost use Rattle.function_rules.specs.Behind.{DescribesAt, IsHere, KeepsLevel, KeepsNodes};
+ghost use Rattle.function_rules.specs.Behind.{is_bad as is_bad_behind, is_ill as is_ill_behind};
 
 use crate::measures::{Measure, keep_measure, measure_of};
 use indexmap::IndexMap;
 use meaning::refusal::{Broken, Rule};
 use meaning::syntax::{Expr, Exprs, Item, Shape};
 use name_uses::{NameUse, Sought, add_uses, has_passing, is_bare, is_dummy};
-use roles::{Function, Roles, Stage, defined_by, is_function_name};
 use rule_passes::{Behind, add_told};
 use std::alloc::{AllocError, Global};
+use symbols::{Function, Stage, Symbols, defined_by, is_function_name};
 
 /// Whether there are more expressions than a number.
 fn is_longer(expressions: &Exprs, number: u32) -> bool
@@ -91,16 +94,16 @@ impl Sought for DummyReference<'_> {
 /// A reference to a statement function that none of those that are kept is.
 #[derive(Clone, Copy)]
 struct LaterReference<'a> {
-    roles: &'a Roles<'a>,
+    symbols: &'a Symbols<'a>,
     kept: &'a IndexMap<Vec<u8>, Measure>,
 }
 
 impl Sought for LaterReference<'_> {
-    ghost is_use = { λ s u. is_later_use (roles_at s.roles.now) (is_kept s.kept.now) u };
+    ghost is_use = { λ s u. is_later_use (symbols_at s.symbols.now) (is_kept s.kept.now) u };
 
     fn is(&self, one: &NameUse) -> bool {
         !is_bare(one.arguments)
-            && is_function_name(self.roles, one.name)
+            && is_function_name(self.symbols, one.name)
             && !self.kept.contains_key(one.name)
     }
 }
@@ -114,17 +117,17 @@ fn is_too_deep(measure: Measure) -> bool
 
 /// Whether the expression of a statement function breaks the rule, by the uses in it.
 fn has_bad_body(
-    roles: &Roles,
+    symbols: &Symbols,
     kept: &IndexMap<Vec<u8>, Measure>,
     function: Function,
     uses: &[NameUse],
 ) -> bool
-    ensures { result ≡ is_ill_behind roles.now kept.now function.entry uses.now }
+    ensures { result ≡ is_ill_behind symbols.now kept.now function.entry uses.now }
 {
     let dummy = DummyReference {
         dummies: function.dummies,
     };
-    let later = LaterReference { roles, kept };
+    let later = LaterReference { symbols, kept };
     has_passing(uses, &dummy)
         || has_passing(uses, &later)
         || is_too_deep(measure_of(kept, function.body, uses))
@@ -133,36 +136,36 @@ fn has_bad_body(
 /// Whether a statement function breaks the rule, by the measures of those before it.
 fn is_bad(
     alloc: Global,
-    roles: &Roles,
+    symbols: &Symbols,
     kept: &IndexMap<Vec<u8>, Measure>,
     function: Function,
 ) -> Result<bool, AllocError>
-    ensures { IfOk result (λ b. b ≡ is_bad_behind roles.now kept.now function.entry) }
+    ensures { IfOk result (λ b. b ≡ is_bad_behind symbols.now kept.now function.entry) }
 {
     if has_bad_dummies(function) {
         return Ok(true);
     }
     let mut uses = Vec::new(alloc);
     add_uses(&mut uses, function.body)?;
-    Ok(has_bad_body(roles, kept, function, &uses))
+    Ok(has_bad_body(symbols, kept, function, &uses))
 }
 
 /// Whether a statement under a logical IF assigns to what is no array and has parentheses.
-fn sets_no_array(roles: &Roles, shape: &Shape) -> bool
-    ensures { result ≡ sets_no_array_by (roles_at roles.now) (shape_tree shape.now) }
+fn sets_no_array(symbols: &Symbols, shape: &Shape) -> bool
+    ensures { result ≡ sets_no_array_by (symbols_at symbols.now) (shape_tree shape.now) }
 {
     match shape {
-        Shape::LogicalIf(_, statement) => defined_by(&roles.ranks, statement).is_some(),
+        Shape::LogicalIf(_, statement) => defined_by(&symbols.ranks, statement).is_some(),
         _ => false,
     }
 }
 
 /// The statement function that a statement defines.
-fn function_here<'a>(roles: &Roles, stage: &Stage, item: &'a Item) -> Option<Function<'a>>
-    ensures { IsHere roles.now stage.now item.now result }
+fn function_here<'a>(symbols: &Symbols, stage: &Stage, item: &'a Item) -> Option<Function<'a>>
+    ensures { IsHere symbols.now stage.now item.now result }
 {
     if stage.is_before_executables {
-        defined_by(&roles.ranks, &*item.form.shape)
+        defined_by(&symbols.ranks, &*item.form.shape)
     } else {
         None
     }
@@ -191,7 +194,7 @@ fn keep_function(
 /// The rule on statement functions.
 struct Definitions<'a> {
     alloc: Global,
-    roles: &'a Roles<'a>,
+    symbols: &'a Symbols<'a>,
     stage: Stage,
     /// The measures of the statement functions that were passed.
     kept: IndexMap<Vec<u8>, Measure>,
@@ -201,7 +204,7 @@ impl Drop for Definitions<'_> {
     fn drop(self) {
         let Definitions {
             alloc: _,
-            roles: _,
+            symbols: _,
             stage: _,
             kept,
         } = self;
@@ -210,28 +213,28 @@ impl Drop for Definitions<'_> {
 }
 
 impl Behind for Definitions<'_> {
-    ghost breaks = { λ s before x. breaks_function_rules (roles_at s.roles.now) before x };
+    ghost breaks = { λ s before x. breaks_function_rules (symbols_at s.symbols.now) before x };
 
-    ghost knows = { λ s before. DescribesAt s.roles.now s.stage s.kept before };
+    ghost knows = { λ s before. DescribesAt s.symbols.now s.stage s.kept before };
 
     fn is_broken(&self, item: &Item) -> Result<bool, AllocError> {
         let shape = &*item.form.shape;
-        match defined_by(&self.roles.ranks, shape) {
+        match defined_by(&self.symbols.ranks, shape) {
             Some(function) => {
                 if self.stage.is_before_executables {
-                    is_bad(self.alloc, self.roles, &self.kept, function)
+                    is_bad(self.alloc, self.symbols, &self.kept, function)
                 } else {
                     Ok(true)
                 }
             }
-            None => Ok(sets_no_array(self.roles, shape)),
+            None => Ok(sets_no_array(self.symbols, shape)),
         }
     }
 
     fn pass(&mut self, item: &Item) -> Result<(), AllocError> {
-        let function = function_here(self.roles, &self.stage, item);
+        let function = function_here(self.symbols, &self.stage, item);
         keep_function(&mut self.kept, self.alloc, function)?;
-        self.stage.pass(self.roles, item);
+        self.stage.pass(self.symbols, item);
         Ok(())
     }
 }
@@ -240,15 +243,17 @@ impl Behind for Definitions<'_> {
 pub fn add_bad_definitions(
     pairs: &mut Vec<Broken>,
     alloc: Global,
-    roles: &Roles,
+    symbols: &Symbols,
     items: &[&Item],
 ) -> Result<(), AllocError>
     ensures { OnOk result
-        (AddsTold (breaks_function_rules (roles_at roles.now)) Rule.K12 items.now pairs.old.items pairs.new.items) }
+        (AddsTold (breaks_function_rules (symbols_at symbols.now)) Rule.K12 items.now
+        pairs.old.items
+        pairs.new.items) }
 {
     let mut definitions = Definitions {
         alloc,
-        roles,
+        symbols,
         stage: Stage::new(),
         kept: IndexMap::new(alloc),
     };

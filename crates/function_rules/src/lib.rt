@@ -1,5 +1,5 @@
-//! The rules on subscripts, arguments, and functions (ANSI X3.9-1978, chapters 5 and 15). K8: `add_miscounts`; K12: `add_bad_definitions`;
-//! K13: `add_unknown_functions`.
+//! The rules on subscripts, arguments, and functions (ANSI X3.9-1978, chapters 5 and 15). K8:
+//! `add_miscounts`; K12: `add_bad_definitions`; K13: `add_unknown_functions`.
 #![tactic(auto)]
 
 mod arguments;

@@ -1,4 +1,5 @@
-//! How deep statement functions call one another, and how large their expressions become (ANSI X3.9-1978, 15.4).
+//! How deep statement functions call one another, and how large their expressions become (ANSI
+//! X3.9-1978, 15.4).
 
 ghost use Rattle.std.specs.Prelude.{◌≡◌, ◌+◌, suc, max, Some, OnOk};
 ghost use Rattle.meaning.specs.NameRules.{greatest, nodes_in, nodes_in_all};
@@ -12,8 +13,9 @@ use meaning::syntax::{Expr, Exprs};
 use name_uses::{Arguments, NameUse};
 use std::alloc::{AllocError, Global};
 
-/// How deep a statement function calls others, and how many constants, names, operators and parentheses its expression has when the
-/// uses of others are replaced by theirs; the greatest number stands for each greater one.
+/// How deep a statement function calls others, and how many constants, names, operators and
+/// parentheses its expression has when the uses of others are replaced by theirs; the greatest
+/// number stands for each greater one.
 #[derive(Clone, Copy)]
 pub struct Measure {
     pub level: u32,
@@ -51,7 +53,8 @@ fn nodes_named(kept: &IndexMap<Vec<u8>, Measure>, name: &[u8]) -> Option<u32>
     }
 }
 
-/// How many constants, names, operators and parentheses an expression has, with those of the statement functions that it uses.
+/// How many constants, names, operators and parentheses an expression has, with those of the
+/// statement functions that it uses.
 #[cycle(nodes)]
 pub fn nodes_of(kept: &IndexMap<Vec<u8>, Measure>, expression: &Expr) -> u32
     ensures { result ≡ capped (nodes_in (nodes_at kept.now) (expr_tree expression.now)) }

@@ -1,5 +1,6 @@
 -- The hints for faults (own).
-use Rattle.std.specs.Prelude.{ℕ, ◌-◌, Bool, false, ◌&&◌, ◌==◌, List, [], ◌∷◌, length, take, drop, nat_eq, if◌then◌else◌, Option, Some, None, codes}
+use Rattle.std.specs.Prelude.{ℕ, ◌-◌, Bool, false, ◌&&◌, ◌==◌, List, [], ◌∷◌, length, take, drop}
+use Rattle.std.specs.Prelude.{nat_eq, if◌then◌else◌, Option, Some, None, codes}
 use Rattle.std.specs.List.{starts_with, ends_with}
 use Rattle.meaning.specs.declared.ending.FaultKind.{FaultKind}
 use Rattle.meaning.specs.declared.ending.FaultKind.TheVariants.{F2, F4}
@@ -16,7 +17,9 @@ from_equals (c ∷ cs) = if c == 61 then c ∷ cs else from_equals cs
 -- arguments and the parenthesis that closes them at the end, with a product among them
 abbrev pub are_with_product : List ℕ → Bool
 are_with_product rest =
-    ends_with nat_eq rest (41 ∷ 10 ∷ []) && (balanced 0 false (take (length rest - 2) rest) && holds (take (length rest - 2) rest) (codes "*"))
+    ends_with nat_eq rest (41 ∷ 10 ∷ [])
+    && (balanced 0 false (take (length rest - 2) rest)
+    && holds (take (length rest - 2) rest) (codes "*"))
 
 -- a reference to MOD by itself
 abbrev pub is_mod_of_product : List ℕ → Bool

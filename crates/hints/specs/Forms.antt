@@ -6,7 +6,17 @@ use Rattle.std.specs.Option.{option_map}
 use Rattle.meaning.specs.declared.refusal.Rule.{Rule}
 use Rattle.meaning.specs.declared.refusal.Rule.TheVariants as rules
 use Rattle.hints.specs.declared.hint.Hint.{Hint}
-use Rattle.hints.specs.declared.hint.Hint.TheVariants.{Tab, CommentMark, Preprocessor, DebugLine, Columns, Comment, Quotes, Behind72, Format, Hollerith, Ampersand, Semicolon, Colons, Relation, NameCharacter, Function, Subroutine, Return, Length, InitialValue, Parameter, ListDirected, Control, Read, Files, Unit, Leave, Assigned, Forever, End, Program, Include, Characters, RealConstant, Real, Common, Equivalence, Needless, Pause, Exit, Then, Limits, Declare, RealEdit, TabEdit, EditComma, Conversion, Root}
+use Rattle.hints.specs.declared.hint.Hint.TheVariants.{Tab, CommentMark, Preprocessor, DebugLine}
+use Rattle.hints.specs.declared.hint.Hint.TheVariants.{Columns, Comment, Quotes, Behind72, Format}
+use Rattle.hints.specs.declared.hint.Hint.TheVariants.{Hollerith, Ampersand, Semicolon, Colons}
+use Rattle.hints.specs.declared.hint.Hint.TheVariants.{Relation, NameCharacter, Function}
+use Rattle.hints.specs.declared.hint.Hint.TheVariants.{Subroutine, Return, Length, InitialValue}
+use Rattle.hints.specs.declared.hint.Hint.TheVariants.{Parameter, ListDirected, Control, Read}
+use Rattle.hints.specs.declared.hint.Hint.TheVariants.{Files, Unit, Leave, Assigned, Forever, End}
+use Rattle.hints.specs.declared.hint.Hint.TheVariants.{Program, Include, Characters, RealConstant}
+use Rattle.hints.specs.declared.hint.Hint.TheVariants.{Real, Common, Equivalence, Needless, Pause}
+use Rattle.hints.specs.declared.hint.Hint.TheVariants.{Exit, Then, Limits, Declare, RealEdit}
+use Rattle.hints.specs.declared.hint.Hint.TheVariants.{TabEdit, EditComma, Conversion, Root}
 use Rattle.hints.specs.Patterns.{holds}
 
 -- a text has the form if it has one of the first patterns and one of the second
@@ -84,7 +94,8 @@ unread =
     form any ("::" ∷ []) Colons ∷
     form any ("==" ∷ "/=" ∷ "<" ∷ "d>" ∷ "l>" ∷ ")>" ∷ []) Relation ∷
     form any ("_" ∷ "$" ∷ []) NameCharacter ∷
-    form ("bINTEGERFUNCTION" ∷ "bLOGICALFUNCTION" ∷ "bINTEGER*dFUNCTION" ∷ "bLOGICAL*dFUNCTION" ∷ []) any Function ∷
+    form ("bINTEGERFUNCTION" ∷ "bLOGICALFUNCTION" ∷ "bINTEGER*dFUNCTION" ∷ "bLOGICAL*dFUNCTION" ∷
+    []) any Function ∷
     form ("bINTEGER*" ∷ "bLOGICAL*" ∷ "bIMPLICITINTEGER*" ∷ "bIMPLICITLOGICAL*" ∷ []) any Length ∷
     form ("bINTEGER" ∷ "bLOGICAL" ∷ []) ("/z" ∷ []) InitialValue ∷
     form ("aPARAMETERl" ∷ []) any Parameter ∷
@@ -105,7 +116,8 @@ unread =
     form ("bACCEPT" ∷ []) any Read ∷
     form ("bINCLUDE" ∷ []) any Include ∷
     form any (")''" ∷ ",''z" ∷ ",''," ∷ "=''z" ∷ ".''" ∷ "/''" ∷ []) Characters ∷
-    form any ("m.d" ∷ "nd.n" ∷ "ndd.n" ∷ "nddd.n" ∷ "ndddd.n" ∷ "d.xd" ∷ "d.xsd" ∷ "ndxd" ∷ "nddxd" ∷ "ndxsd" ∷ "nddxsd" ∷ []) RealConstant ∷
+    form any ("m.d" ∷ "nd.n" ∷ "ndd.n" ∷ "nddd.n" ∷ "ndddd.n" ∷ "d.xd" ∷ "d.xsd" ∷ "ndxd" ∷ "nddxd"
+    ∷ "ndxsd" ∷ "nddxsd" ∷ []) RealConstant ∷
     []
 
 -- G2: statements that are left out

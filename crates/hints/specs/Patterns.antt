@@ -1,10 +1,12 @@
--- Patterns (own). A small letter in them stands for some characters, and any other character for itself. Texts have no small letters.
-use Rattle.std.specs.Prelude.{ℕ, Bool, true, false, not, ◌||◌, ◌&&◌, ◌==◌, List, [], ◌∷◌, if◌then◌else◌}
+-- Patterns (own). A small letter in them stands for some characters, and any other character for
+-- itself. Texts have no small letters.
+use Rattle.std.specs.Prelude.{ℕ, Bool, true, false, not, ◌||◌, ◌&&◌, ◌==◌, List, [], ◌∷◌}
+use Rattle.std.specs.Prelude.{if◌then◌else◌}
 use Rattle.meaning.specs.Characters.{blank, is_alphanumeric, is_digit, is_letter}
 
--- a: where an assignment or a DO statement begins. b: where another statement begins, or a line. d: a digit. e: a digit or a blank. l: a
--- letter. m: no letter. n: neither a letter nor a digit. q: a quotation mark. s: a sign. t: a tab. u: a digit but 6. x: D or E. z: where a
--- statement ends
+-- a: where an assignment or a DO statement begins. b: where another statement begins, or a line. d:
+-- a digit. e: a digit or a blank. l: a letter. m: no letter. n: neither a letter nor a digit. q: a
+-- quotation mark. s: a sign. t: a tab. u: a digit but 6. x: D or E. z: where a statement ends
 abbrev pub fits : ℕ → ℕ → Bool
 fits p c =
     if p == 97 then c == 13

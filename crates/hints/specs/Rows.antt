@@ -4,4 +4,5 @@ use Rattle.hints.specs.declared.tables.Row.{Row}
 use Rattle.hints.specs.Forms.{Form}
 
 abbrev pub form_of : Row → Form
-form_of r = record { front = map (λ w. w.now) r.0.now; inner = map (λ w. w.now) r.1.now; hint = r.2 }
+form_of r =
+    record { front = map (λ w. w.now) r.0.now; inner = map (λ w. w.now) r.1.now; hint = r.2 }

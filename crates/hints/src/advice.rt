@@ -20,8 +20,8 @@ fn view(alloc: Global, source: &[u8], rule: Rule, line: u32) -> Result<Vec<u8>, 
     }
 }
 
-/// The hint for a source that is refused by a rule at a line: that of the first of the rule's forms that the line, or the statement that
-/// begins there, has. None where it has none of them.
+/// The hint for a source that is refused by a rule at a line: that of the first of the rule's forms
+/// that the line, or the statement that begins there, has. None where it has none of them.
 ///
 /// # Errors
 ///

@@ -1,7 +1,8 @@
 //! The hints for faults.
 
 ghost use Rattle.std.specs.Prelude.{◌≡◌, IfOk};
-ghost use Rattle.hints.specs.Faults.{are_with_product as are_product, fault_hint, from_equals as behind_equals, is_mod_of_product as is_mod};
+ghost use Rattle.hints.specs.Faults.{are_with_product as are_product, fault_hint};
+ghost use Rattle.hints.specs.Faults.{from_equals as behind_equals, is_mod_of_product as is_mod};
 ghost use Rattle.hints.specs.Views.{statement_view as view_of_statement};
 
 use crate::hint::Hint;
@@ -26,7 +27,8 @@ fn from_equals(text: &[u8]) -> &[u8]
     rest
 }
 
-/// Whether a text is arguments and the parenthesis that closes them at the end, with a product among them.
+/// Whether a text is arguments and the parenthesis that closes them at the end, with a product
+/// among them.
 fn are_with_product(rest: &[u8]) -> bool
     ensures { result ≡ are_product rest.now }
 {
@@ -36,7 +38,8 @@ fn are_with_product(rest: &[u8]) -> bool
     }
 }
 
-/// Whether a text is an equals sign and a reference to MOD by itself, with a product among its arguments.
+/// Whether a text is an equals sign and a reference to MOD by itself, with a product among its
+/// arguments.
 fn is_mod_of_product(text: &[u8]) -> bool
     ensures { result ≡ is_mod text.now }
 {
@@ -46,8 +49,8 @@ fn is_mod_of_product(text: &[u8]) -> bool
     }
 }
 
-/// The hint for a fault in the statement that begins at a line: for the turn limit, and for a product that is too large in an assignment of
-/// MOD alone. None for other faults.
+/// The hint for a fault in the statement that begins at a line: for the turn limit, and for a
+/// product that is too large in an assignment of MOD alone. None for other faults.
 ///
 /// # Errors
 ///

@@ -1,5 +1,6 @@
-//! One line of advice for what old sources have: the text of the line or the statement that is refused, or at fault, and the rule that
-//! it breaks tell what to write instead. Where it has none of the forms of `specs/Forms.antt`, there is no hint.
+//! One line of advice for what old sources have: the text of the line or the statement that is
+//! refused, or at fault, and the rule that it breaks tell what to write instead. Where it has none
+//! of the forms of `specs/Forms.antt`, there is no hint.
 #![tactic(auto)]
 
 mod advice;

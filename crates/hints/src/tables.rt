@@ -1,4 +1,5 @@
-//! The forms that have hints, by the rule that is told of them. In a pattern a small letter stands for some characters (`pattern.rt`).
+//! The forms that have hints, by the rule that is told of them. In a pattern a small letter stands
+//! for some characters (`pattern.rt`).
 
 ghost use Rattle.std.specs.Prelude.{◌≡◌, map};
 ghost use Rattle.hints.specs.Forms.{first_hint, forms_of, has};
@@ -67,7 +68,8 @@ const UNREAD: &[Row] = rows! {
     [b""] [b"::"] Colons;
     [b""] [b"==" b"/=" b"<" b"d>" b"l>" b")>"] Relation;
     [b""] [b"_" b"$"] NameCharacter;
-    [b"bINTEGERFUNCTION" b"bLOGICALFUNCTION" b"bINTEGER*dFUNCTION" b"bLOGICAL*dFUNCTION"] [b""] Function;
+    [b"bINTEGERFUNCTION" b"bLOGICALFUNCTION" b"bINTEGER*dFUNCTION" b"bLOGICAL*dFUNCTION"] [b""]
+        Function;
     [b"bINTEGER*" b"bLOGICAL*" b"bIMPLICITINTEGER*" b"bIMPLICITLOGICAL*"] [b""] Length;
     [b"bINTEGER" b"bLOGICAL"] [b"/z"] InitialValue;
     [b"aPARAMETERl"] [b""] Parameter;
@@ -88,7 +90,8 @@ const UNREAD: &[Row] = rows! {
     [b"bACCEPT"] [b""] Read;
     [b"bINCLUDE"] [b""] Include;
     [b""] [b")''" b",''z" b",''," b"=''z" b".''" b"/''"] Characters;
-    [b""] [b"m.d" b"nd.n" b"ndd.n" b"nddd.n" b"ndddd.n" b"d.xd" b"d.xsd" b"ndxd" b"nddxd" b"ndxsd" b"nddxsd"] RealConstant;
+    [b""] [b"m.d" b"nd.n" b"ndd.n" b"nddd.n" b"ndddd.n" b"d.xd" b"d.xsd" b"ndxd" b"nddxd" b"ndxsd"
+        b"nddxsd"] RealConstant;
 };
 
 /// G2: statements that are left out.

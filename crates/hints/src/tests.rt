@@ -3,7 +3,8 @@ use meaning::ending::FaultKind;
 use meaning::refusal::Rule;
 use std::test::Fail;
 
-/// Lines with what the program refuses them by, and statements that it accepts or that have none of the forms.
+/// Lines with what the program refuses them by, and statements that it accepts or that have none of
+/// the forms.
 const LINES: &[(&str, Rule, Option<Hint>)] = &[
     ("\tI=1", Rule::C1, Some(Hint::Tab)),
     ("   10\tI=1", Rule::C1, Some(Hint::Tab)),

@@ -1,11 +1,15 @@
-//! The texts in which patterns are sought: columns 1 to 72 of a line, and the outline of a statement.
+//! The texts in which patterns are sought: columns 1 to 72 of a line, and the outline of a
+//! statement.
 
 ghost use Rattle.std.specs.Prelude.{◌≡◌, ◌||◌, ◌==◌, ◌++◌, map, OnOk, IfOk};
 ghost use Rattle.std.specs.List.{flat_map, list_any};
 ghost use Rattle.meaning.specs.Characters.{apostrophe, raised};
 ghost use Rattle.meaning.specs.Lines.{lines_of};
 ghost use Rattle.source_columns.specs.Excerpts.{continued};
-ghost use Rattle.hints.specs.Views.{columns as columns_of, is_cut as is_cut_off, joined as joined_lines, line_view as view_of_line, outline as outline_by, statement_view as view_of_statement, ended_by as ended_with};
+ghost use Rattle.hints.specs.Views.{columns as columns_of, is_cut as is_cut_off};
+ghost use Rattle.hints.specs.Views.{joined as joined_lines, line_view as view_of_line};
+ghost use Rattle.hints.specs.Views.{outline as outline_by, statement_view as view_of_statement};
+ghost use Rattle.hints.specs.Views.{ended_by as ended_with};
 
 use lexer::{has_equals_sign, is_balanced};
 use source_columns::{line_at, next_continuation};
@@ -48,7 +52,9 @@ fn add_continued(
     from: usize,
     to: usize,
 ) -> Result<(), AllocError>
-    ensures { OnOk result (text.new.items ≡ text.old.items ++ flat_map (columns_of from to) (continued (lines_of source.now))) }
+    ensures { OnOk result
+        (text.new.items ≡ text.old.items
+        ++ flat_map (columns_of from to) (continued (lines_of source.now))) }
 {
     let mut rest = source;
     while let Some((line, behind)) = next_continuation(rest) {
@@ -87,7 +93,8 @@ fn ended_by(c: u8) -> u8
     }
 }
 
-/// The characters of a statement outside character constants and comments, without blanks, and with small letters raised.
+/// The characters of a statement outside character constants and comments, without blanks, and with
+/// small letters raised.
 #[tactic(auto, unfolding(crate::specs::Views::outline))]
 fn outline(alloc: Global, text: &[u8]) -> Result<Vec<u8>, AllocError>
     ensures { IfOk result (λ v. v.items ≡ outline_by 0 text.now) }

@@ -5,18 +5,18 @@ ghost use Rattle.meaning.specs.Reports.{Gives};
 ghost use Rattle.meaning.specs.Statements.{entry_of};
 ghost use Rattle.meaning.specs.Trees.{item_tree, nested};
 ghost use Rattle.meaning.specs.Answers.{member_of, members_of, program_of};
-ghost use Rattle.numbering.specs.Checked.{tree_of};
+ghost use Rattle.storage.specs.Checked.{tree_of};
 ghost use Rattle.rule_laws.specs.Units.{unit_of};
 
 use checker::check;
-use coding::coded;
 use lexer::bare;
+use lowering::lowered;
 use meaning::refusal::{Broken, Refusal, lesser};
 use meaning::statement::Statement;
 use meaning::syntax::{Item, Tree};
 use nesting::tree;
 use parser::form;
-use programs::Program;
+use program::Program;
 use source_columns::statements;
 use std::alloc::Global;
 
@@ -86,5 +86,5 @@ pub fn program_in(alloc: Global, source: &[u8]) -> Result<Program, Refusal>
 {
     let unit = unit_in(alloc, source)?;
     let program = check(alloc, unit)?;
-    Ok(coded(alloc, program)?)
+    Ok(lowered(alloc, program)?)
 }

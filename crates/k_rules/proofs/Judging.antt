@@ -21,7 +21,7 @@ use Rattle.meaning.specs.Statements.{broken_if}
 use Rattle.meaning.specs.Surroundings.{Around, in_arm, in_body, in_range, told_in, told_in_arms}
 use Rattle.meaning.specs.Syntax.{ItemTree}
 use Rattle.meaning.specs.Trees.{Arms, Members, Nested, arm, block, flatten, loop, no_arms, none, plain}
-use Rattle.meaning.specs.Uses.{Roles, roles_of}
+use Rattle.meaning.specs.Uses.{Symbols, symbols_of}
 use Rattle.meaning.proofs.Least.{least-append, merge-merge}
 use Rattle.k_rules.specs.declared.verdict.Facts.{Facts}
 use Rattle.k_rules.specs.Judged.{IsDecided, rules_but_data, rules_first, rules_last, with_data}
@@ -115,10 +115,10 @@ between front ts os l is others =
     ∙ merge-merge (least front) (least os) (least ts)
 
 -- all rules
-pub judged : (t : Nested) → least (broken_rules t) ≡ merge (merge (least (rules_first (roles_of (flatten t)) (flatten t))) (least (rules_last (roles_of (flatten t)) (flatten t) t.body))) (least (told (has_bad_data (roles_of (flatten t))) K10 [] (flatten t)))
+pub judged : (t : Nested) → least (broken_rules t) ≡ merge (merge (least (rules_first (symbols_of (flatten t)) (flatten t))) (least (rules_last (symbols_of (flatten t)) (flatten t) t.body))) (least (told (has_bad_data (symbols_of (flatten t))) K10 [] (flatten t)))
 judged t =
     let all = flatten t in
-    let r = roles_of all in
+    let r = symbols_of all in
     let data_told = told (has_bad_data r) K10 [] all in
     let line = told_of K10 (has_bad_data r) [] all in
     ap least (regroup (told has_repeated_label K1 [] all) (broken_names r all) (told (has_bad_number r) K6 [] all) (told (has_large_array r) K7 [] all) data_told (told (has_bad_output r all) K11 [] all) (broken_lists r t))
@@ -131,17 +131,17 @@ judged t =
     regroup a b c d e f g = simp append_assoc
 
 module _ (t : Nested) where
-  abbrev least_by : Roles → List ItemTree → List ItemTree → Option Broken
+  abbrev least_by : Symbols → List ItemTree → List ItemTree → Option Broken
   least_by r xs ys = merge (least (rules_first r xs)) (least (rules_last r ys t.body))
 
-  pub broken_all : (r : Roles) (xs ys : List ItemTree) (others : Option Broken) → r ≡ roles_of (flatten t) → xs ≡ flatten t → ys ≡ flatten t → others ≡ least (rules_but_data r ys t.body) → with_data xs others ≡ least (broken_rules t)
-  broken_all r xs ys others roles_are xs_are ys_are is =
-      ap (with_data xs) (is ∙ least-append (rules_first r ys) (rules_last r ys t.body) ∙ ap (λ q. least_by q ys ys) roles_are
-      ∙ ap (λ zs. least_by (roles_of (flatten t)) zs zs) ys_are)
-      ∙ ap (λ zs. with_data zs (least_by (roles_of (flatten t)) (flatten t) (flatten t))) xs_are
+  pub broken_all : (r : Symbols) (xs ys : List ItemTree) (others : Option Broken) → r ≡ symbols_of (flatten t) → xs ≡ flatten t → ys ≡ flatten t → others ≡ least (rules_but_data r ys t.body) → with_data xs others ≡ least (broken_rules t)
+  broken_all r xs ys others symbols_are xs_are ys_are is =
+      ap (with_data xs) (is ∙ least-append (rules_first r ys) (rules_last r ys t.body) ∙ ap (λ q. least_by q ys ys) symbols_are
+      ∙ ap (λ zs. least_by (symbols_of (flatten t)) zs zs) ys_are)
+      ∙ ap (λ zs. with_data zs (least_by (symbols_of (flatten t)) (flatten t) (flatten t))) xs_are
       ∙ sym (judged t)
 
-pub with_data_at : (all : List ItemTree) (others : Option Broken) {r : Roles} → r ≡ roles_of all → merge others (least (told (has_bad_data r) K10 [] all)) ≡ with_data all others
+pub with_data_at : (all : List ItemTree) (others : Option Broken) {r : Symbols} → r ≡ symbols_of all → merge others (least (told (has_bad_data r) K10 [] all)) ≡ with_data all others
 with_data_at all others is = ap (λ q. merge others (least (told (has_bad_data q) K10 [] all))) is
 
 pub allowed : (o : Option Broken) → None ≡ o → unless {A = Unit {0}} o tt ≡ Ok tt

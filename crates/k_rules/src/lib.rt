@@ -1,4 +1,5 @@
-//! All rules on a program unit, and what is known of one that breaks none (ANSI X3.9-1978, chapters 2 to 15).
+//! All rules on a program unit, and what is known of one that breaks none (ANSI X3.9-1978, chapters
+//! 2 to 15).
 #![tactic(auto)]
 
 mod pairs;

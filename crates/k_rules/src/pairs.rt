@@ -1,4 +1,5 @@
-//! The pairs of the rules on a program unit, each line that breaks one (ANSI X3.9-1978, chapters 2 to 15).
+//! The pairs of the rules on a program unit, each line that breaks one (ANSI X3.9-1978, chapters 2
+//! to 15).
 
 ghost use Rattle.std.specs.Prelude.{◌≡◌, map, Some, IfOk, OnOk};
 ghost use Rattle.meaning.specs.Refusals.{least, merge};
@@ -11,11 +12,11 @@ use meaning::refusal::{Broken, lesser};
 use meaning::syntax::Member;
 use name_rules::add_name_conflicts;
 use number_rules::{add_bad_constants, add_large_arrays};
-use roles::Roles;
 use statement_rules::{
     Formats, add_bad_loop_variables, add_bad_output, add_missed_labels, add_repeated_labels,
 };
 use std::alloc::{AllocError, Global};
+use symbols::Symbols;
 use type_rules::{add_real_names, add_wrong_types};
 
 /// The lesser of the least pair so far and another one.
@@ -37,52 +38,53 @@ pub fn least_of(pairs: &[Broken]) -> Option<Broken>
 }
 
 /// Adds those of the rules on names.
-fn add_names(pairs: &mut Vec<Broken>, alloc: Global, roles: &Roles) -> Result<(), AllocError>
-    ensures { OnOk result (AddsNames roles.now pairs.old.items pairs.new.items) }
+fn add_names(pairs: &mut Vec<Broken>, alloc: Global, symbols: &Symbols) -> Result<(), AllocError>
+    ensures { OnOk result (AddsNames symbols.now pairs.old.items pairs.new.items) }
 {
-    add_real_names(pairs, alloc, roles, roles.items)?;
-    add_name_conflicts(pairs, alloc, roles, roles.items)?;
-    add_wrong_types(pairs, roles, roles.items)?;
-    add_miscounts(pairs, alloc, roles, roles.items)?;
-    add_bad_definitions(pairs, alloc, roles, roles.items)?;
-    add_unknown_functions(pairs, alloc, roles, roles.items)
+    add_real_names(pairs, alloc, symbols, symbols.items)?;
+    add_name_conflicts(pairs, alloc, symbols, symbols.items)?;
+    add_wrong_types(pairs, symbols, symbols.items)?;
+    add_miscounts(pairs, alloc, symbols, symbols.items)?;
+    add_bad_definitions(pairs, alloc, symbols, symbols.items)?;
+    add_unknown_functions(pairs, alloc, symbols, symbols.items)
 }
 
-/// Adds those of the rules on the statements in their order that stand before that on DATA statements.
-fn add_first(pairs: &mut Vec<Broken>, alloc: Global, roles: &Roles) -> Result<(), AllocError>
-    ensures { OnOk result (AddsFirst roles.now pairs.old.items pairs.new.items) }
+/// Adds those of the rules on the statements in their order that stand before that on DATA
+/// statements.
+fn add_first(pairs: &mut Vec<Broken>, alloc: Global, symbols: &Symbols) -> Result<(), AllocError>
+    ensures { OnOk result (AddsFirst symbols.now pairs.old.items pairs.new.items) }
 {
-    add_repeated_labels(pairs, alloc, roles.items)?;
-    add_names(pairs, alloc, roles)?;
-    add_bad_constants(pairs, alloc, roles, roles.items)?;
-    add_large_arrays(pairs, alloc, roles, roles.items)
+    add_repeated_labels(pairs, alloc, symbols.items)?;
+    add_names(pairs, alloc, symbols)?;
+    add_bad_constants(pairs, alloc, symbols, symbols.items)?;
+    add_large_arrays(pairs, alloc, symbols, symbols.items)
 }
 
 /// Adds those of the rules on lists of statements.
 fn add_in_lists(
     pairs: &mut Vec<Broken>,
     alloc: Global,
-    roles: &Roles,
+    symbols: &Symbols,
     members: &[Member],
 ) -> Result<(), AllocError>
-    ensures { OnOk result (AddsInLists roles.now members.now pairs.old.items pairs.new.items) }
+    ensures { OnOk result (AddsInLists symbols.now members.now pairs.old.items pairs.new.items) }
 {
-    add_missed_labels(pairs, alloc, roles, roles.items, members)?;
-    add_bad_loop_variables(pairs, alloc, roles, members)
+    add_missed_labels(pairs, alloc, symbols, symbols.items, members)?;
+    add_bad_loop_variables(pairs, alloc, symbols, members)
 }
 
 /// Adds those of the rules that stand after that on DATA statements; the formats of the statements.
 fn add_last(
     pairs: &mut Vec<Broken>,
     alloc: Global,
-    roles: &Roles,
+    symbols: &Symbols,
     members: &[Member],
 ) -> Result<Formats, AllocError>
-    ensures told { OnOk result (AddsLast roles.now members.now pairs.old.items pairs.new.items) }
-    ensures formats { IfOk result (λ f. HoldsFormats (map tree_at roles.now.items.now) f) }
+    ensures told { OnOk result (AddsLast symbols.now members.now pairs.old.items pairs.new.items) }
+    ensures formats { IfOk result (λ f. HoldsFormats (map tree_at symbols.now.items.now) f) }
 {
-    let formats = add_bad_output(pairs, alloc, roles)?;
-    match add_in_lists(pairs, alloc, roles, members) {
+    let formats = add_bad_output(pairs, alloc, symbols)?;
+    match add_in_lists(pairs, alloc, symbols, members) {
         Ok(()) => Ok(formats),
         Err(AllocError) => {
             drop(formats);
@@ -91,8 +93,8 @@ fn add_last(
     }
 }
 
-/// Adds the pair of each line of a program unit that breaks a rule, rule by rule, for all rules but that on DATA statements. The
-/// formats of the unit, each of which is read once.
+/// Adds the pair of each line of a program unit that breaks a rule, rule by rule, for all rules but
+/// that on DATA statements. The formats of the unit, each of which is read once.
 ///
 /// # Errors
 ///
@@ -100,12 +102,13 @@ fn add_last(
 pub fn add_all_but_data(
     pairs: &mut Vec<Broken>,
     alloc: Global,
-    roles: &Roles,
+    symbols: &Symbols,
     members: &[Member],
 ) -> Result<Formats, AllocError>
-    ensures told { OnOk result (AddsOthers roles.now members.now pairs.old.items pairs.new.items) }
-    ensures formats { IfOk result (λ f. HoldsFormats (map tree_at roles.now.items.now) f) }
+    ensures told { OnOk result
+        (AddsOthers symbols.now members.now pairs.old.items pairs.new.items) }
+    ensures formats { IfOk result (λ f. HoldsFormats (map tree_at symbols.now.items.now) f) }
 {
-    add_first(pairs, alloc, roles)?;
-    add_last(pairs, alloc, roles, members)
+    add_first(pairs, alloc, symbols)?;
+    add_last(pairs, alloc, symbols, members)
 }

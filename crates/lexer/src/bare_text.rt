@@ -6,8 +6,8 @@ ghost use Rattle.meaning.specs.BareText.{bare as bare_text};
 use meaning::statement::{Bare, Statement};
 use std::alloc::{AllocError, Global};
 
-/// A text without the blanks outside its apostrophes, and with the letters there raised (ANSI X3.9-1978, 3.1.5 and 3.1.6).
-/// The `AllocError` comes where a growth was refused.
+/// A text without the blanks outside its apostrophes, and with the letters there raised (ANSI
+/// X3.9-1978, 3.1.5 and 3.1.6). The `AllocError` comes where a growth was refused.
 #[tactic(auto, unfolding(meaning::specs::BareText::bare_behind, meaning::specs::BareText::bare))]
 pub fn bare_bytes(alloc: Global, text: &[u8]) -> Result<Vec<u8>, AllocError>
     ensures same { IfOk result (λ b. b.items ≡ bare_text text.now) }

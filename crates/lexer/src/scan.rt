@@ -1,6 +1,7 @@
 //! What is seen of a text before it is read, outside apostrophes.
 
-ghost use Rattle.std.specs.Prelude.{◌≡◌, ◌<◌, ◌+◌, ◌-◌, ◌^◌, ◌==◌, ◌&&◌, not, false, if◌then◌else◌, nat_eq, nat_lt};
+ghost use Rattle.std.specs.Prelude.{◌≡◌, ◌<◌, ◌+◌, ◌-◌, ◌^◌, ◌==◌, ◌&&◌, not, false, if◌then◌else◌};
+ghost use Rattle.std.specs.Prelude.{nat_eq, nat_lt};
 ghost use Rattle.std.specs.List.{starts_with};
 ghost use Rattle.meaning.specs.Kinds.{marks_at, has_equals, has_limits, behind_closing};
 ghost use Rattle.meaning.specs.Spelling.{balanced};
@@ -9,7 +10,8 @@ ghost use Rattle.meaning.specs.Reading.{most_open};
 /// How many parentheses may be open at once.
 const MOST_OPEN: usize = 64;
 
-/// A place in a text: how many parentheses are open there, and whether it stands inside apostrophes.
+/// A place in a text: how many parentheses are open there, and whether it stands inside
+/// apostrophes.
 #[derive(Clone, Copy)]
 struct Place {
     depth: usize,
@@ -25,7 +27,8 @@ const FRONT: Place = Place {
 /// The place behind a character. A closing parenthesis where none is open changes nothing.
 fn behind(place: Place, c: u8) -> Place
     requires { place.depth < 2 ^ 64 - 1 }
-    ensures depth { result.depth ≡ if not place.inside && c == 40 then place.depth + 1 else (if not place.inside && c == 41 then place.depth - 1 else place.depth) }
+    ensures depth { result.depth ≡ if not place.inside && c == 40 then place.depth + 1
+        else (if not place.inside && c == 41 then place.depth - 1 else place.depth) }
     ensures inside { result.inside ≡ if c == 39 then not place.inside else place.inside }
 {
     let Place { depth, inside } = place;
@@ -53,8 +56,8 @@ fn is_outside(place: Place) -> bool
     !place.inside && place.depth == 0
 }
 
-/// Whether an equals sign stands outside parentheses and apostrophes, before a parenthesis that closes what the text
-/// doesn't open.
+/// Whether an equals sign stands outside parentheses and apostrophes, before a parenthesis that
+/// closes what the text doesn't open.
 #[tactic(auto, unfolding(meaning::specs::Kinds::marks_at))]
 pub fn has_equals_sign(text: &[u8]) -> bool
     ensures { result ≡ has_equals text.now }

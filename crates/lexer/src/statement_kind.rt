@@ -3,7 +3,11 @@
 ghost use Rattle.std.specs.Prelude.{◌≡◌};
 ghost use Rattle.std.specs.List.{prefix_len};
 ghost use Rattle.meaning.specs.Characters.{is_digit};
-ghost use Rattle.meaning.specs.Kinds.{kind_of, begins_with_digit as digit_first, behind_digits as digits_left, behind_comma as comma_left, begins_while as while_first, kind_by_keyword as keyword_kind, kind_by_control_keyword as control_kind, kind_outside_if as other_kind, kind_behind_if as if_kind};
+ghost use Rattle.meaning.specs.Kinds.{kind_of, begins_with_digit as digit_first};
+ghost use Rattle.meaning.specs.Kinds.{behind_digits as digits_left, behind_comma as comma_left};
+ghost use Rattle.meaning.specs.Kinds.{begins_while as while_first, kind_by_keyword as keyword_kind};
+ghost use Rattle.meaning.specs.Kinds.{kind_by_control_keyword as control_kind};
+ghost use Rattle.meaning.specs.Kinds.{kind_outside_if as other_kind, kind_behind_if as if_kind};
 
 use crate::scan::{begins, behind_closing_parenthesis, has_comma_behind, has_equals_sign};
 use meaning::statement::Bare;
@@ -103,8 +107,8 @@ fn kind_by_keyword(text: &[u8]) -> Kind
     }
 }
 
-/// With an equals sign outside parentheses and apostrophes a DO statement, if such a comma stands behind the first one,
-/// and else an assignment; without one what the first keyword says.
+/// With an equals sign outside parentheses and apostrophes a DO statement, if such a comma stands
+/// behind the first one, and else an assignment; without one what the first keyword says.
 #[tactic(auto, unfolding(meaning::specs::Kinds::kind_outside_if))]
 fn kind_outside_if(text: &[u8]) -> Kind
     ensures { result ≡ other_kind text.now }
@@ -130,7 +134,8 @@ pub fn begins_with_digit(text: &[u8]) -> bool
     }
 }
 
-/// Which IF it is, by what stands behind its parentheses; with an equals sign there it is an assignment to an array IF.
+/// Which IF it is, by what stands behind its parentheses; with an equals sign there it is an
+/// assignment to an array IF.
 #[tactic(auto, unfolding(meaning::specs::Kinds::kind_behind_if))]
 fn kind_behind_if(text: &[u8], rest: &[u8]) -> Kind
     ensures { result ≡ if_kind text.now rest.now }
@@ -146,7 +151,8 @@ fn kind_behind_if(text: &[u8], rest: &[u8]) -> Kind
     }
 }
 
-/// Which statement a text without blanks can be, a whole one or what stands behind `IF(..)`, by the rule of [`kind`].
+/// Which statement a text without blanks can be, a whole one or what stands behind `IF(..)`, by the
+/// rule of [`kind`].
 #[tactic(auto, unfolding(meaning::specs::Kinds::kind_of))]
 pub fn kind_of_text(text: &[u8]) -> Kind
     ensures { result ≡ kind_of text.now }
@@ -158,10 +164,11 @@ pub fn kind_of_text(text: &[u8]) -> Kind
     }
 }
 
-/// Which statement a bare text can be. Behind `IF(..)` a label makes it an arithmetic IF, `THEN` a block IF, an equals
-/// sign an assignment, and anything else a logical IF. Else, where an equals sign stands outside parentheses and
-/// apostrophes, it is a DO statement if such a comma stands behind the first one, and an assignment if none does; where
-/// no equals sign stands, its first keyword decides.
+/// Which statement a bare text can be. Behind `IF(..)` a label makes it an arithmetic IF, `THEN` a
+/// block IF, an equals sign an assignment, and anything else a logical IF. Else, where an equals
+/// sign stands outside parentheses and apostrophes, it is a DO statement if such a comma stands
+/// behind the first one, and an assignment if none does; where no equals sign stands, its first
+/// keyword decides.
 pub fn kind(bare: &Bare) -> Kind
     ensures { result ≡ kind_of bare.now.text.items }
 {

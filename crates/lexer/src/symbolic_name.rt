@@ -18,8 +18,8 @@ fn are_alphanumeric(text: &[u8]) -> bool
     text.iter().all(|c| is_alphanumeric(*c))
 }
 
-/// Whether a text is a symbolic name: a letter and up to thirty letters or digits (ANSI X3.9-1978, 2.2, where they are
-/// up to five: longer names of up to 31 characters are read).
+/// Whether a text is a symbolic name: a letter and up to thirty letters or digits (ANSI X3.9-1978,
+/// 2.2, where they are up to five: longer names of up to 31 characters are read).
 pub fn is_symbolic_name(text: &[u8]) -> bool
     ensures { result ≡ is_name text.now }
 {

@@ -8,7 +8,7 @@ use Rattle.meaning.specs.LoopRules.{has_nested_variable, is_no_counter, resets_i
 use Rattle.meaning.specs.Surroundings.{controlled_by, loop_variables}
 use Rattle.meaning.specs.Syntax.{DataSetTree, ItemTree, ListItemsTree, no_items, more_items, value_item, loop_item, ShapeTree, writing, printing, initializing, logical_if}
 use Rattle.meaning.specs.Trees.{Nested, flatten}
-use Rattle.meaning.specs.Uses.{Roles, is_one_of, roles_of}
+use Rattle.meaning.specs.Uses.{Symbols, is_one_of, symbols_of}
 use Rattle.statement_rules.specs.Implied.{stands_in_own}
 use Rattle.statement_rules.proofs.Implying.{stands_is}
 use Rattle.list_culprits.specs.Seats.{Opener, Seat, counted_in, head_in}
@@ -89,8 +89,8 @@ some_none : {X : Type 0} (x : X) → Some x ≡ None → ⊥
 some_none x is = cc
 
 module _ (t : Nested) (z : Seat) where
-  abbrev r : Roles
-  r = roles_of (flatten t)
+  abbrev r : Symbols
+  r = symbols_of (flatten t)
 
   abbrev s : ShapeTree
   s = z.item.shape

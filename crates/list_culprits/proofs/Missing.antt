@@ -6,7 +6,7 @@ use Rattle.std.specs.Option.{option_or}
 use Rattle.std.proofs.lemmas.List.Elements.{Contains-append_cases, Contains-append_left, Contains-append_right}
 use Rattle.std.proofs.lemmas.List.Folds.{list_any_at}
 use Rattle.meaning.specs.Scopes.{is_specification}
-use Rattle.meaning.specs.Uses.{Roles, is_defining}
+use Rattle.meaning.specs.Uses.{Symbols, is_defining}
 use Rattle.meaning.specs.Characters.{number_of}
 use Rattle.meaning.specs.LabelRules.{has_label, misses, not_executable, transfers_of}
 use Rattle.meaning.specs.Syntax.{ItemTree, ShapeTree, going, computed_going, arithmetic_if, logical_if}
@@ -50,7 +50,7 @@ first_none f g keeps (x ∷ xs) is = by_first (f x) refl (first_none f g keeps x
 any_stands : {X : Type 0} (g : X → Bool) (xs : List X) (x : X) → Contains xs x → g x ≡ true → list_any g xs ≡ true
 any_stands g xs x (k, lt, is) holds = list_any_at g xs k x lt (ap g is ∙ holds)
 
-closed_stands : (r : Roles) (before all : List ItemTree) (x : ItemTree) → Contains (not_executable r before all) x → Contains all x
+closed_stands : (r : Symbols) (before all : List ItemTree) (x : ItemTree) → Contains (not_executable r before all) x → Contains all x
 unfolding not_executable
 closed_stands r before [] x h = h
 closed_stands r before (y ∷ ys) x h =
@@ -82,10 +82,10 @@ module _ (t : Nested) (z : Seat) (label : List ℕ) where
   has = has_label (number_of label)
 
   abbrev closed_ones : List ItemTree
-  closed_ones = not_executable u.roles [] u.all
+  closed_ones = not_executable u.symbols [] u.all
 
   abbrev is_missed : Bool
-  is_missed = misses u.roles u.all z.reach (number_of label)
+  is_missed = misses u.symbols u.all z.reach (number_of label)
 
   -- where nothing is told it is reached
   none_by : (a b : Bool) (k j : Told) (p : Option ItemTree) → find has closed_ones ≡ p → (if a then Some k else (if b then Some j else told_closed label p)) ≡ None → ((a || b) || list_any has closed_ones) ≡ false
@@ -133,7 +133,7 @@ module _ (t : Nested) (z : Seat) (label : List ℕ) where
   closed_by k (Some x) at is =
       let f = found has closed_ones x at in
       let e : closed label (closed_kind x.shape) ≡ k = cc in
-      (any_found has closed_ones x at, subst Told_by e (λ m. (m, record { statement = x; stands = closed_stands u.roles [] u.all x f.stands; has = f.passes; kind_is = inr refl })))
+      (any_found has closed_ones x at, subst Told_by e (λ m. (m, record { statement = x; stands = closed_stands u.symbols [] u.all x f.stands; has = f.passes; kind_is = inr refl })))
 
   or_true : (b : Bool) → (b || true) ≡ true
   or_true true = refl
@@ -161,12 +161,12 @@ module _ (t : Nested) (z : Seat) (label : List ℕ) where
 
 module _ (t : Nested) (z : Seat) where
   abbrev missed_one : List ℕ → Bool
-  missed_one label = misses (unit_of t).roles (unit_of t).all z.reach (number_of label)
+  missed_one label = misses (unit_of t).symbols (unit_of t).all z.reach (number_of label)
 
   broken_is : is_transfer_broken t z ≡ list_any missed_one (targets_of z.item.shape)
   broken_is =
-      ap (list_any (misses (unit_of t).roles (unit_of t).all z.reach)) (targets_are z.item.shape)
-      ∙ any_mapped number_of (misses (unit_of t).roles (unit_of t).all z.reach) (targets_of z.item.shape)
+      ap (list_any (misses (unit_of t).symbols (unit_of t).all z.reach)) (targets_are z.item.shape)
+      ∙ any_mapped number_of (misses (unit_of t).symbols (unit_of t).all z.reach) (targets_of z.item.shape)
 
   answer : (o : Option Told) → missed_in (unit_of t) z ≡ o → IsAnswer (IsMissedBy (unit_of t) z) (is_transfer_broken t z) o
   answer (Some k) is =

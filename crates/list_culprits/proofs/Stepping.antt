@@ -11,9 +11,9 @@ use Rattle.meaning.specs.declared.syntax.Item.{Item}
 use Rattle.meaning.specs.LabelRules.{has_label, not_executable}
 use Rattle.meaning.specs.Scopes.{is_specification}
 use Rattle.meaning.specs.Syntax.{ItemTree}
-use Rattle.meaning.specs.Uses.{Roles, is_defining}
-use Rattle.roles.specs.Listed.{tree_at, trees_at}
-use Rattle.roles.proofs.Passes.{map_left, map_more}
+use Rattle.meaning.specs.Uses.{Symbols, is_defining}
+use Rattle.symbols.specs.Listed.{tree_at, trees_at}
+use Rattle.symbols.proofs.Passes.{map_left, map_more}
 use Rattle.statement_rules.specs.Counted.{one_more}
 use Rattle.statement_rules.proofs.Labelled.{counted_more}
 use Rattle.list_culprits.specs.Told.{Told}
@@ -47,10 +47,10 @@ pub count_more : (s : ℕ) (ms : List (Bor Item)) (i : ℕ) (m : Bor Item) (b : 
 count_more s ms i m b old lt is test so_far =
     counted_more s ms i m old (one_more b old) lt is so_far (ap (λ c. one_more c old) test)
 
-abbrev pub is_closed : Roles → List ItemTree → ItemTree → Bool
+abbrev pub is_closed : Symbols → List ItemTree → ItemTree → Bool
 is_closed r before x = is_specification x.shape || is_defining r before x
 
-pub closed_first : (r : Roles) (s : ℕ) (ms : List (Bor Item)) (i : ℕ) (m : Bor Item) (b : Bool) → i < length ms → m ≡ get_or ms i m → b ≡ (is_closed r (trees_at (take i ms)) (tree_at m) && has_label s (tree_at m)) → find (has_label s) (not_executable r (trees_at (take i ms)) (trees_at (drop i ms))) ≡ (if b then Some (tree_at m) else find (has_label s) (not_executable r (trees_at (take (i + 1) ms)) (trees_at (drop (i + 1) ms))))
+pub closed_first : (r : Symbols) (s : ℕ) (ms : List (Bor Item)) (i : ℕ) (m : Bor Item) (b : Bool) → i < length ms → m ≡ get_or ms i m → b ≡ (is_closed r (trees_at (take i ms)) (tree_at m) && has_label s (tree_at m)) → find (has_label s) (not_executable r (trees_at (take i ms)) (trees_at (drop i ms))) ≡ (if b then Some (tree_at m) else find (has_label s) (not_executable r (trees_at (take (i + 1) ms)) (trees_at (drop (i + 1) ms))))
 unfolding not_executable
 closed_first r s ms i m b lt is test =
     let before = trees_at (take i ms) in
@@ -66,7 +66,7 @@ closed_first r s ms i m b lt is test =
     by_tests false h at zs = refl
 
 -- there is none behind all of them
-pub closed_last : (r : Roles) (s : ℕ) (before : List ItemTree) (ms : List (Bor Item)) (i : ℕ) → length ms ≤ i → find (has_label s) (not_executable r before (trees_at (drop i ms))) ≡ None
+pub closed_last : (r : Symbols) (s : ℕ) (before : List ItemTree) (ms : List (Bor Item)) (i : ℕ) → length ms ≤ i → find (has_label s) (not_executable r before (trees_at (drop i ms))) ≡ None
 unfolding not_executable
 closed_last r s before ms i le =
     ap (λ ys. find (has_label s) (not_executable r before (trees_at ys))) (drop_all i ms le)

@@ -1,11 +1,15 @@
--- The first name by which a statement breaks the rule on the variables of loops (ANSI X3.9-1978, 9.3, 11.10 and 12.8.2.3).
-use Rattle.std.specs.Prelude.{ℕ, Bool, List, [], ◌∷◌, is_some, if◌then◌else◌, Option, Some, None, option_map}
+-- The first name by which a statement breaks the rule on the variables of loops (ANSI X3.9-1978,
+-- 9.3, 11.10 and 12.8.2.3).
+use Rattle.std.specs.Prelude.{ℕ, Bool, List, [], ◌∷◌, is_some, if◌then◌else◌, Option, Some, None}
+use Rattle.std.specs.Prelude.{option_map}
 use Rattle.std.specs.List.{find}
 use Rattle.std.specs.Option.{option_or}
 use Rattle.meaning.specs.LoopRules.{is_no_counter, variables_set}
 use Rattle.meaning.specs.Surroundings.{controlled_by, loop_variables}
-use Rattle.meaning.specs.Syntax.{DataSetTree, ItemTree, ListItemsTree, no_items, more_items, value_item, loop_item, ShapeTree, writing, printing, initializing, logical_if}
-use Rattle.meaning.specs.Uses.{Roles, is_one_of}
+use Rattle.meaning.specs.Syntax.{DataSetTree, ItemTree, ListItemsTree, no_items, more_items}
+use Rattle.meaning.specs.Syntax.{value_item, loop_item, ShapeTree, writing, printing, initializing}
+use Rattle.meaning.specs.Syntax.{logical_if}
+use Rattle.meaning.specs.Uses.{Symbols, is_one_of}
 use Rattle.list_culprits.specs.Seats.{Opener, Seat, counted_in, head_in}
 use Rattle.list_culprits.specs.Told.{Told, uncounted, counting, implied}
 
@@ -21,7 +25,8 @@ abbrev pub implied_in : ListItemsTree → Option (List ℕ)
 implied_in no_items = None
 implied_in (more_items (value_item e) xs) = implied_in xs
 implied_in (more_items (loop_item ys variable limits) xs) =
-    if is_one_of (loop_variables ys) variable then Some variable else option_or (implied_in ys) (implied_in xs)
+    if is_one_of (loop_variables ys) variable then Some variable
+    else option_or (implied_in ys) (implied_in xs)
 
 abbrev pub implied_in_sets : List DataSetTree → Option (List ℕ)
 implied_in_sets [] = None
@@ -42,11 +47,12 @@ told_counting os (Some n) = option_map (λ x. counting n x.line) (counter_of os 
 abbrev pub counting_in : Seat → Option Told
 counting_in z = told_counting z.openers (find (is_counter z.openers) (variables_set z.item.shape))
 
-abbrev pub uncounted_in : Roles → ShapeTree → Option Told
+abbrev pub uncounted_in : Symbols → ShapeTree → Option Told
 uncounted_in r s = option_map uncounted (find (is_no_counter r) (controlled_by s))
 
--- K9: a variable of a DO or an implied DO that is none, else one that is set though a DO statement around counts with it, else one of
--- an implied DO that one inside it has
-abbrev pub looped_in : Roles → Seat → Option Told
+-- K9: a variable of a DO or an implied DO that is none, else one that is set though a DO statement
+-- around counts with it, else one of an implied DO that one inside it has
+abbrev pub looped_in : Symbols → Seat → Option Told
 looped_in r z =
-    option_or (uncounted_in r z.item.shape) (option_or (counting_in z) (option_map implied (implied_by z.item.shape)))
+    option_or (uncounted_in r z.item.shape)
+    (option_or (counting_in z) (option_map implied (implied_by z.item.shape)))

@@ -3,7 +3,8 @@ use Rattle.std.specs.Prelude.{ℕ, ◌++◌, List, codes}
 use Rattle.std.specs.Fmt.{decimal}
 use Rattle.list_culprits.specs.declared.culprit.Kind.{Kind}
 use Rattle.list_culprits.specs.declared.culprit.Kind.TheVariants as kinds
-use Rattle.list_culprits.specs.Told.{Told, nowhere, closed, in_range, in_block, apart, shared, uncounted, counting, implied}
+use Rattle.list_culprits.specs.Told.{Told, nowhere, closed, in_range, in_block, apart, shared}
+use Rattle.list_culprits.specs.Told.{uncounted, counting, implied}
 
 -- a statement of a kind
 abbrev pub kind_text : Kind → List ℕ

@@ -1,11 +1,15 @@
 -- The first label that a transfer misses, and why (ANSI X3.9-1978, 11.1, 11.2, 11.4 and 11.10.8).
-use Rattle.std.specs.Prelude.{ℕ, ◌==◌, Bool, not, List, [], ◌∷◌, count_by, if◌then◌else◌, Option, Some, None, option_map}
+use Rattle.std.specs.Prelude.{ℕ, ◌==◌, Bool, not, List, [], ◌∷◌, count_by, if◌then◌else◌, Option}
+use Rattle.std.specs.Prelude.{Some, None, option_map}
 use Rattle.std.specs.List.{find}
 use Rattle.std.specs.Option.{option_or}
 use Rattle.meaning.specs.Characters.{number_of}
 use Rattle.meaning.specs.LabelRules.{has_label, not_executable}
-use Rattle.meaning.specs.Syntax.{ItemTree, ShapeTree, assignment, definition, typing, logical_typing, dimensioning, naming, implying, implicit_none, parameter, initializing, format, going, computed_going, arithmetic_if, logical_if, else_if, otherwise}
-use Rattle.meaning.specs.Uses.{Roles}
+use Rattle.meaning.specs.Syntax.{ItemTree, ShapeTree, assignment, definition, typing}
+use Rattle.meaning.specs.Syntax.{logical_typing, dimensioning, naming, implying, implicit_none}
+use Rattle.meaning.specs.Syntax.{parameter, initializing, format, going, computed_going}
+use Rattle.meaning.specs.Syntax.{arithmetic_if, logical_if, else_if, otherwise}
+use Rattle.meaning.specs.Uses.{Symbols}
 use Rattle.list_culprits.specs.declared.culprit.Kind.{Kind}
 use Rattle.list_culprits.specs.declared.culprit.Kind.TheVariants as kinds
 use Rattle.list_culprits.specs.Seats.{Opener, range_of, block_of, Seat, seat_passing}
@@ -67,11 +71,11 @@ times label items = count_by (has_label (number_of label)) items
 
 -- the parts of a program unit that labels are sought in
 pub record ProgramUnit : Type 0 where
-  pub roles : Roles
+  pub symbols : Symbols
   pub seats : List Seat
   pub all : List ItemTree
 
-abbrev pub told_present : Roles → List ItemTree → List ItemTree → List ℕ → Option Told
+abbrev pub told_present : Symbols → List ItemTree → List ItemTree → List ℕ → Option Told
 told_present r all reach label =
     if not (times label reach == times label all) then Some (shared label)
     else told_closed label (find (has_label (number_of label)) (not_executable r [] all))
@@ -79,8 +83,9 @@ told_present r all reach label =
 -- what is told of a label that a statement transfers to, if it misses it
 abbrev pub missed_at : ProgramUnit → List ItemTree → List ℕ → Option Told
 missed_at u reach label =
-    if times label reach == 0 then Some (told_absent label (seat_passing (has_label (number_of label)) u.seats))
-    else told_present u.roles u.all reach label
+    if times label reach == 0
+    then Some (told_absent label (seat_passing (has_label (number_of label)) u.seats))
+    else told_present u.symbols u.all reach label
 
 -- K2: of the labels of a statement the first that it misses
 abbrev pub missed_in : ProgramUnit → Seat → Option Told

@@ -2,7 +2,8 @@
 
 ghost use Rattle.std.specs.Prelude.{◌≡◌};
 
-/// What kind of statement a label is of that no transfer of control may reach (ANSI X3.9-1978, 11.1 and chapter 7).
+/// What kind of statement a label is of that no transfer of control may reach (ANSI X3.9-1978, 11.1
+/// and chapter 7).
 #[derive(Clone, Copy, Debug, PartialEq, Eq)]
 pub enum Kind {
     Program,
@@ -18,7 +19,8 @@ pub enum Kind {
     Else,
 }
 
-/// What breaks a rule on lists at a statement. The labels of K2 are the digits that the transfer has.
+/// What breaks a rule on lists at a statement. The labels of K2 are the digits that the transfer
+/// has.
 #[derive(Clone, Copy)]
 pub enum ListCulprit<'a> {
     /// K2: no statement has the label (ANSI X3.9-1978, 3.4).
@@ -27,7 +29,8 @@ pub enum ListCulprit<'a> {
     Closed { label: &'a [u8], kind: Kind },
     /// K2: the label stands in the range of the DO statement of a line (11.10.8).
     InRange { label: &'a [u8], line: u32 },
-    /// K2: the label stands in the block of the IF THEN, ELSE IF or ELSE statement of a line (11.6 to 11.8).
+    /// K2: the label stands in the block of the IF THEN, ELSE IF or ELSE statement of a line (11.6
+    /// to 11.8).
     InBlock { label: &'a [u8], line: u32 },
     /// K2: the label stands in no list around.
     Apart { label: &'a [u8] },

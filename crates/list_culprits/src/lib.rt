@@ -1,5 +1,5 @@
-//! What breaks a rule on lists of statements: a transfer of control, and the variable of a DO statement (ANSI X3.9-1978, 11.1 to 11.4
-//! and 11.10), for whoever tells people of it.
+//! What breaks a rule on lists of statements: a transfer of control, and the variable of a DO
+//! statement (ANSI X3.9-1978, 11.1 to 11.4 and 11.10), for whoever tells people of it.
 #![tactic(auto)]
 
 mod culprit;

@@ -7,17 +7,18 @@ ghost use Rattle.meaning.specs.LoopRules.{is_no_counter, variables_set};
 ghost use Rattle.meaning.specs.Surroundings.{controlled_by, loop_variables};
 ghost use Rattle.meaning.specs.Syntax.{data_set_tree, list_items_tree, shape_tree};
 ghost use Rattle.meaning.specs.Uses.{is_one_of};
-ghost use Rattle.roles.specs.Listed.{tree_at};
-ghost use Rattle.roles.specs.RolesAt.{roles_at};
+ghost use Rattle.symbols.specs.Listed.{tree_at};
+ghost use Rattle.symbols.specs.SymbolsAt.{symbols_at};
 ghost use Rattle.finding.specs.Finding.{name_if};
-ghost use Rattle.list_culprits.specs.Loops.{counter_of, implied_by, implied_in, implied_in_sets, is_counter, looped_in, told_counting, uncounted_in};
+ghost use Rattle.list_culprits.specs.Loops.{counter_of, implied_by, implied_in, implied_in_sets};
+ghost use Rattle.list_culprits.specs.Loops.{is_counter, looped_in, told_counting, uncounted_in};
 ghost use Rattle.list_culprits.specs.Seats.{counted_in, head_in, opener_at, seat_at};
 ghost use Rattle.list_culprits.specs.Told.{tell};
 
 use crate::culprit::ListCulprit;
 use crate::seats::{Opener, Seat};
 use meaning::syntax::{DataSet, DataType, Exprs, Item, ListItem, ListItems, Shape};
-use roles::{Roles, is_other_name, type_of_name};
+use symbols::{Symbols, is_other_name, type_of_name};
 
 /// A test of names.
 trait NameTest {
@@ -38,7 +39,8 @@ fn name_passing<'a, T: NameTest>(test: &T, name: &'a [u8]) -> Option<&'a [u8]>
 
 /// The first variable of an implied DO in a list that passes.
 fn first_variable<'a, T: NameTest>(test: &T, items: &'a ListItems) -> Option<&'a [u8]>
-    ensures { name_if result ≡ find (T.passes test.now) (loop_variables (list_items_tree items.now)) }
+    ensures { name_if result
+        ≡ find (T.passes test.now) (loop_variables (list_items_tree items.now)) }
 {
     match items {
         ListItems::Empty => None,
@@ -95,15 +97,15 @@ fn first_set<'a, T: NameTest>(test: &T, shape: &'a Shape) -> Option<&'a [u8]>
 /// The names that are no INTEGER variables.
 #[derive(Clone, Copy)]
 struct NoCounter<'a> {
-    roles: &'a Roles<'a>,
+    symbols: &'a Symbols<'a>,
 }
 
 impl NameTest for NoCounter<'_> {
-    ghost passes = { λ s. is_no_counter (roles_at s.roles.now) };
+    ghost passes = { λ s. is_no_counter (symbols_at s.symbols.now) };
 
     fn is(&self, name: &[u8]) -> bool {
-        match type_of_name(self.roles, name) {
-            Some(DataType::Integer) => !is_other_name(self.roles, name),
+        match type_of_name(self.symbols, name) {
+            Some(DataType::Integer) => !is_other_name(self.symbols, name),
             Some(DataType::Logical) => true,
             None => true,
         }
@@ -237,10 +239,10 @@ fn implied_of(shape: &Shape) -> Option<&[u8]>
 }
 
 /// The first variable of a statement that is none.
-fn uncounted<'a>(roles: &Roles, shape: &'a Shape) -> Option<ListCulprit<'a>>
-    ensures { tell result ≡ uncounted_in (roles_at roles.now) (shape_tree shape.now) }
+fn uncounted<'a>(symbols: &Symbols, shape: &'a Shape) -> Option<ListCulprit<'a>>
+    ensures { tell result ≡ uncounted_in (symbols_at symbols.now) (shape_tree shape.now) }
 {
-    match first_controlling(&NoCounter { roles }, shape) {
+    match first_controlling(&NoCounter { symbols }, shape) {
         Some(name) => Some(ListCulprit::Uncounted { name }),
         None => None,
     }
@@ -261,7 +263,9 @@ fn told_of_counter<'a>(openers: &[Opener], name: &'a [u8]) -> Option<ListCulprit
 
 /// The first variable that a statement sets and that a DO statement around counts with.
 fn counting<'a>(openers: &[Opener], shape: &'a Shape) -> Option<ListCulprit<'a>>
-    ensures { tell result ≡ told_counting (map opener_at openers.now) (find (is_counter (map opener_at openers.now)) (variables_set (shape_tree shape.now))) }
+    ensures { tell result
+        ≡ told_counting (map opener_at openers.now)
+        (find (is_counter (map opener_at openers.now)) (variables_set (shape_tree shape.now))) }
 {
     match first_set(&Counters { openers }, shape) {
         None => None,
@@ -270,11 +274,11 @@ fn counting<'a>(openers: &[Opener], shape: &'a Shape) -> Option<ListCulprit<'a>>
 }
 
 /// K9: what is told of the first name by which a statement breaks the rule.
-pub fn looped_name<'a>(roles: &Roles, seat: &Seat<'a>) -> Option<ListCulprit<'a>>
-    ensures { tell result ≡ looped_in (roles_at roles.now) (seat_at seat.now) }
+pub fn looped_name<'a>(symbols: &Symbols, seat: &Seat<'a>) -> Option<ListCulprit<'a>>
+    ensures { tell result ≡ looped_in (symbols_at symbols.now) (seat_at seat.now) }
 {
     let shape = &*seat.item.form.shape;
-    if let Some(culprit) = uncounted(roles, shape) {
+    if let Some(culprit) = uncounted(symbols, shape) {
         return Some(culprit);
     }
     if let Some(culprit) = counting(&seat.openers, shape) {

@@ -3,9 +3,12 @@
 ghost use Rattle.std.specs.Prelude.{◌≡◌, ◌++◌, Bool, IfOk, OnOk, option_map};
 ghost use Rattle.meaning.specs.Surroundings.{head_of, own_items};
 ghost use Rattle.meaning.specs.Syntax.{ItemTree};
-ghost use Rattle.meaning.specs.Trees.{arms_tree, item_tree, member_before, members_tree, nested, none};
-ghost use Rattle.roles.specs.Listed.{trees_at};
-ghost use Rattle.list_culprits.specs.Seats.{Enters, IsSeatHere, IsSeatIn, IsSeatInArms, IsSeatInside, arm_alone, opener_at, seat_at, seat_passing, seats_of};
+ghost use Rattle.meaning.specs.Trees.{arms_tree, item_tree, member_before, members_tree, nested};
+ghost use Rattle.meaning.specs.Trees.{none};
+ghost use Rattle.symbols.specs.Listed.{trees_at};
+ghost use Rattle.list_culprits.specs.Seats.{Enters, IsSeatHere, IsSeatIn, IsSeatInArms};
+ghost use Rattle.list_culprits.specs.Seats.{IsSeatInside, arm_alone, opener_at, seat_at};
+ghost use Rattle.list_culprits.specs.Seats.{seat_passing, seats_of};
 
 use meaning::syntax::{Arm, Item, Member, Tree};
 use std::alloc::{AllocError, Global};
@@ -41,7 +44,9 @@ pub trait ItemTest {
 
 /// Puts the statements that stand in a list directly behind others.
 fn add_own<'a>(reach: &mut Vec<&'a Item>, members: &'a [Member]) -> Result<(), AllocError>
-    ensures { OnOk result (trees_at reach.new.items ≡ trees_at reach.old.items ++ own_items (members_tree members.now)) }
+    ensures { OnOk result
+        (trees_at reach.new.items ≡ trees_at reach.old.items
+        ++ own_items (members_tree members.now)) }
 {
     for member in members {
         match member {
@@ -58,7 +63,8 @@ fn add_own<'a>(reach: &mut Vec<&'a Item>, members: &'a [Member]) -> Result<(), A
 
 /// Puts the statement with which a block IF begins behind others.
 fn add_first<'a>(reach: &mut Vec<&'a Item>, arms: &'a [Arm]) -> Result<(), AllocError>
-    ensures { OnOk result (trees_at reach.new.items ≡ trees_at reach.old.items ++ head_of (arms_tree arms.now)) }
+    ensures { OnOk result
+        (trees_at reach.new.items ≡ trees_at reach.old.items ++ head_of (arms_tree arms.now)) }
 {
     match arms.first() {
         Some(arm) => {
@@ -114,7 +120,8 @@ fn seat_inside<'a, T: ItemTest>(
     opener: Opener<'a>,
     members: &'a [Member],
 ) -> Result<Option<Seat<'a>>, AllocError>
-    ensures { IfOk result (IsSeatInside (T.passes test.now) (opener_at opener.entry) (members_tree members.now)) }
+    ensures { IfOk result
+        (IsSeatInside (T.passes test.now) (opener_at opener.entry) (members_tree members.now)) }
 {
     match seat_in(alloc, test, members)? {
         Some(seat) => Ok(Some(entered(seat, opener, members)?)),
@@ -205,7 +212,9 @@ pub fn seat_of<'a, T: ItemTest>(
     test: &T,
     unit: &'a Tree,
 ) -> Result<Option<Seat<'a>>, AllocError>
-    ensures { IfOk result (λ found. option_map seat_at found ≡ seat_passing (T.passes test.now) (seats_of (nested unit.now))) }
+    ensures { IfOk
+        result (λ found. option_map seat_at found
+        ≡ seat_passing (T.passes test.now) (seats_of (nested unit.now))) }
 {
     match seat_in(alloc, test, &unit.body)? {
         None => Ok(None),

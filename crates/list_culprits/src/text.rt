@@ -1,4 +1,5 @@
-//! What breaks a rule on lists, as text: `label 30 stands nowhere`, `I is the DO variable of line 12`.
+//! What breaks a rule on lists, as text: `label 30 stands nowhere`, `I is the DO variable of line
+//! 12`.
 
 ghost use Rattle.std.specs.Prelude.{◌≡◌, ◌++◌, OnOk};
 ghost use Rattle.std.specs.Fmt.{decimal};
@@ -59,8 +60,8 @@ fn add_closed(bytes: &mut Vec<u8>, label: &[u8], kind: Kind) -> Result<(), Alloc
     add(bytes, text_of(kind))
 }
 
-/// Puts what breaks a rule on lists behind a text, in the words of a message. The `AllocError` comes only where a growth was refused,
-/// and leaves a part of it there.
+/// Puts what breaks a rule on lists behind a text, in the words of a message. The `AllocError`
+/// comes only where a growth was refused, and leaves a part of it there.
 pub fn add_list_text(bytes: &mut Vec<u8>, culprit: ListCulprit) -> Result<(), AllocError>
     ensures { OnOk result (bytes.new.items ≡ bytes.old.items ++ told_text (told_at culprit.entry)) }
 {

@@ -6,22 +6,24 @@ ghost use Rattle.meaning.specs.Characters.{number_of};
 ghost use Rattle.meaning.specs.LabelRules.{has_label, not_executable};
 ghost use Rattle.meaning.specs.Syntax.{shape_tree};
 ghost use Rattle.meaning.specs.Trees.{item_tree, nested};
-ghost use Rattle.roles.specs.Listed.{tree_at, trees_at};
-ghost use Rattle.roles.specs.RolesAt.{roles_at};
-ghost use Rattle.roles.specs.Stages.{IsBehind};
+ghost use Rattle.symbols.specs.Listed.{tree_at, trees_at};
+ghost use Rattle.symbols.specs.SymbolsAt.{symbols_at};
+ghost use Rattle.symbols.specs.Stages.{IsBehind};
 ghost use Rattle.rule_passes.specs.Telling.{Finds};
 ghost use Rattle.statement_rules.specs.Reached.{is_not_executable};
 ghost use Rattle.list_culprits.specs.Listed.{is_closed_at, reach_at, unit_at, unit_by};
 ghost use Rattle.list_culprits.specs.Seats.{opener_at, seat_at, seat_passing, seats_of};
 ghost use Rattle.list_culprits.specs.Told.{tell, told_at};
-ghost use Rattle.list_culprits.specs.Transfers.{branch_kind, closed_kind, first_told, missed_at, missed_in, targets_of, times, told_absent, told_in, told_present};
+ghost use Rattle.list_culprits.specs.Transfers.{branch_kind, closed_kind, first_told, missed_at};
+ghost use Rattle.list_culprits.specs.Transfers.{missed_in, targets_of, times, told_absent, told_in};
+ghost use Rattle.list_culprits.specs.Transfers.{told_present};
 
 use crate::culprit::{Kind, ListCulprit};
 use crate::seats::{ItemTest, Opener, Seat, seat_of};
 use meaning::number::number;
 use meaning::syntax::{Item, Shape, Tree};
-use roles::{Roles, Stage, is_specification};
 use std::alloc::{AllocError, Global};
+use symbols::{Stage, Symbols, is_specification};
 
 /// Whether a statement has the label that digits spell.
 fn is_at(item: &Item, label: &[u8]) -> bool
@@ -90,29 +92,33 @@ fn kind_of_closed(shape: &Shape) -> Kind
 }
 
 /// Whether a statement isn't executable.
-fn is_closed(roles: &Roles, stage: &Stage, item: &Item) -> bool
-    ensures { Finds (IsBehind roles.now stage.now) (is_not_executable roles.now item.now) result }
+fn is_closed(symbols: &Symbols, stage: &Stage, item: &Item) -> bool
+    ensures { Finds (IsBehind symbols.now stage.now) (is_not_executable symbols.now item.now)
+        result }
 {
-    is_specification(&*item.form.shape) || stage.is_defining(roles, item)
+    is_specification(&*item.form.shape) || stage.is_defining(symbols, item)
 }
 
 /// Whether a statement isn't executable and has a label.
-fn closes(roles: &Roles, stage: &Stage, item: &Item, label: &[u8]) -> bool
-    ensures { Finds (IsBehind roles.now stage.now) (is_closed_at roles.now item.now label.now) result }
+fn closes(symbols: &Symbols, stage: &Stage, item: &Item, label: &[u8]) -> bool
+    ensures { Finds (IsBehind symbols.now stage.now) (is_closed_at symbols.now item.now label.now)
+        result }
 {
-    is_closed(roles, stage, item) && is_at(item, label)
+    is_closed(symbols, stage, item) && is_at(item, label)
 }
 
 /// The first statement with a label that isn't executable.
-fn first_closed<'a>(roles: &Roles, items: &[&'a Item], label: &[u8]) -> Option<&'a Item>
-    ensures { option_map tree_at result ≡ find (has_label (number_of label.now)) (not_executable (roles_at roles.now) [] (trees_at items.now)) }
+fn first_closed<'a>(symbols: &Symbols, items: &[&'a Item], label: &[u8]) -> Option<&'a Item>
+    ensures { option_map tree_at result
+        ≡ find (has_label (number_of label.now))
+        (not_executable (symbols_at symbols.now) [] (trees_at items.now)) }
 {
     let mut stage = Stage::new();
     for item in items {
-        if closes(roles, &stage, item, label) {
+        if closes(symbols, &stage, item, label) {
             return Some(item);
         }
-        stage.pass(roles, item);
+        stage.pass(symbols, item);
     }
     None
 }
@@ -140,7 +146,10 @@ fn absent_label<'a>(
     unit: &Tree,
     label: &'a [u8],
 ) -> Result<ListCulprit<'a>, AllocError>
-    ensures { IfOk result (λ c. told_at c ≡ told_absent label.now (seat_passing (has_label (number_of label.now)) (seats_of (nested unit.now)))) }
+    ensures { IfOk
+        result (λ c. told_at c
+        ≡ told_absent label.now
+        (seat_passing (has_label (number_of label.now)) (seats_of (nested unit.now)))) }
 {
     match seat_of(alloc, &Labelled { label }, unit)? {
         None => Ok(ListCulprit::Nowhere { label }),
@@ -152,13 +161,16 @@ fn absent_label<'a>(
 }
 
 /// What is told of a label that is around, if it is missed.
-fn present_label<'a>(roles: &Roles, reach: &[&Item], label: &'a [u8]) -> Option<ListCulprit<'a>>
-    ensures { tell result ≡ told_present (roles_at roles.now) (trees_at roles.now.items.now) (trees_at reach.now) label.now }
+fn present_label<'a>(symbols: &Symbols, reach: &[&Item], label: &'a [u8]) -> Option<ListCulprit<'a>>
+    ensures { tell result
+        ≡ told_present (symbols_at symbols.now) (trees_at symbols.now.items.now)
+        (trees_at reach.now)
+        label.now }
 {
-    if count_at(reach, label) != count_at(roles.items, label) {
+    if count_at(reach, label) != count_at(symbols.items, label) {
         return Some(ListCulprit::Shared { label });
     }
-    match first_closed(roles, roles.items, label) {
+    match first_closed(symbols, symbols.items, label) {
         None => None,
         Some(item) => Some(ListCulprit::Closed {
             label,
@@ -171,25 +183,28 @@ fn present_label<'a>(roles: &Roles, reach: &[&Item], label: &'a [u8]) -> Option<
 #[derive(Clone, Copy)]
 struct Search<'a> {
     alloc: Global,
-    roles: &'a Roles<'a>,
+    symbols: &'a Symbols<'a>,
     unit: &'a Tree,
     reach: &'a [&'a Item],
 }
 
 /// What is told of a label, if it is missed.
 fn missed<'a>(search: &Search, label: &'a [u8]) -> Result<Option<ListCulprit<'a>>, AllocError>
-    ensures { IfOk result (λ c. tell c ≡ missed_at (unit_at search.now) (reach_at search.now) label.now) }
+    ensures { IfOk
+        result (λ c. tell c ≡ missed_at (unit_at search.now) (reach_at search.now) label.now) }
 {
     if count_at(search.reach, label) == 0 {
         Ok(Some(absent_label(search.alloc, search.unit, label)?))
     } else {
-        Ok(present_label(search.roles, search.reach, label))
+        Ok(present_label(search.symbols, search.reach, label))
     }
 }
 
 /// What is told of a label alone.
 fn missed_alone<'a>(search: &Search, label: &'a [u8]) -> Result<Option<ListCulprit<'a>>, AllocError>
-    ensures { IfOk result (λ c. tell c ≡ first_told (missed_at (unit_at search.now) (reach_at search.now)) (label.now ∷ [])) }
+    ensures { IfOk
+        result (λ c. tell c
+        ≡ first_told (missed_at (unit_at search.now) (reach_at search.now)) (label.now ∷ [])) }
 {
     match missed(search, label)? {
         Some(culprit) => Ok(Some(culprit)),
@@ -202,7 +217,10 @@ fn missed_one<'a>(
     search: &Search,
     labels: &'a [Vec<u8>],
 ) -> Result<Option<ListCulprit<'a>>, AllocError>
-    ensures { IfOk result (λ c. tell c ≡ first_told (missed_at (unit_at search.now) (reach_at search.now)) (map (λ l. l.items) labels.now)) }
+    ensures { IfOk
+        result (λ c. tell c
+        ≡ first_told (missed_at (unit_at search.now) (reach_at search.now))
+        (map (λ l. l.items) labels.now)) }
 {
     for label in labels {
         match missed(search, label)? {
@@ -220,7 +238,10 @@ fn missed_of_three<'a>(
     zero: &'a [u8],
     positive: &'a [u8],
 ) -> Result<Option<ListCulprit<'a>>, AllocError>
-    ensures { IfOk result (λ c. tell c ≡ first_told (missed_at (unit_at search.now) (reach_at search.now)) (negative.now ∷ (zero.now ∷ (positive.now ∷ [])))) }
+    ensures { IfOk
+        result (λ c. tell c
+        ≡ first_told (missed_at (unit_at search.now) (reach_at search.now))
+        (negative.now ∷ (zero.now ∷ (positive.now ∷ [])))) }
 {
     if let Some(culprit) = missed(search, negative)? {
         return Ok(Some(culprit));
@@ -233,7 +254,10 @@ fn missed_of_three<'a>(
 
 /// What is told of the first label of a statement that is missed.
 fn missed_by<'a>(search: &Search, shape: &'a Shape) -> Result<Option<ListCulprit<'a>>, AllocError>
-    ensures { IfOk result (λ c. tell c ≡ first_told (missed_at (unit_at search.now) (reach_at search.now)) (targets_of (shape_tree shape.now))) }
+    ensures { IfOk
+        result (λ c. tell c
+        ≡ first_told (missed_at (unit_at search.now) (reach_at search.now))
+        (targets_of (shape_tree shape.now))) }
 {
     match shape {
         Shape::GoTo(label) => missed_alone(search, label),
@@ -252,15 +276,16 @@ fn missed_by<'a>(search: &Search, shape: &'a Shape) -> Result<Option<ListCulprit
 /// K2: what is told of the first label of a statement that it misses.
 pub fn missed_label<'a>(
     alloc: Global,
-    roles: &Roles,
+    symbols: &Symbols,
     unit: &Tree,
     seat: &Seat<'a>,
 ) -> Result<Option<ListCulprit<'a>>, AllocError>
-    ensures { IfOk result (λ c. tell c ≡ missed_in (unit_by roles.now unit.now) (seat_at seat.now)) }
+    ensures { IfOk
+        result (λ c. tell c ≡ missed_in (unit_by symbols.now unit.now) (seat_at seat.now)) }
 {
     let search = Search {
         alloc,
-        roles,
+        symbols,
         unit,
         reach: &seat.reach,
     };

@@ -1,13 +1,13 @@
 -- A stage of four blocks behind seven trips, the third of which read what the second wrote, and whose last has no run.
 use Rattle.std.proofs.Common.{◌≡◌, ℕ, [], ◌∷◌, Some, refl}
 use Rattle.block_stage.specs.declared.causes.Cause.TheVariants.{Dependence}
-use Rattle.block_stage.specs.declared.told.StageTold.{StageTold}
+use Rattle.block_stage.specs.declared.told.StageStats.{StageStats}
 use Rattle.loop_reports.specs.declared.row.Carried.{Carried}
 use Rattle.loop_reports.specs.BlockTrips.{trips_of}
 use Rattle.loop_reports.specs.Carrying.{cells_with, most_often, no_counts}
 use Rattle.loop_reports.specs.Counting.{reached_with, staged_with}
 
-abbrev stage : StageTold
+abbrev stage : StageStats
 stage = record {
   trips = 100;
   size = 32;

@@ -8,7 +8,7 @@ use Rattle.loop_reports.specs.declared.row.Carried.{Carried}
 use Rattle.block_stage.specs.declared.causes.Cause.{Cause}
 use Rattle.block_stage.specs.declared.causes.Cause.TheVariants.{Whole, Loss, Exit, Dependence}
 use Rattle.block_stage.specs.declared.causes.Cause.TheVariants.{Turns}
-use Rattle.block_stage.specs.declared.told.StageTold.{StageTold}
+use Rattle.block_stage.specs.declared.told.StageStats.{StageStats}
 use Rattle.loop_reports.specs.BlockTrips.{capped, trips_of}
 
 abbrev pub no_counts : Counts
@@ -30,7 +30,7 @@ no_counts = record {
 }
 
 -- the first cut at a cell: the block behind the cut read it, which an earlier block wrote
-abbrev pub carried_of : ℕ → ℕ → StageTold → ℕ → Carried
+abbrev pub carried_of : ℕ → ℕ → StageStats → ℕ → Carried
 carried_of execution done t writer = record {
   cuts = 1;
   execution = execution;
@@ -47,7 +47,7 @@ abbrev pub with_cell : List (ℕ × Carried) → ℕ → Carried → List (ℕ �
 with_cell cells cell fresh =
     insert_entry nat_eq cells cell (again_or (lookup (nat_eq cell) cells) fresh)
 
-abbrev pub with_cause : List (ℕ × Carried) → ℕ → ℕ → StageTold → Cause → List (ℕ × Carried)
+abbrev pub with_cause : List (ℕ × Carried) → ℕ → ℕ → StageStats → Cause → List (ℕ × Carried)
 with_cause cells execution done t (Dependence d) =
     with_cell cells d.cell (carried_of execution done t d.writer)
 with_cause cells execution done t Whole = cells
@@ -56,7 +56,7 @@ with_cause cells execution done t Exit = cells
 with_cause cells execution done t Turns = cells
 
 -- the cells behind one more stage
-abbrev pub cells_with : List (ℕ × Carried) → ℕ → ℕ → StageTold → List (ℕ × Carried)
+abbrev pub cells_with : List (ℕ × Carried) → ℕ → ℕ → StageStats → List (ℕ × Carried)
 cells_with cells execution done t = with_cause cells execution done t t.cause
 
 -- the cell at which most stages were cut, of several the first

@@ -4,7 +4,7 @@ use Rattle.loop_reports.specs.declared.counts.Counts.{Counts}
 use Rattle.block_stage.specs.declared.causes.Cause.{Cause}
 use Rattle.block_stage.specs.declared.causes.Cause.TheVariants.{Whole, Loss, Exit, Dependence}
 use Rattle.block_stage.specs.declared.causes.Cause.TheVariants.{Turns}
-use Rattle.block_stage.specs.declared.told.StageTold.{StageTold}
+use Rattle.block_stage.specs.declared.told.StageStats.{StageStats}
 use Rattle.loop_reports.specs.BlockTrips.{capped}
 
 -- it is reached once more, with so many trips
@@ -27,7 +27,7 @@ cut_with c Turns = record c { by_turns = capped (c.by_turns + 1) }
 
 -- one more stage: of its blocks those before the cut are committed, the others that have a run are
 -- dropped, and those without are lost
-abbrev pub staged_with : Counts → StageTold → Counts
+abbrev pub staged_with : Counts → StageStats → Counts
 staged_with c t = record (cut_with c t.cause) {
   stages = capped (c.stages + 1);
   run = capped (c.run + t.run);

@@ -5,7 +5,7 @@ use Rattle.std.specs.Ordering.{nat_cmp}
 use Rattle.loop_reports.specs.declared.counts.Counts.{Counts}
 use Rattle.loop_reports.specs.declared.row.Carried.{Carried}
 use Rattle.loop_reports.specs.declared.row.Row.{Row}
-use Rattle.block_stage.specs.declared.told.StageTold.{StageTold}
+use Rattle.block_stage.specs.declared.told.StageStats.{StageStats}
 use Rattle.loop_reports.specs.Carrying.{cells_with, no_counts}
 use Rattle.loop_reports.specs.Counting.{ordered_with, reached_with, staged_with}
 
@@ -31,7 +31,7 @@ reached_once trips n = record n { counts = reached_with n.counts trips }
 abbrev pub ordered_once : ℕ → Noted → Noted
 ordered_once trips n = record n { counts = ordered_with n.counts trips }
 
-abbrev pub staged_once : ℕ → StageTold → Noted → Noted
+abbrev pub staged_once : ℕ → StageStats → Noted → Noted
 staged_once done t n =
     record { counts = staged_with n.counts t; cells = cells_with n.cells n.counts.reached done t }
 

@@ -3,7 +3,7 @@
 ghost use Rattle.std.specs.Prelude.{◌≡◌};
 ghost use Rattle.loop_reports.specs.Counting.{cut_with, ordered_with, reached_with, staged_with};
 
-use block_stage::{Cause, StageTold};
+use block_stage::{Cause, StageStats};
 
 /// What is counted of a DO statement. All counts stop at the greatest number.
 #[derive(Clone, Copy, Debug, Default, PartialEq, Eq)]
@@ -60,7 +60,7 @@ pub fn counts_ordered(counts: Counts, trips: u64) -> Counts
 }
 
 /// The counts of a statement behind one more stage of it.
-pub fn counts_staged(counts: Counts, told: &StageTold) -> Counts
+pub fn counts_staged(counts: Counts, told: &StageStats) -> Counts
     ensures { result ≡ staged_with counts told.now }
 {
     let cut = cut_counted(counts, told.cause);

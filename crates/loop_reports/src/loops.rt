@@ -2,8 +2,8 @@
 
 use crate::noting::{note_ordered, note_reached, note_staged};
 use crate::row::Row;
-use block_stage::StageTold;
-use stage_loop::Watcher;
+use block_stage::StageStats;
+use stage_loop::Observer;
 use std::alloc::{AllocError, Global};
 use std::cell::Cell;
 use std::collections::BTreeMap;
@@ -58,7 +58,7 @@ impl Loops {
     }
 }
 
-impl Watcher for Loops {
+impl Observer for Loops {
     fn reached(&self, line: u32, trips: u64) {
         if let Some(mut rows) = self.take_rows() {
             let noted = note_reached(&mut rows, self.alloc, line, trips);
@@ -73,7 +73,7 @@ impl Watcher for Loops {
         }
     }
 
-    fn staged(&self, line: u32, done: u64, told: &StageTold) {
+    fn staged(&self, line: u32, done: u64, told: &StageStats) {
         if let Some(mut rows) = self.take_rows() {
             let noted = note_staged(&mut rows, self.alloc, line, done, told);
             self.keep_rows(rows, noted);

@@ -7,7 +7,7 @@ ghost use Rattle.loop_reports.specs.Noting.{at_line, noted_at, ordered_once, rea
 ghost use Rattle.loop_reports.specs.Noting.{staged_once};
 
 use crate::row::Row;
-use block_stage::StageTold;
+use block_stage::StageStats;
 use std::alloc::{AllocError, Global};
 use std::collections::BTreeMap;
 
@@ -54,7 +54,7 @@ pub fn note_staged(
     alloc: Global,
     line: u32,
     done: u64,
-    told: &StageTold,
+    told: &StageStats,
 ) -> Result<(), AllocError>
     ensures { OnOk result ((q : ℕ) →
         noted_at rows.new q ≡ at_line line (staged_once done told.now) (noted_at rows.old) q) }

@@ -7,7 +7,7 @@ ghost use Rattle.loop_reports.specs.Counting.{ordered_with, reached_with, staged
 
 use crate::counts::{Counts, counts_ordered, counts_reached, counts_staged};
 use crate::trips::{Trips, trips_of_block};
-use block_stage::{Cause, StageTold};
+use block_stage::{Cause, StageStats};
 use indexmap::IndexMap;
 use std::alloc::{AllocError, Global};
 
@@ -64,7 +64,7 @@ impl Row {
 
     /// Notes a stage, before which so many trips of the execution were done. The `AllocError` comes
     /// where a growth was refused, and the counts are what they were.
-    pub fn add(&mut self, done: u64, told: &StageTold) -> Result<(), AllocError>
+    pub fn add(&mut self, done: u64, told: &StageStats) -> Result<(), AllocError>
         ensures counts { OnOk result (self.new.counts ≡ staged_with self.old.counts told.now) }
         ensures cells { OnOk result (self.new.cells.entries
             ≡ cells_with self.old.cells.entries self.old.counts.reached done told.now) }
@@ -80,7 +80,7 @@ impl Row {
 }
 
 // What is kept of a cell at which a stage is cut for the first time.
-fn carried_by(execution: u64, done: u64, told: &StageTold, writer: usize) -> Carried
+fn carried_by(execution: u64, done: u64, told: &StageStats, writer: usize) -> Carried
     ensures { result ≡ carried_of execution done told.now writer }
 {
     Carried {

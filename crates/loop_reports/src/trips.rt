@@ -3,7 +3,7 @@
 ghost use Rattle.std.specs.Prelude.{◌≡◌};
 ghost use Rattle.loop_reports.specs.BlockTrips.{trips_of};
 
-use block_stage::StageTold;
+use block_stage::StageStats;
 
 /// Some trips of one execution of a DO statement, which are counted from 1.
 #[derive(Clone, Copy, Debug, PartialEq, Eq)]
@@ -15,7 +15,7 @@ pub struct Trips {
 }
 
 /// The trips of a block of a stage, before which so many trips of the execution were done.
-pub fn trips_of_block(done: u64, told: &StageTold, block: usize) -> Trips
+pub fn trips_of_block(done: u64, told: &StageStats, block: usize) -> Trips
     ensures { result ≡ trips_of done told.now block }
 {
     let before = (block as u64).saturating_mul(told.size);

@@ -1,12 +1,14 @@
 //! A set of cells.
 
-ghost use Rattle.std.specs.Prelude.{true, false, ◌≡◌, ◌≢◌, ◌↔◌, ◌==◌, ◌||◌, ◌<◌, ◌≤◌, ◌+◌, ◌*◌, ◌/◌, length, min, ◌^◌, ℕ, IsTrue, OnOk, OnErr, vec_len};
+ghost use Rattle.std.specs.Prelude.{true, false, ◌≡◌, ◌≢◌, ◌↔◌, ◌==◌, ◌||◌, ◌<◌, ◌≤◌, ◌+◌, ◌*◌};
+ghost use Rattle.std.specs.Prelude.{◌/◌, length, min, ◌^◌, ℕ, IsTrue, OnOk, OnErr, vec_len};
 ghost use Rattle.std.specs.Ordering.{nat_cmp};
 ghost use Rattle.std.specs.FinSet as set;
 ghost use Rattle.std.specs.Coded.{coded_ℕ};
 ghost use Rattle.std.specs.Int.{bit_at};
 ghost use Rattle.marks.specs.Cells.{Share};
-ghost use Rattle.marks.specs.Words.{AreBehind, AreLeft, IsSummed, MeetIn, MeetTold, SomeMeet, tells, set_of, word_at};
+ghost use Rattle.marks.specs.Words.{AreBehind, AreLeft, IsSummed, MeetIn, MeetTold, SomeMeet};
+ghost use Rattle.marks.specs.Words.{tells, set_of, word_at};
 
 use meaning::cell::Cell;
 use std::alloc::{AllocError, Global};
@@ -242,8 +244,8 @@ impl Marks {
         self.put_in(cell)
     }
 
-    /// Adds a cell where its word is there and its group is raised, and tells whether it did; else the set stays as it was. It takes no
-    /// memory.
+    /// Adds a cell where its word is there and its group is raised, and tells whether it did; else
+    /// the set stays as it was. It takes no memory.
     #[inline(always)]
     pub fn set_at_hand(&mut self, cell: Cell) -> bool
         ensures yes { result ≡ true → self.new ≡ set.insert self.old cell.0 }
@@ -256,7 +258,8 @@ impl Marks {
         false
     }
 
-    // Adds a cell, which may take memory. It stands by itself, so that a cell that is in the set is passed over quickly.
+    // Adds a cell, which may take memory. It stands by itself, so that a cell that is in the set is
+    // passed over quickly.
     #[inline(never)]
     fn put_in(&mut self, cell: Cell) -> Result<(), AllocError>
         ensures ok { OnOk result (self.new ≡ set.insert self.old cell.0) }
@@ -282,7 +285,8 @@ impl Marks {
         Ok(())
     }
 
-    /// Takes all cells out. It takes no memory, and its time is that of the groups that are set, not of the cells.
+    /// Takes all cells out. It takes no memory, and its time is that of the groups that are set,
+    /// not of the cells.
     pub fn clear(&mut self)
         ensures { self.new ≡ set.empty }
     {
@@ -304,7 +308,8 @@ impl Marks {
         meet_by(&self.words, &other.words, &self.groups, &other.groups)
     }
 
-    /// The mask words: bit b of word k tells whether cell 64*k+b is in the set; none past the last word is. It takes no memory.
+    /// The mask words: bit b of word k tells whether cell 64*k+b is in the set; none past the last
+    /// word is. It takes no memory.
     pub fn words(&self) -> &[u64]
         ensures told { (c : ℕ) → set.contains self.now c ≡ tells result.now c }
         ensures few { length result.now ≤ 2 ^ 58 }

@@ -13,7 +13,7 @@ use Rattle.meaning.specs.Statements.{broken_if}
 use Rattle.meaning.specs.Syntax.{ItemTree}
 use Rattle.meaning.specs.Trees.{Members, none, plain, loop, block, Arms, no_arms, arm, flat, flat_arms, Nested, flatten}
 use Rattle.meaning.specs.Surroundings.{Around, controlled_by, counted_by, in_body, in_range, in_arm, told_in, told_in_arms}
-use Rattle.meaning.specs.Uses.{Roles, roles_of, is_one_of}
+use Rattle.meaning.specs.Uses.{Symbols, symbols_of, is_one_of}
 use Rattle.meaning.specs.LabelRules.{breaks_transfers}
 use Rattle.meaning.specs.LoopRules.{variables_set, is_no_counter, has_nested_variable, breaks_loops}
 use Rattle.meaning.specs.Rules.{broken_items, broken_lists, broken_rules, checked}
@@ -70,7 +70,7 @@ not_one_of v around (n ∷ ns) h unset =
 
 -- ---- lists in which no statement breaks the rule
 
-module _ (r : Roles) where
+module _ (r : Symbols) where
   abbrev Nowhere : Around → Members → Type 0
   Nowhere a ms = told_in (breaks_loops r) K9 a ms ≡ []
 
@@ -170,6 +170,6 @@ module _ (r : Roles) where
 
 pub leave_variables : (t u : Nested) → checked t ≡ Ok u → LeaveVariables t.body
 leave_variables t u accepted =
-    let r = roles_of (flatten t) in
+    let r = symbols_of (flatten t) in
     let lists = (none_of_both (broken_items r (flatten t)) (broken_lists r t) (nothing_broken t u accepted)).1 in
     leave r (in_body t.body) t.body (none_of_both (told_in (breaks_transfers r (flatten t)) K2 (in_body t.body) t.body) (told_in (breaks_loops r) K9 (in_body t.body) t.body) lists).1

@@ -14,7 +14,7 @@ use Rattle.meaning.specs.Statements.{broken_if}
 use Rattle.meaning.specs.Syntax.{ExprTree, ExprsTree, ShapeTree, ListItemsTree, FormatTree, assignment, writing, printing, doing, continuing, going, computed_going, arithmetic_if, logical_if, stopping, end_do, ItemTree}
 use Rattle.meaning.specs.Trees.{Members, none, plain, loop, block, Arms, no_arms, arm, flat, flat_arms, Nested, flatten}
 use Rattle.meaning.specs.Surroundings.{Around, head_of, own_items, in_body, in_range, in_arm, told_in, told_in_arms}
-use Rattle.meaning.specs.Uses.{Roles, roles_of}
+use Rattle.meaning.specs.Uses.{Symbols, symbols_of}
 use Rattle.meaning.specs.LabelRules.{has_label, transfers_of, not_executable, is_out_of_reach, misses, breaks_transfers}
 use Rattle.meaning.specs.LoopRules.{breaks_loops}
 use Rattle.meaning.specs.Rules.{broken_items, broken_lists, checked}
@@ -50,7 +50,7 @@ or-second : (a b : Bool) → b ≡ true → (a || b) ≡ true
 or-second true b h = refl
 or-second false b h = h
 
-module _ (r : Roles) (items : List ItemTree) where
+module _ (r : Symbols) (items : List ItemTree) where
   not_missed : (reach : List ItemTree) (s : ℕ) → misses r items reach s ≡ false → InReach reach s
   not_missed reach s h =
       some_counted (has_label s) reach (or-parts (count_by (has_label s) reach == 0) (not (count_by (has_label s) reach == count_by (has_label s) items)) (or-parts (is_out_of_reach items reach s) (list_any (has_label s) (not_executable r [] items)) h).0).0
@@ -325,7 +325,7 @@ module _ (outer : List ItemTree) where
 
 -- ---- lists
 
-module _ (r : Roles) (items : List ItemTree) where
+module _ (r : Symbols) (items : List ItemTree) where
   -- a list that stands in others, executed from a member on
   abbrev AllInside : Meaning → Type 0
   AllInside f = (a : Around) (outer : List ItemTree) (all rest : Members) → a.items ≡ own_items all ++ outer → Nowhere r items a all → Nowhere r items a rest → (m : Map) (t : ℕ) → Inside outer (f all rest m t)
@@ -416,16 +416,16 @@ module _ (r : Roles) (items : List ItemTree) where
   unfolding exec
   exec-inside program a outer all rest is kept further m t = fuelled-inside program (suc t) a outer all rest is kept further m t
 
-nowhere : (t u : Nested) → checked t ≡ Ok u → Nowhere (roles_of (flatten t)) (flatten t) (in_body t.body) t.body
+nowhere : (t u : Nested) → checked t ≡ Ok u → Nowhere (symbols_of (flatten t)) (flatten t) (in_body t.body) t.body
 nowhere t u accepted =
-    let r = roles_of (flatten t) in
+    let r = symbols_of (flatten t) in
     let lists = (none_of_both (broken_items r (flatten t)) (broken_lists r t) (nothing_broken t u accepted)).1 in
     (none_of_both (told_in (breaks_transfers r (flatten t)) K2 (in_body t.body) t.body) (told_in (breaks_loops r) K9 (in_body t.body) t.body) lists).0
 
 pub each_arrives : (t u : Nested) → checked t ≡ Ok u → AllByRecursion (λ x. AllByRecursion (λ s. list_any (has_label s) (flatten t) ≡ true) (transfers_of x.shape)) (flatten t)
-each_arrives t u accepted = arrive (roles_of (flatten t)) (flatten t) (in_body t.body) t.body (nowhere t u accepted)
+each_arrives t u accepted = arrive (symbols_of (flatten t)) (flatten t) (in_body t.body) t.body (nowhere t u accepted)
 
 pub stays : (t u : Nested) → checked t ≡ Ok u → (m : Map) (n s : ℕ) → (exec (flatten t) t.body t.body m n).outcome ≡ jump s → ⊥
 stays t u accepted m n s h =
     let kept = nowhere t u accepted in
-    false≢true (exec-inside (roles_of (flatten t)) (flatten t) (flatten t) (in_body t.body) [] t.body t.body (sym (append-nil (own_items t.body))) kept kept m n s h)
+    false≢true (exec-inside (symbols_of (flatten t)) (flatten t) (flatten t) (in_body t.body) [] t.body t.body (sym (append-nil (own_items t.body))) kept kept m n s h)

@@ -1,5 +1,7 @@
--- Arrays (ANSI X3.9-1978, 5.1 to 5.4): their dimensions, and the places of their elements among the cells of a program.
-use Rattle.std.specs.Prelude.{◌≡◌, ◌<◌, ℕ, ◌+◌, ◌*◌, ℤ, pos, negsuc, ◌+ℤ◌, ◌-ℤ◌, List, [], ◌∷◌, nat_lt, map, flat_map, if◌then◌else◌, Option, Some, None, option_map}
+-- Arrays (ANSI X3.9-1978, 5.1 to 5.4): their dimensions, and the places of their elements among the
+-- cells of a program.
+use Rattle.std.specs.Prelude.{◌≡◌, ◌<◌, ℕ, ◌+◌, ◌*◌, ℤ, pos, negsuc, ◌+ℤ◌, ◌-ℤ◌, List, [], ◌∷◌}
+use Rattle.std.specs.Prelude.{nat_lt, map, flat_map, if◌then◌else◌, Option, Some, None, option_map}
 use Rattle.std.specs.List.{range_with_len}
 use Rattle.std.specs.Str.{bytes_eq}
 use Rattle.meaning.specs.Characters.{at_least_zero}
@@ -35,7 +37,8 @@ combined n (Some k) (Some i) = Some (k + n * i)
 combined n (Some k) None = None
 combined n None o = None
 
--- the place of the element with these subscripts, counted from 0: the first subscript varies fastest (5.2.4, 5.4.3)
+-- the place of the element with these subscripts, counted from 0: the first subscript varies
+-- fastest (5.2.4, 5.4.3)
 abbrev pub place : List Dimension → List ℤ → Option ℕ
 place [] [] = Some 0
 place [] (s ∷ ss) = None
@@ -80,4 +83,5 @@ pub record AreOneToOne (ds : List Dimension) : Type 0 where
 -- each variable and each element has a cell of its own
 pub record HaveOwnCells (names : List Named) : Type 0 where
   pub small : (n : List ℕ) (ss : List ℤ) (c : ℕ) → cell_of names n ss ≡ Some c → c < cells_of names
-  pub own : (n p : List ℕ) (ss ts : List ℤ) (c : ℕ) → cell_of names n ss ≡ Some c → cell_of names p ts ≡ Some c → (n ≡ p) × (ss ≡ ts)
+  pub own : (n p : List ℕ) (ss ts : List ℤ) (c : ℕ) → cell_of names n ss ≡ Some c →
+      cell_of names p ts ≡ Some c → (n ≡ p) × (ss ≡ ts)

@@ -1,5 +1,7 @@
--- The characters of FORTRAN by their codes (ANSI X3.9-1978, 3.1): letters, digits, the blank and the apostrophe.
-use Rattle.std.specs.Prelude.{ℕ, ℤ, pos, negsuc, ◌+◌, ◌-◌, ◌*◌, Bool, ◌&&◌, ◌||◌, List, [], ◌∷◌, nat_le, nat_lt, length, if◌then◌else◌}
+-- The characters of FORTRAN by their codes (ANSI X3.9-1978, 3.1): letters, digits, the blank and
+-- the apostrophe.
+use Rattle.std.specs.Prelude.{ℕ, ℤ, pos, negsuc, ◌+◌, ◌-◌, ◌*◌, Bool, ◌&&◌, ◌||◌, List, [], ◌∷◌}
+use Rattle.std.specs.Prelude.{nat_le, nat_lt, length, if◌then◌else◌}
 use Rattle.std.specs.List.{fold, list_all}
 
 abbrev pub blank : ℕ

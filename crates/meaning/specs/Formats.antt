@@ -1,14 +1,18 @@
--- The text of a format (ANSI X3.9-1978, 13.1 and 13.2), as it stands between the outer parentheses. A text reads as the
--- parts of a format exactly when it denotes them.
-use Rattle.std.specs.Prelude.{◌≡◌, ℕ, zero, suc, ◌+◌, ◌*◌, max, Bool, true, false, ◌&&◌, ◌||◌, not, List, [], ◌∷◌, ◌++◌, length, nat_le, nat_lt, ◌==◌, if◌then◌else◌, Option, Some, None, option_map, IsTrue}
+-- The text of a format (ANSI X3.9-1978, 13.1 and 13.2), as it stands between the outer parentheses.
+-- A text reads as the parts of a format exactly when it denotes them.
+use Rattle.std.specs.Prelude.{◌≡◌, ℕ, zero, suc, ◌+◌, ◌*◌, max, Bool, true, false, ◌&&◌, ◌||◌, not}
+use Rattle.std.specs.Prelude.{List, [], ◌∷◌, ◌++◌, length, nat_le, nat_lt, ◌==◌, if◌then◌else◌}
+use Rattle.std.specs.Prelude.{Option, Some, None, option_map, IsTrue}
 use Rattle.std.specs.List.{list_all}
 use Rattle.meaning.specs.Characters.{apostrophe, is_digit, is_number, number_of}
 use Rattle.meaning.specs.BareText.{bare}
-use Rattle.meaning.specs.Reading.{Text, Reader, ◌>>=◌, when, either, after, with_char, run, at_end, before_last_parenthesis}
+use Rattle.meaning.specs.Reading.{Text, Reader, ◌>>=◌, when, either, after, with_char, run, at_end}
+use Rattle.meaning.specs.Reading.{before_last_parenthesis}
 
--- an edit descriptor: an integer in w positions with at least m digits, where Iw is Iw.1 (13.5.9.1); a logical value in w
--- positions (13.5.10); characters (13.5.1); a move of n positions (13.5.3); the end of a record (13.5.4); a place where
--- editing ends when the list is used up (13.5.5)
+-- an edit descriptor: an integer in w positions with at least m digits, where Iw is Iw.1
+-- (13.5.9.1); a logical value in w positions (13.5.10); characters (13.5.1); a move of n positions
+-- (13.5.3); the end of a record (13.5.4); a place where editing ends when the list is used up
+-- (13.5.5)
 pub data Descriptor : Type 0 where
   integer_field : ℕ → ℕ → Descriptor
   logical_field : ℕ → Descriptor
@@ -64,8 +68,9 @@ deepest = 16
 -- ---- what is written (13.1.1, 13.2.1 and 13.5)
 
 mutual
-  -- the digits before and behind an I, and those behind a point, if there is one; those before and behind an L; the text
-  -- between apostrophes; the digits before an X; a slash; a colon; the digits before a group, and what stands in it
+  -- the digits before and behind an I, and those behind a point, if there is one; those before and
+  -- behind an L; the text between apostrophes; the digits before an X; a slash; a colon; the digits
+  -- before a group, and what stands in it
   pub data Word : Type 0 where
     integers : List ℕ → List ℕ → Option (List ℕ) → Word
     logicals : List ℕ → List ℕ → Word
@@ -87,7 +92,8 @@ point_with (Some digits) = 46 ∷ digits
 -- a text with its apostrophes doubled
 abbrev pub doubled : List ℕ → List ℕ
 doubled [] = []
-doubled (c ∷ cs) = if c == apostrophe then apostrophe ∷ (apostrophe ∷ doubled cs) else c ∷ doubled cs
+doubled (c ∷ cs) =
+    if c == apostrophe then apostrophe ∷ (apostrophe ∷ doubled cs) else c ∷ doubled cs
 
 abbrev pub comma_if : Bool → List ℕ
 comma_if true = 44 ∷ []
@@ -145,7 +151,8 @@ abbrev mutual
 
   pub AreWell : Words → Type 0
   AreWell (last w) = IsWellWord w
-  AreWell (before w comma ws) = IsWellWord w × (IsTrue (comma || (is_mark w || is_mark (first_word ws))) × AreWell ws)
+  AreWell (before w comma ws) =
+      IsWellWord w × (IsTrue (comma || (is_mark w || is_mark (first_word ws))) × AreWell ws)
 
 -- how deep groups nest
 abbrev mutual
@@ -168,7 +175,8 @@ least_in (Some digits) = number_of digits
 
 abbrev mutual
   pub meant : Word → Part
-  meant (integers repeats width least) = single (count_in repeats) (integer_field (number_of width) (least_in least))
+  meant (integers repeats width least) =
+      single (count_in repeats) (integer_field (number_of width) (least_in least))
   meant (logicals repeats width) = single (count_in repeats) (logical_field (number_of width))
   meant (quoted text) = single 1 (characters text)
   meant (blanks count) = single 1 (skip (count_in count))
@@ -207,26 +215,32 @@ pub record Denotes (text : List ℕ) (ps : Parts) : Type 0 where
 unfoldable pub least_at : Reader ℕ
 unfolding either when
 least_at t =
-    either (after (46 ∷ []) t) (Some (1, t)) (λ rest. when (is_least (run is_digit rest).0) (Some (number_of (run is_digit rest).0, (run is_digit rest).1)))
+    either (after (46 ∷ []) t)
+    (Some (1, t)) (λ rest. when (is_least (run is_digit rest).0)
+    (Some (number_of (run is_digit rest).0, (run is_digit rest).1)))
 
 -- the width behind an I, and what follows a point
 unfoldable pub integer_at : Reader Descriptor
 unfolding ◌>>=◌ when
 integer_at t =
-    when (is_count (number_of (run is_digit t).0)) (least_at (run is_digit t).1 >>= λ m. Some (integer_field (number_of (run is_digit t).0) m.0, m.1))
+    when (is_count (number_of (run is_digit t).0))
+    (least_at (run is_digit t).1 >>=
+    λ m. Some (integer_field (number_of (run is_digit t).0) m.0, m.1))
 
 -- the width behind an L
 unfoldable pub logical_at : Reader Descriptor
 unfolding when
 logical_at t =
-    when (is_count (number_of (run is_digit t).0)) (Some (logical_field (number_of (run is_digit t).0), (run is_digit t).1))
+    when (is_count (number_of (run is_digit t).0))
+    (Some (logical_field (number_of (run is_digit t).0), (run is_digit t).1))
 
 -- the characters up to the apostrophe that ends them, which isn't doubled
 unfoldable pub quoted_at : Reader (List ℕ)
 quoted_at [] = None
 quoted_at (c ∷ []) = if c == apostrophe then Some ([], []) else None
 quoted_at (c ∷ d ∷ t) =
-    if c == apostrophe then (if d == apostrophe then option_map (with_char c) (quoted_at t) else Some ([], d ∷ t))
+    if c == apostrophe
+    then (if d == apostrophe then option_map (with_char c) (quoted_at t) else Some ([], d ∷ t))
     else option_map (with_char c) (quoted_at (d ∷ t))
 
 -- a descriptor so many times
@@ -258,7 +272,8 @@ behind_count inner n (c ∷ t) =
 unfoldable pub counted_at : Reader Parts → Reader Part
 unfolding when
 counted_at inner t =
-    when (is_count (count_in (run is_digit t).0)) (behind_count inner (count_in (run is_digit t).0) (run is_digit t).1)
+    when (is_count (count_in (run is_digit t).0))
+    (behind_count inner (count_in (run is_digit t).0) (run is_digit t).1)
 
 unfoldable pub part_at : Reader Parts → Reader Part
 part_at inner [] = None
@@ -294,7 +309,10 @@ unfoldable pub parts_at : Reader Parts → ℕ → Reader Parts
 unfolding ◌>>=◌ either
 parts_at inner zero t = None
 parts_at inner (suc n) t =
-    part_at inner t >>= λ p. either (next_at (is_separator p.0) p.1) (Some (parts p.0 no_parts, p.1)) (λ rest. parts_at inner n rest >>= λ ps. Some (parts p.0 ps.0, ps.1))
+    part_at inner t >>=
+    λ p. either (next_at (is_separator p.0) p.1)
+    (Some (parts p.0 no_parts, p.1)) (λ rest. parts_at inner n rest >>=
+    λ ps. Some (parts p.0 ps.0, ps.1))
 
 -- parts in so many levels of parentheses
 unfoldable pub parts_in : ℕ → Reader Parts
@@ -306,14 +324,16 @@ unfoldable pub descriptors_of : Text → Option Parts
 unfolding ◌>>=◌ when
 descriptors_of [] = Some no_parts
 descriptors_of (c ∷ t) =
-    parts_in (suc deepest) (c ∷ t) >>= λ ps. at_end ps >>= λ all. when (is_short_pass all) (Some all)
+    parts_in (suc deepest) (c ∷ t) >>= λ ps. at_end ps >>=
+    λ all. when (is_short_pass all) (Some all)
 
 -- what stands between parentheses that are the first and the last of a text
 unfoldable pub between_parentheses : Text → Option Text
 unfolding ◌>>=◌
 between_parentheses t = after (40 ∷ []) t >>= λ rest. before_last_parenthesis rest
 
--- the parts of a format with its outer parentheses, blanks having no meaning outside its apostrophes
+-- the parts of a format with its outer parentheses, blanks having no meaning outside its
+-- apostrophes
 unfoldable pub format_in : Text → Option Parts
 unfolding ◌>>=◌
 format_in t = between_parentheses (bare t) >>= λ inner. descriptors_of inner
@@ -322,7 +342,8 @@ format_in t = between_parentheses (bare t) >>= λ inner. descriptors_of inner
 unfoldable pub single_behind : Bool → Text → Text
 single_behind pending [] = []
 single_behind pending (c ∷ t) =
-    if pending && c == apostrophe then single_behind false t else c ∷ single_behind (c == apostrophe) t
+    if pending && c == apostrophe then single_behind false t
+    else c ∷ single_behind (c == apostrophe) t
 
 -- the text that a character constant stands for: two apostrophes in it are one (4.8)
 unfoldable pub undoubled : Text → Text

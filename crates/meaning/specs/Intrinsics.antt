@@ -1,6 +1,7 @@
--- The intrinsic functions (ANSI X3.9-1978, 15.3 and table 5, those of INTEGER): their names, how many arguments they take, and
--- their values. A value outside INTEGER is a fault.
-use Rattle.std.specs.Prelude.{ℕ, ℤ, pos, neg_ℤ, ◌-ℤ◌, ◌*ℤ◌, int_div, int_lt, Bool, ◌==◌, nat_le, List, [], ◌∷◌, codes, if◌then◌else◌, Option, Some, None, Err}
+-- The intrinsic functions (ANSI X3.9-1978, 15.3 and table 5, those of INTEGER): their names, how
+-- many arguments they take, and their values. A value outside INTEGER is a fault.
+use Rattle.std.specs.Prelude.{ℕ, ℤ, pos, neg_ℤ, ◌-ℤ◌, ◌*ℤ◌, int_div, int_lt, Bool, ◌==◌, nat_le}
+use Rattle.std.specs.Prelude.{List, [], ◌∷◌, codes, if◌then◌else◌, Option, Some, None, Err}
 use Rattle.std.specs.List.{fold, list_any}
 use Rattle.std.specs.Ordering.{int_eq}
 use Rattle.std.specs.Str.{bytes_eq}
@@ -27,7 +28,8 @@ intrinsics =
     ∷ (record { names = codes "MAX" ∷ (codes "MAX0" ∷ []); function = greatest }
     ∷ (record { names = codes "MIN" ∷ (codes "MIN0" ∷ []); function = least }
     ∷ (record { names = codes "SIGN" ∷ (codes "ISIGN" ∷ []); function = sign_transfer }
-    ∷ (record { names = codes "DIM" ∷ (codes "IDIM" ∷ []); function = positive_difference } ∷ [])))))
+    ∷ (record { names = codes "DIM" ∷ (codes "IDIM" ∷ []); function = positive_difference } ∷
+    [])))))
 
 abbrev pub named_among : List Naming → List ℕ → Option Intrinsic
 named_among [] n = None

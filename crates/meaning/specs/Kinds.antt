@@ -1,15 +1,20 @@
--- Which statement a bare text can be: by the equals signs and commas outside parentheses and apostrophes, and else by its
--- keyword (ANSI X3.9-1978, 3.1.6; keywords aren't reserved).
-use Rattle.std.specs.Prelude.{ℕ, ◌+◌, ◌-◌, Bool, true, false, not, ◌||◌, ◌&&◌, List, [], ◌∷◌, ◌==◌, if◌then◌else◌, codes, drop}
+-- Which statement a bare text can be: by the equals signs and commas outside parentheses and
+-- apostrophes, and else by its keyword (ANSI X3.9-1978, 3.1.6; keywords aren't reserved).
+use Rattle.std.specs.Prelude.{ℕ, ◌+◌, ◌-◌, Bool, true, false, not, ◌||◌, ◌&&◌, List, [], ◌∷◌, ◌==◌}
+use Rattle.std.specs.Prelude.{if◌then◌else◌, codes, drop}
 use Rattle.std.specs.List.{starts_with, list_any}
 use Rattle.meaning.specs.declared.syntax.Kind.{Kind}
 use Rattle.meaning.specs.declared.syntax.Kind.TheVariants as kinds
 use Rattle.meaning.specs.Characters.{is_digit, apostrophe}
-use Rattle.meaning.specs.Syntax.{ShapeTree, assignment, writing, printing, format, doing, continuing, typing, ending, naming, implying, logical_typing, dimensioning, parameter, initializing, definition, going, computed_going, arithmetic_if, logical_if, block_if, else_if, otherwise, end_if, stopping, doing_while, end_do, implicit_none}
+use Rattle.meaning.specs.Syntax.{ShapeTree, assignment, writing, printing, format, doing}
+use Rattle.meaning.specs.Syntax.{continuing, typing, ending, naming, implying, logical_typing}
+use Rattle.meaning.specs.Syntax.{dimensioning, parameter, initializing, definition, going}
+use Rattle.meaning.specs.Syntax.{computed_going, arithmetic_if, logical_if, block_if, else_if}
+use Rattle.meaning.specs.Syntax.{otherwise, end_if, stopping, doing_while, end_do, implicit_none}
 use Rattle.std.specs.Prelude.{nat_eq}
 
--- the equals signs and commas of a text that stand outside parentheses and apostrophes, up to a parenthesis that closes what
--- the text doesn't open
+-- the equals signs and commas of a text that stand outside parentheses and apostrophes, up to a
+-- parenthesis that closes what the text doesn't open
 unfoldable pub marks_at : ℕ → Bool → List ℕ → List ℕ
 marks_at depth inside [] = []
 marks_at depth true (c ∷ cs) = marks_at depth (not (c == apostrophe)) cs
@@ -91,10 +96,12 @@ kind_by_keyword text =
 -- with an equals sign a DO statement or an assignment, else what the first keyword says
 unfoldable pub kind_outside_if : List ℕ → Kind
 kind_outside_if text =
-    if has_equals text then (if has_limits (marks_at 0 false text) then kinds.Do else kinds.Assignment) else kind_by_keyword text
+    if has_equals text
+    then (if has_limits (marks_at 0 false text) then kinds.Do else kinds.Assignment)
+    else kind_by_keyword text
 
--- what stands behind IF and its parentheses says which IF it is; an equals sign there makes the text an assignment to an
--- array IF
+-- what stands behind IF and its parentheses says which IF it is; an equals sign there makes the
+-- text an assignment to an array IF
 unfoldable pub kind_behind_if : List ℕ → List ℕ → Kind
 kind_behind_if text rest =
     if begins rest (codes "=") then kind_outside_if text
@@ -104,7 +111,8 @@ kind_behind_if text rest =
 
 unfoldable pub kind_of : List ℕ → Kind
 kind_of text =
-    if begins text (codes "IF(") then kind_behind_if text (behind_closing 0 false (drop 3 text)) else kind_outside_if text
+    if begins text (codes "IF(") then kind_behind_if text (behind_closing 0 false (drop 3 text))
+    else kind_outside_if text
 
 abbrev pub kind_of_shape : ShapeTree → Kind
 kind_of_shape (assignment target subscripts e) = kinds.Assignment

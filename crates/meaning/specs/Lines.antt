@@ -1,5 +1,6 @@
 -- The lines of a source, their columns and their classes (ANSI X3.9-1978, 3.2).
-use Rattle.std.specs.Prelude.{ℕ, ◌+◌, Bool, ◌||◌, List, [], ◌∷◌, ◌++◌, map, take, drop, replicate, get_or, ◌==◌, if◌then◌else◌}
+use Rattle.std.specs.Prelude.{ℕ, ◌+◌, Bool, ◌||◌, List, [], ◌∷◌, ◌++◌, map, take, drop, replicate}
+use Rattle.std.specs.Prelude.{get_or, ◌==◌, if◌then◌else◌}
 use Rattle.std.specs.List.{list_all}
 use Rattle.meaning.specs.Characters.{blank}
 
@@ -39,10 +40,11 @@ statement_field columns = drop 6 columns
 -- a comment line has C or an asterisk in column 1, or blanks alone (3.2.1)
 abbrev pub is_comment : List ℕ → Bool
 is_comment columns =
-    (get_or columns 0 blank == 67) || (get_or columns 0 blank == 99) || (get_or columns 0 blank == 42) || list_all (λ c. c == blank) columns
+    (get_or columns 0 blank == 67) || (get_or columns 0 blank == 99)
+    || (get_or columns 0 blank == 42) || list_all (λ c. c == blank) columns
 
--- of the other lines an initial line has a blank or 0 in column 6 (3.2.2), and a continuation line any other character
--- (3.2.3)
+-- of the other lines an initial line has a blank or 0 in column 6 (3.2.2), and a continuation line
+-- any other character (3.2.3)
 abbrev pub is_initial : List ℕ → Bool
 is_initial columns = (continuation_field columns == blank) || (continuation_field columns == 48)
 

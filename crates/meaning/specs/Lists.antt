@@ -1,10 +1,13 @@
--- The values of an output list (ANSI X3.9-1978, 12.8.2): of expressions, of the elements of whole arrays, and of implied DOs, whose
--- variables they set. A list has 65,536 items at most (own): a value is one, and so is an implied DO each time that it is reached.
-use Rattle.std.specs.Prelude.{ℕ, zero, suc, ◌-◌, ℤ, ◌+ℤ◌, nat_lt, length, List, [], ◌∷◌, ◌++◌, if◌then◌else◌, Option, Some, None, Result, Ok, Err}
+-- The values of an output list (ANSI X3.9-1978, 12.8.2): of expressions, of the elements of whole
+-- arrays, and of implied DOs, whose variables they set. A list has 65,536 items at most (own): a
+-- value is one, and so is an implied DO each time that it is reached.
+use Rattle.std.specs.Prelude.{ℕ, zero, suc, ◌-◌, ℤ, ◌+ℤ◌, nat_lt, length, List, [], ◌∷◌, ◌++◌}
+use Rattle.std.specs.Prelude.{if◌then◌else◌, Option, Some, None, Result, Ok, Err}
 use Rattle.meaning.specs.declared.ending.FaultKind.{FaultKind}
 use Rattle.meaning.specs.declared.ending.FaultKind.TheVariants.{F8}
 use Rattle.meaning.specs.declared.ending.Value.{Value}
-use Rattle.meaning.specs.Syntax.{ExprTree, name, ListItemsTree, no_items, more_items, value_item, loop_item}
+use Rattle.meaning.specs.Syntax.{ExprTree, name, ListItemsTree, no_items, more_items, value_item}
+use Rattle.meaning.specs.Syntax.{loop_item}
 use Rattle.meaning.specs.Arrays.{Dimension, elements}
 use Rattle.meaning.specs.Maps.{Map, put}
 use Rattle.meaning.specs.Values.{Scope, value, typed, integer, as_integer, and_then, ◌>>=◌}
@@ -50,16 +53,20 @@ one_item (suc n) m go = go n
 unfoldable pub element_values : Scope → List ℕ → List (List ℤ) → Map → Result (List Value) FaultKind
 unfolding and_then
 element_values s n [] m = Ok []
-element_values s n (ss ∷ sss) m = typed (s.types n) (m n ss) >>= λ v. element_values s n sss m >>= λ vs. Ok (v ∷ vs)
+element_values s n (ss ∷ sss) m = typed (s.types n) (m n ss) >>= λ v. element_values s n sss m >>=
+    λ vs. Ok (v ∷ vs)
 
 abbrev pub whole_array : Scope → List ℕ → List Dimension → Map → ℕ → Listed
 whole_array s n ds m left =
     if nat_lt left (length (elements ds)) then faulted F8 m
-    else with_value (element_values s n (elements ds) m) m (λ vs. Ok (record { values = vs; map = m; left = left - length (elements ds) }))
+    else with_value (element_values s n (elements ds) m)
+    m (λ vs. Ok (record { values = vs; map = m; left = left - length (elements ds) }))
 
 abbrev pub one_value : Scope → ExprTree → Map → ℕ → Listed
 one_value s e m left =
-    one_item left m (λ n. with_value (value s e m) m (λ v. Ok (record { values = v ∷ []; map = m; left = n })))
+    one_item left
+    m (λ n. with_value (value s e m)
+    m (λ v. Ok (record { values = v ∷ []; map = m; left = n })))
 
 abbrev pub named_value : Scope → List ℕ → Option (List Dimension) → Map → ℕ → Listed
 named_value s n (Some ds) m left = whole_array s n ds m left
@@ -80,14 +87,17 @@ trips_listed items n by (i ∷ is) m left =
     followed (items m left) (λ k rest. stepped n by k (λ j. trips_listed items n by is j rest))
 
 abbrev pub loop_listed : (Map → ℕ → Listed) → List ℕ → Map → ℕ → Span → Listed
-loop_listed items n m left s = trips_listed items n s.step (trips s.first s.last s.step) (put m n [] s.first) left
+loop_listed items n m left s =
+    trips_listed items n s.step (trips s.first s.last s.step) (put m n [] s.first) left
 
 -- the values of items, first to last
 unfoldable pub listed : Scope → ListItemsTree → Map → ℕ → Listed
 listed s no_items m left = Ok (record { values = []; map = m; left = left })
 listed s (more_items (value_item e) xs) m left = followed (item_value s e m left) (listed s xs)
 listed s (more_items (loop_item ys variable limits) xs) m left =
-    followed (one_item left m (λ n. with_value (span_of s limits m) m (λ span. loop_listed (listed s ys) variable m n span))) (listed s xs)
+    followed (one_item left
+    m (λ n. with_value (span_of s limits m)
+    m (λ span. loop_listed (listed s ys) variable m n span))) (listed s xs)
 
 -- how many items a list has at most (own)
 abbrev pub list_limit : ℕ

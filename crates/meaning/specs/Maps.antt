@@ -1,5 +1,5 @@
--- The map of a program's variables (ANSI X3.9-1978, chapters 5 and 17): a value for each name and list of subscripts.
--- A variable's list is empty. A LOGICAL is kept as 0 or 1.
+-- The map of a program's variables (ANSI X3.9-1978, chapters 5 and 17): a value for each name and
+-- list of subscripts. A variable's list is empty. A LOGICAL is kept as 0 or 1.
 use Rattle.std.specs.Prelude.{ℕ, ℤ, pos, ◌&&◌, List, if◌then◌else◌, Option, Some, None}
 use Rattle.std.specs.Str.{bytes_eq}
 use Rattle.std.specs.Ordering.{int_eq}

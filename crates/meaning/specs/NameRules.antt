@@ -1,5 +1,8 @@
--- The rules on names: K3, K4, K8, K12 and K13 (ANSI X3.9-1978, 2.5, 4.1.2, 5.1, 8.1, 8.4 to 8.6, 15.2 to 15.4 and 18.2).
-use Rattle.std.specs.Prelude.{ℕ, suc, ◌+◌, max, Bool, true, false, not, ◌&&◌, ◌||◌, nat_lt, ◌==◌, length, List, [], ◌∷◌, ◌++◌, map, flat_map, is_some, is_none, if◌then◌else◌, Option, Some, None, unwrap_or, reverse}
+-- The rules on names: K3, K4, K8, K12 and K13 (ANSI X3.9-1978, 2.5, 4.1.2, 5.1, 8.1, 8.4 to 8.6,
+-- 15.2 to 15.4 and 18.2).
+use Rattle.std.specs.Prelude.{ℕ, suc, ◌+◌, max, Bool, true, false, not, ◌&&◌, ◌||◌, nat_lt, ◌==◌}
+use Rattle.std.specs.Prelude.{length, List, [], ◌∷◌, ◌++◌, map, flat_map, is_some, is_none}
+use Rattle.std.specs.Prelude.{if◌then◌else◌, Option, Some, None, unwrap_or, reverse}
 use Rattle.std.specs.List.{list_any, filter, fold}
 use Rattle.std.specs.Str.{bytes_eq}
 use Rattle.meaning.specs.declared.refusal.Broken.{Broken}
@@ -8,24 +11,32 @@ use Rattle.meaning.specs.declared.refusal.Rule.TheVariants.{K3, K4, K5, K8, K12,
 use Rattle.meaning.specs.declared.syntax.DataType.{DataType}
 use Rattle.meaning.specs.declared.syntax.DataType.TheVariants as types
 use Rattle.meaning.specs.Statements.{broken_if}
-use Rattle.meaning.specs.Syntax.{LettersTree, DeclaratorTree, ExprTree, number, truth, name, signed, negated, binary, paren, element, call, ExprsTree, no_exprs, exprs, ShapeTree, assignment, definition, logical_if, implying, implicit_none, ItemTree}
+use Rattle.meaning.specs.Syntax.{LettersTree, DeclaratorTree, ExprTree, number, truth, name, signed}
+use Rattle.meaning.specs.Syntax.{negated, binary, paren, element, call, ExprsTree, no_exprs, exprs}
+use Rattle.meaning.specs.Syntax.{ShapeTree, assignment, definition, logical_if, implying}
+use Rattle.meaning.specs.Syntax.{implicit_none, ItemTree}
 use Rattle.meaning.specs.Types.{implied_in, typed_in, is_among, is_implicit_none, has_implicit_none}
 use Rattle.meaning.specs.Intrinsics.{Intrinsic, intrinsic_named, takes}
-use Rattle.meaning.specs.Scopes.{constants_in, declarators_in, Definition, defined_by, definitions_of, dummy_name}
+use Rattle.meaning.specs.Scopes.{constants_in, declarators_in, Definition, defined_by}
+use Rattle.meaning.specs.Scopes.{definitions_of, dummy_name}
 use Rattle.meaning.specs.Typing.{has_wrong_type, option_list}
-use Rattle.meaning.specs.Uses.{Use, Roles, is_one_of, is_constant, is_function, is_other, uses_in, Parts, parts_at, parts_from, uses_at, is_defining, is_before_executables}
+use Rattle.meaning.specs.Uses.{Use, Symbols, is_one_of, is_constant, is_function, is_other, uses_in}
+use Rattle.meaning.specs.Uses.{Parts, parts_at, parts_from, uses_at, is_defining}
+use Rattle.meaning.specs.Uses.{is_before_executables}
 
 -- a rule that a statement breaks behind others, told at its line
-unfoldable pub told : (List ItemTree → ItemTree → Bool) → Rule → List ItemTree → List ItemTree → List Broken
+unfoldable pub told : (List ItemTree → ItemTree → Bool) → Rule → List ItemTree → List ItemTree →
+    List Broken
 told breaks rule before [] = []
-told breaks rule before (x ∷ xs) = broken_if (breaks before x) x.line rule ++ told breaks rule (before ++ x ∷ []) xs
+told breaks rule before (x ∷ xs) =
+    broken_if (breaks before x) x.line rule ++ told breaks rule (before ++ x ∷ []) xs
 
 -- ---- K3: a variable, array, constant, statement function or dummy that is REAL
 
-abbrev pub is_real : Roles → List ℕ → Bool
+abbrev pub is_real : Symbols → List ℕ → Bool
 is_real r n = is_none (r.names.types n)
 
-abbrev pub is_real_use : Roles → Use → Bool
+abbrev pub is_real_use : Symbols → Use → Bool
 is_real_use r u = is_real r u.name && (is_none u.arguments || not (is_other r u.name))
 
 abbrev pub dummy_names : Definition → List (List ℕ)
@@ -36,17 +47,21 @@ abbrev pub function_names : Option Definition → List (List ℕ)
 function_names None = []
 function_names (Some d) = d.name ∷ dummy_names d
 
-abbrev pub names_defined : Roles → Bool → ShapeTree → List (List ℕ)
+abbrev pub names_defined : Symbols → Bool → ShapeTree → List (List ℕ)
 names_defined r defines s =
-    map (λ c. c.name) (constants_in s) ++ (map (λ d. d.name) (declarators_in s) ++ (if defines then function_names (defined_by r.names.arrays s) else []))
+    map (λ c. c.name) (constants_in s)
+    ++ (map (λ d. d.name) (declarators_in s)
+    ++ (if defines then function_names (defined_by r.names.arrays s) else []))
 
-abbrev pub has_real_name : Roles → List ItemTree → ItemTree → Bool
+abbrev pub has_real_name : Symbols → List ItemTree → ItemTree → Bool
 has_real_name r before x =
-    list_any (is_real r) (names_defined r (is_defining r before x) x.shape) || list_any (is_real_use r) (uses_at r before x)
+    list_any (is_real r) (names_defined r (is_defining r before x) x.shape)
+    || list_any (is_real_use r) (uses_at r before x)
 
 -- ---- K4: names that are given too much
 
--- the names that a statement gives a type, bounds, a PARAMETER value, or an expression as a statement function
+-- the names that a statement gives a type, bounds, a PARAMETER value, or an expression as a
+-- statement function
 pub record Given : Type 0 where
   pub typed : List (List ℕ)
   pub bounded : List (List ℕ)
@@ -56,7 +71,7 @@ pub record Given : Type 0 where
 abbrev pub has_bounds : DeclaratorTree → Bool
 has_bounds d = nat_lt 0 (length d.bounds)
 
-abbrev pub given_by : Roles → Bool → ShapeTree → Given
+abbrev pub given_by : Symbols → Bool → ShapeTree → Given
 given_by r defines s = record {
   typed = map (λ t. t.name) (typed_in s);
   bounded = map (λ d. d.name) (filter has_bounds (declarators_in s));
@@ -64,9 +79,10 @@ given_by r defines s = record {
   defined = if defines then map (λ d. d.name) (option_list (defined_by r.names.arrays s)) else [];
 }
 
-unfoldable pub given_from : Roles → List ItemTree → List ItemTree → List Given
+unfoldable pub given_from : Symbols → List ItemTree → List ItemTree → List Given
 given_from r before [] = []
-given_from r before (x ∷ xs) = given_by r (is_defining r before x) x.shape ∷ given_from r (before ++ x ∷ []) xs
+given_from r before (x ∷ xs) =
+    given_by r (is_defining r before x) x.shape ∷ given_from r (before ++ x ∷ []) xs
 
 -- names of which one stands among others, or twice
 abbrev pub repeats : List (List ℕ) → List (List ℕ) → Bool
@@ -86,36 +102,40 @@ shares ns ms = list_any (is_one_of ms) ns
 
 abbrev pub has_two_roles : List Given → Given → Bool
 has_two_roles gs g =
-    shares g.valued (flat_map (λ h. h.bounded ++ h.defined) gs) || shares (g.bounded ++ g.defined) (flat_map (λ h. h.valued) gs)
+    shares g.valued (flat_map (λ h. h.bounded ++ h.defined) gs)
+    || shares (g.bounded ++ g.defined) (flat_map (λ h. h.valued) gs)
 
 -- a constant is set or has parentheses, a statement function has none
-abbrev pub is_against_role : Roles → Use → Bool
-is_against_role r u = (is_constant r u.name && is_some u.arguments) || (is_function r u.name && is_none u.arguments)
+abbrev pub is_against_role : Symbols → Use → Bool
+is_against_role r u =
+    (is_constant r u.name && is_some u.arguments) || (is_function r u.name && is_none u.arguments)
 
-abbrev pub sets_constant : Roles → ShapeTree → Bool
+abbrev pub sets_constant : Symbols → ShapeTree → Bool
 sets_constant r (assignment n es e) = is_constant r n
 sets_constant r (definition n e) = is_constant r n
 sets_constant r (logical_if e s) = sets_constant r s
 sets_constant r s = false
 
 -- a variable that is also used as a function, told at the later statement
-abbrev pub is_variable_use : Roles → Use → Bool
+abbrev pub is_variable_use : Symbols → Use → Bool
 is_variable_use r u = is_other r u.name && is_none u.arguments
 
-abbrev pub is_function_use : Roles → Use → Bool
+abbrev pub is_function_use : Symbols → Use → Bool
 is_function_use r u = is_other r u.name && is_some u.arguments
 
 abbrev pub names_used : (Use → Bool) → List Use → List (List ℕ)
 names_used test us = map (λ u. u.name) (filter test us)
 
 -- what statements set and read
-abbrev pub is_both : Roles → Parts → Parts → Bool
+abbrev pub is_both : Symbols → Parts → Parts → Bool
 is_both r before here =
-    shares (names_used (is_variable_use r) (here.sets ++ here.reads)) (names_used (is_function_use r) (before.reads ++ here.reads))
-    || shares (names_used (is_function_use r) here.reads) (names_used (is_variable_use r) (before.sets ++ before.reads))
+    shares (names_used (is_variable_use r) (here.sets ++ here.reads))
+    (names_used (is_function_use r) (before.reads ++ here.reads))
+    || shares (names_used (is_function_use r) here.reads)
+    (names_used (is_variable_use r) (before.sets ++ before.reads))
 
 -- a function of the standard that is used, and that a LOGICAL statement names
-abbrev pub is_intrinsic_use : Roles → Use → Bool
+abbrev pub is_intrinsic_use : Symbols → Use → Bool
 is_intrinsic_use r u = is_function_use r u && is_some (intrinsic_named u.name)
 
 abbrev pub is_logical_type : DataType → Bool
@@ -125,7 +145,7 @@ is_logical_type types.Integer = false
 abbrev pub logical_names : ItemTree → List (List ℕ)
 logical_names x = map (λ t. t.name) (filter (λ t. is_logical_type t.data_type) (typed_in x.shape))
 
-abbrev pub is_logical_function : Roles → List ItemTree → List Use → ItemTree → List Use → Bool
+abbrev pub is_logical_function : Symbols → List ItemTree → List Use → ItemTree → List Use → Bool
 is_logical_function r before used x here =
     shares (logical_names x) (names_used (is_intrinsic_use r) (used ++ here))
     || shares (names_used (is_intrinsic_use r) here) (flat_map logical_names before)
@@ -146,7 +166,8 @@ letters_in x = flat_map (λ p. p.letters) (implied_in x.shape)
 abbrev pub letters_clash : List LettersTree → List LettersTree → Bool
 letters_clash earlier [] = false
 letters_clash earlier (l ∷ ls) =
-    (is_reversed l || list_any (λ k. not (is_reversed k) && meet l k) earlier) || letters_clash (l ∷ earlier) ls
+    (is_reversed l || list_any (λ k. not (is_reversed k) && meet l k) earlier)
+    || letters_clash (l ∷ earlier) ls
 
 -- IMPLICIT NONE beside another IMPLICIT statement, told at the later of the two (own)
 abbrev pub is_implicit : ShapeTree → Bool
@@ -156,9 +177,10 @@ is_implicit s = false
 
 abbrev pub has_rival : List ItemTree → ItemTree → Bool
 has_rival before x =
-    (is_implicit_none x.shape && list_any (λ (y : ItemTree). is_implicit y.shape) before) || (is_implicit x.shape && has_implicit_none before)
+    (is_implicit_none x.shape && list_any (λ (y : ItemTree). is_implicit y.shape) before)
+    || (is_implicit x.shape && has_implicit_none before)
 
-abbrev pub is_disputed : Roles → List ItemTree → ItemTree → Bool
+abbrev pub is_disputed : Symbols → List ItemTree → ItemTree → Bool
 is_disputed r before x =
     (given_twice (given_from r [] before) (given_by r (is_defining r before x) x.shape)
     || has_two_roles (given_from r [] before) (given_by r (is_defining r before x) x.shape))
@@ -169,7 +191,7 @@ is_disputed r before x =
 
 -- ---- K5: a wrong type
 
-abbrev pub is_wrongly_typed : Roles → List ItemTree → ItemTree → Bool
+abbrev pub is_wrongly_typed : Symbols → List ItemTree → ItemTree → Bool
 is_wrongly_typed r before x = has_wrong_type r.names (is_defining r before x) x.shape
 
 -- ---- K8: a wrong number of subscripts or arguments, or an array's name without subscripts
@@ -188,29 +210,32 @@ does_not_take (Some f) (Some k) = not (takes f k)
 does_not_take f k = false
 
 -- an array, wherever it stands
-abbrev pub is_misused_array : Roles → Use → Bool
+abbrev pub is_misused_array : Symbols → Use → Bool
 is_misused_array r u = is_other_number (length_if (r.names.arrays u.name)) u.arguments
 
 -- a function that is referenced
-abbrev pub is_misused_function : Roles → Use → Bool
+abbrev pub is_misused_function : Symbols → Use → Bool
 is_misused_function r u =
     (is_some u.arguments && is_other_number (length_if (r.names.functions u.name)) u.arguments)
     || (is_other r u.name && does_not_take (intrinsic_named u.name) u.arguments)
 
-abbrev pub has_misuse : Roles → List ItemTree → ItemTree → Bool
+abbrev pub has_misuse : Symbols → List ItemTree → ItemTree → Bool
 has_misuse r before x =
-    list_any (is_misused_array r) (uses_at r before x) || list_any (is_misused_function r) (parts_at r before x).reads
+    list_any (is_misused_array r) (uses_at r before x)
+    || list_any (is_misused_function r) (parts_at r before x).reads
 
 -- ---- K12: statement functions
 
--- an assignment to what is no array and has parentheses, behind an executable statement or under a logical IF
-abbrev pub sets_no_array : Roles → ShapeTree → Bool
+-- an assignment to what is no array and has parentheses, behind an executable statement or under a
+-- logical IF
+abbrev pub sets_no_array : Symbols → ShapeTree → Bool
 sets_no_array r (logical_if e s) = is_some (defined_by r.names.arrays s)
 sets_no_array r s = false
 
-abbrev pub is_late : Roles → List ItemTree → ItemTree → Bool
+abbrev pub is_late : Symbols → List ItemTree → ItemTree → Bool
 is_late r before x =
-    (is_some (defined_by r.names.arrays x.shape) && not (is_before_executables r before)) || sets_no_array r x.shape
+    (is_some (defined_by r.names.arrays x.shape) && not (is_before_executables r before))
+    || sets_no_array r x.shape
 
 -- dummies are distinct names, 16 at most (own)
 abbrev pub is_no_name : ExprTree → Bool
@@ -222,12 +247,15 @@ has_bad_dummies d =
     nat_lt 16 (length d.dummies) || (list_any is_no_name d.dummies || repeats [] (dummy_names d))
 
 abbrev pub uses_dummy_as_function : Definition → Bool
-uses_dummy_as_function d = list_any (λ u. is_some u.arguments && is_one_of (dummy_names d) u.name) (uses_in d.body)
+uses_dummy_as_function d =
+    list_any (λ u. is_some u.arguments && is_one_of (dummy_names d) u.name) (uses_in d.body)
 
 -- it uses itself or one that stands behind it: a statement function that none before it is
-abbrev pub uses_later : Roles → List Definition → Definition → Bool
+abbrev pub uses_later : Symbols → List Definition → Definition → Bool
 uses_later r earlier d =
-    list_any (λ u. is_some u.arguments && (is_function r u.name && not (is_one_of (map (λ e. e.name) earlier) u.name))) (uses_in d.body)
+    list_any (λ u. is_some u.arguments
+    && (is_function r u.name && not (is_one_of (map (λ e. e.name) earlier) u.name)))
+    (uses_in d.body)
 
 -- how deep statement functions call one another; the definitions stand last to first
 abbrev pub greatest : (List ℕ → ℕ) → List Use → ℕ
@@ -235,10 +263,11 @@ greatest level us = fold (λ k u. max k (if is_some u.arguments then level u.nam
 
 unfoldable pub level_by : List Definition → List ℕ → ℕ
 level_by [] n = 0
-level_by (d ∷ ds) n = if bytes_eq n d.name then suc (greatest (level_by ds) (uses_in d.body)) else level_by ds n
+level_by (d ∷ ds) n =
+    if bytes_eq n d.name then suc (greatest (level_by ds) (uses_in d.body)) else level_by ds n
 
--- how many constants, names, operators and parentheses there are when each use of a statement function is replaced by its
--- expression (own)
+-- how many constants, names, operators and parentheses there are when each use of a statement
+-- function is replaced by its expression (own)
 abbrev mutual
   pub nodes_in : (List ℕ → Option ℕ) → ExprTree → ℕ
   nodes_in expanded (number digits) = 1
@@ -248,7 +277,8 @@ abbrev mutual
   nodes_in expanded (negated e) = suc (nodes_in expanded e)
   nodes_in expanded (binary operator a b) = suc (nodes_in expanded a + nodes_in expanded b)
   nodes_in expanded (paren e) = suc (nodes_in expanded e)
-  nodes_in expanded (element letters es) = unwrap_or (expanded letters) (2 + nodes_in_all expanded es)
+  nodes_in expanded (element letters es) =
+      unwrap_or (expanded letters) (2 + nodes_in_all expanded es)
   nodes_in expanded (call letters) = unwrap_or (expanded letters) 2
 
   pub nodes_in_all : (List ℕ → Option ℕ) → ExprsTree → ℕ
@@ -257,34 +287,44 @@ abbrev mutual
 
 unfoldable pub nodes_by : List Definition → List ℕ → Option ℕ
 nodes_by [] n = None
-nodes_by (d ∷ ds) n = if bytes_eq n d.name then Some (nodes_in (nodes_by ds) d.body) else nodes_by ds n
+nodes_by (d ∷ ds) n =
+    if bytes_eq n d.name then Some (nodes_in (nodes_by ds) d.body) else nodes_by ds n
 
 abbrev pub is_too_deep : List Definition → Definition → Bool
 is_too_deep earlier d =
-    nat_lt 32 (suc (greatest (level_by earlier) (uses_in d.body))) || nat_lt 65536 (nodes_in (nodes_by earlier) d.body)
+    nat_lt 32 (suc (greatest (level_by earlier) (uses_in d.body)))
+    || nat_lt 65536 (nodes_in (nodes_by earlier) d.body)
 
-abbrev pub is_bad_definition : Roles → List Definition → Definition → Bool
+abbrev pub is_bad_definition : Symbols → List Definition → Definition → Bool
 is_bad_definition r earlier d =
-    has_bad_dummies d || (uses_dummy_as_function d || (uses_later r earlier d || is_too_deep earlier d))
+    has_bad_dummies d
+    || (uses_dummy_as_function d || (uses_later r earlier d || is_too_deep earlier d))
 
-abbrev pub defined_here : Roles → List ItemTree → ItemTree → List Definition
-defined_here r before x = if is_before_executables r before then option_list (defined_by r.names.arrays x.shape) else []
+abbrev pub defined_here : Symbols → List ItemTree → ItemTree → List Definition
+defined_here r before x =
+    if is_before_executables r before then option_list (defined_by r.names.arrays x.shape) else []
 
-abbrev pub breaks_function_rules : Roles → List ItemTree → ItemTree → Bool
+abbrev pub breaks_function_rules : Symbols → List ItemTree → ItemTree → Bool
 breaks_function_rules r before x =
     is_late r before x
-    || list_any (is_bad_definition r (reverse (definitions_of r.names.arrays before))) (defined_here r before x)
+    || list_any (is_bad_definition r (reverse (definitions_of r.names.arrays before)))
+    (defined_here r before x)
 
 -- ---- K13: a function that isn't known
 
-abbrev pub is_unknown_function : Roles → Use → Bool
+abbrev pub is_unknown_function : Symbols → Use → Bool
 is_unknown_function r u = is_function_use r u && is_none (intrinsic_named u.name)
 
-abbrev pub has_unknown_function : Roles → List ItemTree → ItemTree → Bool
+abbrev pub has_unknown_function : Symbols → List ItemTree → ItemTree → Bool
 has_unknown_function r before x = list_any (is_unknown_function r) (parts_at r before x).reads
 
 -- ---- all of them
 
-abbrev pub broken_names : Roles → List ItemTree → List Broken
+abbrev pub broken_names : Symbols → List ItemTree → List Broken
 broken_names r all =
-    told (has_real_name r) K3 [] all ++ (told (is_disputed r) K4 [] all ++ (told (is_wrongly_typed r) K5 [] all ++ (told (has_misuse r) K8 [] all ++ (told (breaks_function_rules r) K12 [] all ++ told (has_unknown_function r) K13 [] all))))
+    told (has_real_name r) K3 [] all
+    ++ (told (is_disputed r) K4 [] all
+    ++ (told (is_wrongly_typed r) K5 [] all
+    ++ (told (has_misuse r) K8 [] all
+    ++ (told (breaks_function_rules r) K12 [] all
+    ++ told (has_unknown_function r) K13 [] all))))

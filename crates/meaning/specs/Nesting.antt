@@ -1,21 +1,29 @@
--- How statements nest as a program unit: their order, the ranges of DO statements, block IFs, and END (ANSI X3.9-1978, 3.5 and
--- 11.6 to 11.10).
-use Rattle.std.specs.Prelude.{◌≡◌, ℕ, suc, ◌<◌, ◌^◌, Bool, true, false, not, ◌&&◌, ◌||◌, List, [], ◌∷◌, ◌++◌, length, nat_le, min, if◌then◌else◌, Option, Some, None, option_map, Result, IsTrue, IsFalse, ◌⊎◌}
+-- How statements nest as a program unit: their order, the ranges of DO statements, block IFs, and
+-- END (ANSI X3.9-1978, 3.5 and 11.6 to 11.10).
+use Rattle.std.specs.Prelude.{◌≡◌, ℕ, suc, ◌<◌, ◌^◌, Bool, true, false, not, ◌&&◌, ◌||◌, List, []}
+use Rattle.std.specs.Prelude.{◌∷◌, ◌++◌, length, nat_le, min, if◌then◌else◌, Option, Some, None}
+use Rattle.std.specs.Prelude.{option_map, Result, IsTrue, IsFalse, ◌⊎◌}
 use Rattle.std.specs.List.{AllByRecursion, fold, list_any}
 use Rattle.meaning.specs.declared.refusal.Broken.{Broken}
 use Rattle.meaning.specs.declared.refusal.Rule.{Rule}
 use Rattle.meaning.specs.declared.refusal.Rule.TheVariants.{N1, N2, N3, N4, N5}
 use Rattle.meaning.specs.Characters.{number_of}
-use Rattle.meaning.specs.Trees.{Members, none, plain, loop, block, Arms, no_arms, arm, Nested, flat, flatten}
-use Rattle.meaning.specs.Syntax.{ShapeTree, assignment, writing, printing, format, doing, doing_while, end_do, continuing, typing, ending, naming, implying, implicit_none, logical_typing, dimensioning, parameter, definition, computed_going, logical_if, block_if, else_if, otherwise, end_if, ItemTree}
+use Rattle.meaning.specs.Trees.{Members, none, plain, loop, block, Arms, no_arms, arm, Nested, flat}
+use Rattle.meaning.specs.Trees.{flatten}
+use Rattle.meaning.specs.Syntax.{ShapeTree, assignment, writing, printing, format, doing}
+use Rattle.meaning.specs.Syntax.{doing_while, end_do, continuing, typing, ending, naming, implying}
+use Rattle.meaning.specs.Syntax.{implicit_none, logical_typing, dimensioning, parameter, definition}
+use Rattle.meaning.specs.Syntax.{computed_going, logical_if, block_if, else_if, otherwise, end_if}
+use Rattle.meaning.specs.Syntax.{ItemTree}
 use Rattle.meaning.specs.Refusals.{merge, unless, is_less}
 use Rattle.meaning.specs.LabelRules.{is_label_at, has_label}
 
 -- ---- what a statement is
 
--- what a statement does to the lists of a program unit: DO and DO WHILE open a range and name its label or none, END DO closes
--- one, IF THEN opens a block IF, ELSE IF and ELSE open the next arm of one, END IF closes one, END closes the program unit, and
--- any other stands in a list and may end a range or not
+-- what a statement does to the lists of a program unit: DO and DO WHILE open a range and name its
+-- label or none, END DO closes one, IF THEN opens a block IF, ELSE IF and ELSE open the next arm of
+-- one, END IF closes one, END closes the program unit, and any other stands in a list and may end a
+-- range or not
 pub data Effect : Type 0 where
   opens_range : Option ℕ → Effect
   closes_range : Effect
@@ -25,8 +33,9 @@ pub data Effect : Type 0 where
   closes_unit : Effect
   stands : Bool → Effect
 
--- 4294967296 stands for a label that is more, which no statement has; the terminal statement of a range is executable and is no
--- GO TO, arithmetic or block IF, ELSE IF, ELSE, END IF, STOP, END or DO (11.10)
+-- 4294967296 stands for a label that is more, which no statement has; the terminal statement of a
+-- range is executable and is no GO TO, arithmetic or block IF, ELSE IF, ELSE, END IF, STOP, END or
+-- DO (11.10)
 abbrev pub named_label : Option (List ℕ) → Option ℕ
 named_label label = option_map (λ digits. min (number_of digits) (2 ^ 32)) label
 
@@ -76,8 +85,8 @@ abbrev pub is_else : ShapeTree → Bool
 is_else otherwise = true
 is_else s = false
 
--- where a statement stands among others (3.5): PROGRAM; IMPLICIT; PARAMETER; type statements and DIMENSION; FORMAT; the
--- executable statements and any other
+-- where a statement stands among others (3.5): PROGRAM; IMPLICIT; PARAMETER; type statements and
+-- DIMENSION; FORMAT; the executable statements and any other
 pub data Place : Type 0 where
   at_program : Place
   at_implicit : Place
@@ -97,8 +106,8 @@ place_of (dimensioning declarators) = at_typing
 place_of (format text) = at_format
 place_of s = at_executable
 
--- nothing stands before PROGRAM; IMPLICIT, PARAMETER, type statements and DIMENSION stand before the executable statements,
--- and IMPLICIT before type statements and DIMENSION
+-- nothing stands before PROGRAM; IMPLICIT, PARAMETER, type statements and DIMENSION stand before
+-- the executable statements, and IMPLICIT before type statements and DIMENSION
 abbrev pub may_stand_before : Place → Place → Bool
 may_stand_before y at_program = false
 may_stand_before at_executable at_implicit = false
@@ -123,7 +132,8 @@ abbrev pub joined_arms : Arms → Arms → Arms
 joined_arms no_arms others = others
 joined_arms (arm x ms arms) others = arm x ms (joined_arms arms others)
 
--- a range ends with the first statement that has the label, and that statement may end one (11.10.1)
+-- a range ends with the first statement that has the label, and that statement may end one
+-- (11.10.1)
 pub record IsRange (label : ℕ) (range : List ItemTree) : Type 0 where
   pub front : List ItemTree
   pub last : ItemTree
@@ -168,27 +178,32 @@ pub record IsEndDo (in_range : Bool) (s : ShapeTree) (ms : Members) : Type 0 whe
   pub last : ms ≡ none
 
 abbrev mutual
-  -- the members of a range, or of another list, that stand in so many ranges and block IFs are well nested; 32 at most are open at
-  -- once (own)
+  -- the members of a range, or of another list, that stand in so many ranges and block IFs are well
+  -- nested; 32 at most are open at once (own)
   pub IsWell : Bool → ℕ → Members → Type 0
   IsWell in_range around none = Unit {0}
-  IsWell in_range around (plain x ms) = (IsPlain x.shape ⊎ IsEndDo in_range x.shape ms) × IsWell in_range around ms
+  IsWell in_range around (plain x ms) =
+      (IsPlain x.shape ⊎ IsEndDo in_range x.shape ms) × IsWell in_range around ms
   IsWell in_range around (loop x range ms) =
-      (around < 32) × IsRangeOf x.shape range × IsWell true (suc around) range × IsWell in_range around ms
+      (around < 32) × IsRangeOf x.shape range × IsWell true (suc around) range
+      × IsWell in_range around ms
   IsWell in_range around (block arms x ms) =
-      (around < 32) × AreArms around arms × (effect_of x.shape ≡ closes_block) × IsWell in_range around ms
+      (around < 32) × AreArms around arms × (effect_of x.shape ≡ closes_block)
+      × IsWell in_range around ms
 
   -- the arm of IF THEN comes first (11.6)
   pub AreArms : ℕ → Arms → Type 0
   AreArms around no_arms = ⊥
   AreArms around (arm x ms arms) =
-      (effect_of x.shape ≡ opens_block) × IsWell false (suc around) ms × AreFurther around false arms
+      (effect_of x.shape ≡ opens_block) × IsWell false (suc around) ms
+      × AreFurther around false arms
 
   -- then those of ELSE IF and ELSE, and none behind that of ELSE (11.7, 11.8)
   pub AreFurther : ℕ → Bool → Arms → Type 0
   AreFurther around over no_arms = Unit {0}
   AreFurther around over (arm x ms arms) =
-      IsFalse over × (effect_of x.shape ≡ opens_arm) × IsWell false (suc around) ms × AreFurther around (is_else x.shape) arms
+      IsFalse over × (effect_of x.shape ≡ opens_arm) × IsWell false (suc around) ms
+      × AreFurther around (is_else x.shape) arms
 
 -- each statement may stand before all that follow it (3.5)
 abbrev pub IsOrdered : List ItemTree → Type 0
@@ -217,9 +232,10 @@ pub record IsViable (items : List ItemTree) : Type 0 where
 
 -- ---- what is open behind some statements
 
--- a program unit as far as it was read: END was read, or nothing is open; or the innermost open range with its DO statement, the
--- label that this names or none, what stands in the range so far, and what the range stands in; or the innermost open block IF with its
--- earlier arms, the statement of the arm that is read, what stands in this so far, and what the block IF stands in
+-- a program unit as far as it was read: END was read, or nothing is open; or the innermost open
+-- range with its DO statement, the label that this names or none, what stands in the range so far,
+-- and what the range stands in; or the innermost open block IF with its earlier arms, the statement
+-- of the arm that is read, what stands in this so far, and what the block IF stands in
 pub data Unfinished : Type 0 where
   ended : Members → Unfinished
   body : Members → Unfinished
@@ -253,8 +269,8 @@ abbrev pub is_label_named : Option ℕ → Option ℕ → Bool
 is_label_named label None = false
 is_label_named label (Some s) = is_label_at label s
 
--- more members in the innermost list; their last statement has this label, or none, and ends the innermost ranges whose
--- DO statements name it (11.10.1)
+-- more members in the innermost list; their last statement has this label, or none, and ends the
+-- innermost ranges whose DO statements name it (11.10.1)
 abbrev pub add : Option ℕ → Members → Unfinished → Unfinished
 add label more (ended ms) = ended (joined ms more)
 add label more (body ms) = body (joined ms more)
@@ -267,14 +283,15 @@ add label more (branch arms head ms around) = branch arms head (joined ms more) 
 abbrev pub with_arm : Arms → ItemTree → Members → Arms
 with_arm arms head ms = joined_arms arms (arm head ms no_arms)
 
--- behind ELSE IF or ELSE, and behind END IF, whose label belongs to the list that holds the block IF; no rule allows them
--- elsewhere
+-- behind ELSE IF or ELSE, and behind END IF, whose label belongs to the list that holds the block
+-- IF; no rule allows them elsewhere
 abbrev pub next_arm : ItemTree → Unfinished → Unfinished
 next_arm x (branch arms head ms around) = branch (with_arm arms head ms) x none around
 next_arm x z = z
 
 abbrev pub close_block : ItemTree → Unfinished → Unfinished
-close_block x (branch arms head ms around) = add x.label (block (with_arm arms head ms) x none) around
+close_block x (branch arms head ms around) =
+    add x.label (block (with_arm arms head ms) x none) around
 close_block x z = z
 
 -- behind END DO, which closes the innermost range alone; no rule allows it elsewhere
@@ -313,7 +330,8 @@ is_ended (body ms) = false
 is_ended (range head s ms around) = false
 is_ended (branch arms head ms around) = false
 
--- N3: ELSE IF, ELSE or END IF where the innermost open thing is no block IF, ELSE IF or ELSE behind ELSE, or END in a block IF
+-- N3: ELSE IF, ELSE or END IF where the innermost open thing is no block IF, ELSE IF or ELSE behind
+-- ELSE, or END in a block IF
 abbrev pub is_stray : Effect → List Level → Bool
 is_stray opens_arm (in_block over ∷ around) = over
 is_stray opens_arm opened = true
@@ -330,18 +348,20 @@ is_named_at label (in_block over) = false
 abbrev pub is_named : Option ℕ → List Level → Bool
 is_named label opened = list_any (is_named_at label) opened
 
--- an open DO statement names the label, and within its range another that names another or none, or a block IF, is open: they would
--- cross
+-- an open DO statement names the label, and within its range another that names another or none, or
+-- a block IF, is open: they would cross
 abbrev pub is_hidden : Option ℕ → List Level → Bool
 is_hidden label [] = false
-is_hidden label (l ∷ opened) = if is_named_at label l then is_hidden label opened else is_named label opened
+is_hidden label (l ∷ opened) =
+    if is_named_at label l then is_hidden label opened else is_named label opened
 
 -- END in a range
 abbrev pub is_end_in_range : Effect → List Level → Bool
 is_end_in_range closes_unit (in_range s ∷ around) = true
 is_end_in_range e opened = false
 
--- the innermost open thing is a range that END DO with the label ends: its DO statement names no label, or this one
+-- the innermost open thing is a range that END DO with the label ends: its DO statement names no
+-- label, or this one
 abbrev pub may_close : Option ℕ → Level → Bool
 may_close label (in_range None) = true
 may_close label (in_range (Some s)) = is_label_at label s
@@ -353,11 +373,15 @@ is_stray_end_do label closes_range [] = true
 is_stray_end_do label closes_range (l ∷ around) = not (may_close label l) || is_named label around
 is_stray_end_do label e opened = false
 
--- N4: the statement has the label of a range that it can't end, since something else is open within or since it may not end one;
--- or it is a DO statement whose range and an open one couldn't both end; or it is END in a range; or END DO that can't end one
+-- N4: the statement has the label of a range that it can't end, since something else is open within
+-- or since it may not end one; or it is a DO statement whose range and an open one couldn't both
+-- end; or it is END in a range; or END DO that can't end one
 abbrev pub is_crossing : List Level → Option ℕ → Effect → Bool
 is_crossing opened label e =
-    is_hidden label opened || ((is_named label opened && not (may_end e)) || (is_hidden (named e) opened || (is_end_in_range e opened || is_stray_end_do label e opened)))
+    is_hidden label opened
+    || ((is_named label opened && not (may_end e))
+    || (is_hidden (named e) opened
+    || (is_end_in_range e opened || is_stray_end_do label e opened)))
 
 -- N5: 32 are open already
 abbrev pub is_too_deep : List Level → Effect → Bool
@@ -389,7 +413,8 @@ last_line items = fold (λ line (x : ItemTree). x.line) 1 items
 
 -- N2: END is missing
 unfoldable pub missing_end : List ItemTree → Option Broken
-missing_end items = if lacks_end items then Some (record { line = last_line items; rule = N2 }) else None
+missing_end items =
+    if lacks_end items then Some (record { line = last_line items; rule = N2 }) else None
 
 -- the rule at the statement, if one is broken there, else the pair behind it
 abbrev pub told_first : ItemTree → Option Rule → Option Broken → Option Broken
@@ -399,11 +424,14 @@ told_first x None later = later
 -- the first statement that breaks a rule behind those before it
 abbrev pub first_broken : List ItemTree → Unfinished → List ItemTree → Option Broken
 first_broken before z [] = None
-first_broken before z (x ∷ xs) = told_first x (breaks before z x) (first_broken (before ++ x ∷ []) (past z x) xs)
+first_broken before z (x ∷ xs) =
+    told_first x (breaks before z x) (first_broken (before ++ x ∷ []) (past z x) xs)
 
 -- the program unit of the statements, or the least broken pair
 unfoldable pub nest : List ItemTree → Result Nested Broken
-nest items = unless (merge (missing_end items) (first_broken [] start items)) (record { body = innermost (behind start items) })
+nest items =
+    unless (merge (missing_end items) (first_broken [] start items))
+    (record { body = innermost (behind start items) })
 
 -- ---- refusals
 

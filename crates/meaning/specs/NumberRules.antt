@@ -1,16 +1,24 @@
--- The rules on constants and on the sizes of arrays: K6 and K7 (ANSI X3.9-1978, 4.3, 5.1.1 and 8.6).
-use Rattle.std.specs.Prelude.{ℕ, ◌+◌, int_lt, Bool, true, false, not, ◌&&◌, ◌||◌, nat_lt, length, List, [], ◌∷◌, ◌++◌, map, flat_map, sum_by, is_some, is_none, if◌then◌else◌, Option, Some, None}
+-- The rules on constants and on the sizes of arrays: K6 and K7 (ANSI X3.9-1978, 4.3, 5.1.1 and
+-- 8.6).
+use Rattle.std.specs.Prelude.{ℕ, ◌+◌, int_lt, Bool, true, false, not, ◌&&◌, ◌||◌, nat_lt, length}
+use Rattle.std.specs.Prelude.{List, [], ◌∷◌, ◌++◌, map, flat_map, sum_by, is_some, is_none}
+use Rattle.std.specs.Prelude.{if◌then◌else◌, Option, Some, None}
 use Rattle.std.specs.List.{list_any, filter}
 use Rattle.meaning.specs.declared.ending.Value.{Value}
 use Rattle.meaning.specs.declared.ending.Value.TheVariants as values
 use Rattle.meaning.specs.Characters.{number_of}
-use Rattle.meaning.specs.Syntax.{ExprTree, number, truth, name, signed, negated, binary, paren, element, call, ExprsTree, no_exprs, exprs, DeclaratorTree, ConstantTree, DataConstantTree, data_number, data_truth, data_name, RepeatTree, repeat_number, repeat_name, DataValueTree, ShapeTree, initializing, ItemTree}
+use Rattle.meaning.specs.Syntax.{ExprTree, number, truth, name, signed, negated, binary, paren}
+use Rattle.meaning.specs.Syntax.{element, call, ExprsTree, no_exprs, exprs, DeclaratorTree}
+use Rattle.meaning.specs.Syntax.{ConstantTree, DataConstantTree, data_number, data_truth, data_name}
+use Rattle.meaning.specs.Syntax.{RepeatTree, repeat_number, repeat_name, DataValueTree, ShapeTree}
+use Rattle.meaning.specs.Syntax.{initializing, ItemTree}
 use Rattle.meaning.specs.Arrays.{Dimension, size}
 use Rattle.meaning.specs.Types.{Types}
 use Rattle.meaning.specs.Values.{Known}
-use Rattle.meaning.specs.Scopes.{constant_value, constants_in, declarators_in, dimension_of, known_of, with_constant}
+use Rattle.meaning.specs.Scopes.{constant_value, constants_in, declarators_in, dimension_of}
+use Rattle.meaning.specs.Scopes.{known_of, with_constant}
 use Rattle.meaning.specs.Typing.{option_list, in_bounds, expected_in}
-use Rattle.meaning.specs.Uses.{Use, Roles, uses_in}
+use Rattle.meaning.specs.Uses.{Use, Symbols, uses_in}
 
 -- ---- K6
 
@@ -50,16 +58,18 @@ data_numbers s = []
 abbrev pub is_too_great : List ℕ → Bool
 is_too_great digits = nat_lt 2147483647 (number_of digits)
 
-abbrev pub has_too_great : Roles → ShapeTree → Bool
+abbrev pub has_too_great : Symbols → ShapeTree → Bool
 has_too_great r s =
-    list_any is_too_great (flat_map (λ x. numbers_in x.expr) (expected_in r.names s) ++ data_numbers s)
+    list_any is_too_great
+    (flat_map (λ x. numbers_in x.expr) (expected_in r.names s) ++ data_numbers s)
 
 -- an expression that isn't one of constants that are known by then, or that faults
 abbrev pub is_unknown : Known → Use → Bool
 is_unknown known u = is_some u.arguments || is_none (known u.name)
 
 abbrev pub is_no_constant : Types → Known → ExprTree → Bool
-is_no_constant types known e = list_any (is_unknown known) (uses_in e) || is_none (constant_value types known e)
+is_no_constant types known e =
+    list_any (is_unknown known) (uses_in e) || is_none (constant_value types known e)
 
 -- the constants of a PARAMETER statement, each with those before it
 abbrev pub is_bad_constant : Types → Known → List ConstantTree → Bool
@@ -69,12 +79,13 @@ is_bad_constant types known (c ∷ cs) =
 
 abbrev pub has_bad_bound : Types → Known → List DeclaratorTree → Bool
 has_bad_bound types known ds =
-    list_any (is_no_constant types known) (flat_map (λ d. flat_map (λ b. map (λ x. x.expr) (in_bounds b)) d.bounds) ds)
+    list_any (is_no_constant types known)
+    (flat_map (λ d. flat_map (λ b. map (λ x. x.expr) (in_bounds b)) d.bounds) ds)
 
-abbrev pub known_behind_all : Roles → List ItemTree → Known
+abbrev pub known_behind_all : Symbols → List ItemTree → Known
 known_behind_all r before = known_of r.names.types before
 
-abbrev pub has_bad_number : Roles → List ItemTree → ItemTree → Bool
+abbrev pub has_bad_number : Symbols → List ItemTree → ItemTree → Bool
 has_bad_number r before x =
     has_too_great r x.shape
     || (is_bad_constant r.names.types (known_behind_all r before) (constants_in x.shape)
@@ -89,23 +100,25 @@ is_integer None = false
 
 -- a bound that is no INTEGER constant breaks another rule at its line
 abbrev pub is_no_integer : Types → Known → ExprTree → Bool
-is_no_integer types known e = is_no_constant types known e || not (is_integer (constant_value types known e))
+is_no_integer types known e =
+    is_no_constant types known e || not (is_integer (constant_value types known e))
 
 abbrev pub lacks_bound : Types → Known → DeclaratorTree → Bool
 lacks_bound types known d =
     list_any (is_no_integer types known) (flat_map (λ b. map (λ x. x.expr) (in_bounds b)) d.bounds)
 
 -- the arrays that statements declare with such a bound
-abbrev pub sizeless_at : Roles → List ItemTree → ItemTree → List (List ℕ)
+abbrev pub sizeless_at : Symbols → List ItemTree → ItemTree → List (List ℕ)
 sizeless_at r before x =
-    map (λ d. d.name) (filter (lacks_bound r.names.types (known_behind_all r before)) (declarators_in x.shape))
+    map (λ d. d.name)
+    (filter (lacks_bound r.names.types (known_behind_all r before)) (declarators_in x.shape))
 
-unfoldable pub sizeless_in : Roles → List ItemTree → List ItemTree → List (List ℕ)
+unfoldable pub sizeless_in : Symbols → List ItemTree → List ItemTree → List (List ℕ)
 sizeless_in r before [] = []
 sizeless_in r before (x ∷ xs) = sizeless_at r before x ++ sizeless_in r (before ++ x ∷ []) xs
 
--- ---- K7: more than seven dimensions, a lower bound above the upper one, or more than 16,777,216 elements (own); an array
--- without a bound's value has no bounds to compare, and counts no elements
+-- ---- K7: more than seven dimensions, a lower bound above the upper one, or more than 16,777,216
+-- elements (own); an array without a bound's value has no bounds to compare, and counts no elements
 
 abbrev pub is_reversed : Dimension → Bool
 is_reversed d = int_lt d.upper d.lower
@@ -115,7 +128,8 @@ dimensions_by types known d = map (dimension_of types known) d.bounds
 
 abbrev pub elements_of : Types → Known → DeclaratorTree → ℕ
 elements_of types known d =
-    if nat_lt 0 (length d.bounds) && not (lacks_bound types known d) then size (dimensions_by types known d) else 0
+    if nat_lt 0 (length d.bounds) && not (lacks_bound types known d)
+    then size (dimensions_by types known d) else 0
 
 abbrev pub is_too_large : Types → Known → ℕ → DeclaratorTree → Bool
 is_too_large types known before d =
@@ -126,14 +140,17 @@ is_too_large types known before d =
 abbrev pub have_too_large : Types → Known → ℕ → List DeclaratorTree → Bool
 have_too_large types known before [] = false
 have_too_large types known before (d ∷ ds) =
-    is_too_large types known before d || have_too_large types known (before + elements_of types known d) ds
+    is_too_large types known before d
+    || have_too_large types known (before + elements_of types known d) ds
 
 -- the elements of the arrays that statements declare
-unfoldable pub elements_in : Roles → List ItemTree → List ItemTree → ℕ
+unfoldable pub elements_in : Symbols → List ItemTree → List ItemTree → ℕ
 elements_in r before [] = 0
 elements_in r before (x ∷ xs) =
-    sum_by (elements_of r.names.types (known_behind_all r before)) (declarators_in x.shape) + elements_in r (before ++ x ∷ []) xs
+    sum_by (elements_of r.names.types (known_behind_all r before)) (declarators_in x.shape) +
+    elements_in r (before ++ x ∷ []) xs
 
-abbrev pub has_large_array : Roles → List ItemTree → ItemTree → Bool
+abbrev pub has_large_array : Symbols → List ItemTree → ItemTree → Bool
 has_large_array r before x =
-    have_too_large r.names.types (known_behind_all r before) (elements_in r [] before) (declarators_in x.shape)
+    have_too_large r.names.types (known_behind_all r before) (elements_in r [] before)
+    (declarators_in x.shape)

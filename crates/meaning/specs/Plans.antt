@@ -1,5 +1,5 @@
--- How a program is run (own): by how many workers, in blocks of how many trips, how many blocks at a time, and with how many
--- turns at most.
+-- How a program is run (own): by how many workers, in blocks of how many trips, how many blocks at
+-- a time, and with how many turns at most.
 use Rattle.std.specs.Prelude.{◌≤◌, ℕ, Bool, ◌&&◌, nat_le, if◌then◌else◌, Option, Some, None}
 
 pub record PlanNumbers : Type 0 where
@@ -28,7 +28,9 @@ in_range most n = nat_le 1 n && nat_le n most
 
 abbrev pub are_in_range : PlanNumbers → Bool
 are_in_range p =
-    in_range most_workers p.workers && (in_range most_trips p.block && (in_range most_blocks p.window && in_range most_turns p.turns))
+    in_range most_workers p.workers
+    && (in_range most_trips p.block
+    && (in_range most_blocks p.window && in_range most_turns p.turns))
 
 abbrev pub plan_if : PlanNumbers → Option PlanNumbers
 plan_if p = if are_in_range p then Some p else None

@@ -40,17 +40,18 @@ pub record IsWhole (a : Answer) (old new : Told) (ending : Ending) : Type 0 wher
   pub bytes : Took old new (concat a.pieces)
   pub same_ending : ending ≡ a.ending
 
--- the ending says that memory was refused, and the bytes are some first pieces of the answer's, each whole
-pub record IsCutShort (a : Answer) (old new : Told) (ending : Ending) : Type 0 where
+-- the ending says that memory was refused, and the bytes are some first pieces of the answer's,
+-- each whole
+pub record IsPrefixByMemory (a : Answer) (old new : Told) (ending : Ending) : Type 0 where
   pub bytes : IsFront a.pieces old new
   pub says_so : ending ≡ endings.Memory
 
 -- the ending says that a write was refused, and the bytes are a beginning of the answer's
-pub record IsBrokenOff (a : Answer) (old new : Told) (ending : Ending) : Type 0 where
+pub record IsPrefixByRefusal (a : Answer) (old new : Told) (ending : Ending) : Type 0 where
   pub bytes : IsBroken (concat a.pieces) old new
   pub says_so : ending ≡ endings.WriteRefused
 
 pub data Keeps (a : Answer) (old new : Told) (ending : Ending) : Type 0 where
   whole : IsWhole a old new ending → Keeps a old new ending
-  cut_short : IsCutShort a old new ending → Keeps a old new ending
-  broken_off : IsBrokenOff a old new ending → Keeps a old new ending
+  cut_short : IsPrefixByMemory a old new ending → Keeps a old new ending
+  broken_off : IsPrefixByRefusal a old new ending → Keeps a old new ending

@@ -1,7 +1,9 @@
 -- The number of a rule in its phase. Of two rules broken at one line the lesser is told.
 use Rattle.std.specs.Prelude.{ℕ}
 use Rattle.meaning.specs.declared.refusal.Rule.{Rule}
-use Rattle.meaning.specs.declared.refusal.Rule.TheVariants.{C1, C2, C3, C4, C5, C6, C7, G1, G2, G3, N1, N2, N3, N4, N5, K1, K2, K3, K4, K5, K6, K7, K8, K9, K10, K11, K12, K13}
+use Rattle.meaning.specs.declared.refusal.Rule.TheVariants.{C1, C2, C3, C4, C5, C6, C7, G1, G2, G3}
+use Rattle.meaning.specs.declared.refusal.Rule.TheVariants.{N1, N2, N3, N4, N5, K1, K2, K3, K4, K5}
+use Rattle.meaning.specs.declared.refusal.Rule.TheVariants.{K6, K7, K8, K9, K10, K11, K12, K13}
 
 abbrev pub rank_of : Rule → ℕ
 rank_of C1 = 1

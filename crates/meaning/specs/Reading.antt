@@ -1,5 +1,8 @@
--- Reading a bare text as a form. A reader answers what it read and what is left of the text, or nothing.
-use Rattle.std.specs.Prelude.{ℕ, zero, suc, ◌+◌, ◌-◌, Bool, true, false, ◌&&◌, not, List, [], ◌∷◌, ◌++◌, length, nat_le, nat_lt, ◌==◌, if◌then◌else◌, Option, Some, None, Result, Ok, Err, codes, nat_eq, max}
+-- Reading a bare text as a form. A reader answers what it read and what is left of the text, or
+-- nothing.
+use Rattle.std.specs.Prelude.{ℕ, zero, suc, ◌+◌, ◌-◌, Bool, true, false, ◌&&◌, not, List, [], ◌∷◌}
+use Rattle.std.specs.Prelude.{◌++◌, length, nat_le, nat_lt, ◌==◌, if◌then◌else◌, Option, Some, None}
+use Rattle.std.specs.Prelude.{Result, Ok, Err, codes, nat_eq, max}
 use Rattle.std.specs.List.{starts_with, list_any, list_all}
 use Rattle.meaning.specs.declared.syntax.Sign.{Sign}
 use Rattle.meaning.specs.declared.syntax.Sign.TheVariants as signs
@@ -11,9 +14,24 @@ use Rattle.meaning.specs.declared.syntax.Kind.{Kind}
 use Rattle.meaning.specs.declared.syntax.Kind.TheVariants as kinds
 use Rattle.meaning.specs.declared.refusal.Rule.{Rule}
 use Rattle.meaning.specs.declared.refusal.Rule.TheVariants.{G1, G2, G3}
-use Rattle.meaning.specs.Characters.{is_digit, is_letter, is_alphanumeric, is_name, is_number, is_label, apostrophe}
-use Rattle.meaning.specs.Syntax.{ExprTree, number, truth, name, signed, negated, binary, paren, element, call, ExprsTree, no_exprs, exprs, BoundsTree, DeclaratorTree, UnitTree, star, unit_number, LimitsTree, ListItemTree, value_item, loop_item, ListItemsTree, no_items, more_items, FormatTree, format_label, format_constant, ControlTree, LettersTree, ImplicitTree, ConstantTree, DataConstantTree, data_number, data_truth, data_name, RepeatTree, repeat_number, repeat_name, DataValueTree, DataSetTree, StopTree, stop_silent, stop_digits, stop_text, ShapeTree, assignment, writing, printing, format, doing, continuing, typing, ending, naming, implying, logical_typing, dimensioning, parameter, initializing, definition, going, computed_going, arithmetic_if, logical_if, block_if, else_if, otherwise, end_if, stopping, doing_while, end_do, implicit_none}
-use Rattle.meaning.specs.Spelling.{operator_text, level, left_least, right_least, level_of, balanced, is_stop_number, are_data_items, begins_without_comma}
+use Rattle.meaning.specs.Characters.{is_digit, is_letter, is_alphanumeric, is_name, is_number}
+use Rattle.meaning.specs.Characters.{is_label, apostrophe}
+use Rattle.meaning.specs.Syntax.{ExprTree, number, truth, name, signed, negated, binary, paren}
+use Rattle.meaning.specs.Syntax.{element, call, ExprsTree, no_exprs, exprs, BoundsTree}
+use Rattle.meaning.specs.Syntax.{DeclaratorTree, UnitTree, star, unit_number, LimitsTree}
+use Rattle.meaning.specs.Syntax.{ListItemTree, value_item, loop_item, ListItemsTree, no_items}
+use Rattle.meaning.specs.Syntax.{more_items, FormatTree, format_label, format_constant, ControlTree}
+use Rattle.meaning.specs.Syntax.{LettersTree, ImplicitTree, ConstantTree, DataConstantTree}
+use Rattle.meaning.specs.Syntax.{data_number, data_truth, data_name, RepeatTree, repeat_number}
+use Rattle.meaning.specs.Syntax.{repeat_name, DataValueTree, DataSetTree, StopTree, stop_silent}
+use Rattle.meaning.specs.Syntax.{stop_digits, stop_text, ShapeTree, assignment, writing, printing}
+use Rattle.meaning.specs.Syntax.{format, doing, continuing, typing, ending, naming, implying}
+use Rattle.meaning.specs.Syntax.{logical_typing, dimensioning, parameter, initializing, definition}
+use Rattle.meaning.specs.Syntax.{going, computed_going, arithmetic_if, logical_if, block_if}
+use Rattle.meaning.specs.Syntax.{else_if, otherwise, end_if, stopping, doing_while, end_do}
+use Rattle.meaning.specs.Syntax.{implicit_none}
+use Rattle.meaning.specs.Spelling.{operator_text, level, left_least, right_least, level_of}
+use Rattle.meaning.specs.Spelling.{balanced, is_stop_number, are_data_items, begins_without_comma}
 use Rattle.meaning.specs.declared.syntax.ControlOrder.TheVariants as orders
 use Rattle.meaning.specs.Kinds.{kind_of, begins, begins_with_digit, has_equals}
 
@@ -62,17 +80,31 @@ at_end (x, c ∷ t) = None
 
 unfoldable pub sign_at : Reader Sign
 sign_at [] = None
-sign_at (c ∷ t) = if c == 43 then Some (signs.Plus, t) else (if c == 45 then Some (signs.Minus, t) else None)
+sign_at (c ∷ t) =
+    if c == 43 then Some (signs.Plus, t) else (if c == 45 then Some (signs.Minus, t) else None)
 
 -- the operators; ** stands before *, with which it begins
 abbrev pub all_operators : List Operator
 all_operators =
-    operators.Power ∷ (operators.Multiply ∷ (operators.Divide ∷ (operators.Add ∷ (operators.Subtract ∷ (operators.Less ∷ (operators.LessOrEqual ∷ (operators.Equal ∷ (operators.NotEqual ∷ (operators.GreaterOrEqual ∷ (operators.Greater ∷ (operators.And ∷ (operators.Or ∷ (operators.Equivalent ∷ (operators.NotEquivalent ∷ []))))))))))))))
+    operators.Power ∷
+    (operators.Multiply ∷
+    (operators.Divide ∷
+    (operators.Add ∷
+    (operators.Subtract ∷
+    (operators.Less ∷
+    (operators.LessOrEqual ∷
+    (operators.Equal ∷
+    (operators.NotEqual ∷
+    (operators.GreaterOrEqual ∷
+    (operators.Greater ∷
+    (operators.And ∷
+    (operators.Or ∷ (operators.Equivalent ∷ (operators.NotEquivalent ∷ []))))))))))))))
 
 unfoldable pub first_operator_at : List Operator → Reader Operator
 unfolding either
 first_operator_at [] t = None
-first_operator_at (o ∷ os) t = either (after (operator_text o) t) (first_operator_at os t) (λ rest. Some (o, rest))
+first_operator_at (o ∷ os) t =
+    either (after (operator_text o) t) (first_operator_at os t) (λ rest. Some (o, rest))
 
 unfoldable pub operator_at : Reader Operator
 operator_at t = first_operator_at all_operators t
@@ -95,13 +127,18 @@ unfoldable pub exprs_at : (ℕ → Reader ExprTree) → ℕ → Reader ExprsTree
 unfolding ◌>>=◌ either
 exprs_at rec zero t = None
 exprs_at rec (suc n) t =
-    rec 0 t >>= λ e. either (after (44 ∷ []) e.1) (Some (exprs e.0 no_exprs, e.1)) (λ rest. exprs_at rec n rest >>= λ es. Some (exprs e.0 es.0, es.1))
+    rec 0 t >>=
+    λ e. either (after (44 ∷ []) e.1)
+    (Some (exprs e.0 no_exprs, e.1)) (λ rest. exprs_at rec n rest >>=
+    λ es. Some (exprs e.0 es.0, es.1))
 
 -- subscripts in parentheses, or none
 unfoldable pub subscripts_at : (ℕ → Reader ExprTree) → Reader ExprsTree
 unfolding ◌>>=◌ either
 subscripts_at rec t =
-    either (after (40 ∷ []) t) (Some (no_exprs, t)) (λ rest. exprs_at rec (suc (length rest)) rest >>= λ es. after (41 ∷ []) es.1 >>= λ behind. Some (es.0, behind))
+    either (after (40 ∷ []) t)
+    (Some (no_exprs, t)) (λ rest. exprs_at rec (suc (length rest)) rest >>=
+    λ es. after (41 ∷ []) es.1 >>= λ behind. Some (es.0, behind))
 
 -- a name, or with subscripts an element
 abbrev pub named_by : List ℕ → ExprsTree → ExprTree
@@ -112,9 +149,13 @@ named_by letters (exprs e es) = element letters (exprs e es)
 unfoldable pub name_or_element_at : (ℕ → Reader ExprTree) → Reader ExprTree
 unfolding ◌>>=◌ either
 name_or_element_at rec t =
-    name_at t >>= λ n. either (after (codes "()") n.1) (subscripts_at rec n.1 >>= λ es. Some (named_by n.0 es.0, es.1)) (λ rest. Some (call n.0, rest))
+    name_at t >>=
+    λ n. either (after (codes "()") n.1)
+    (subscripts_at rec n.1 >>=
+    λ es. Some (named_by n.0 es.0, es.1)) (λ rest. Some (call n.0, rest))
 
--- digits, an expression in parentheses, a logical constant, a name, an element or a function reference
+-- digits, an expression in parentheses, a logical constant, a name, an element or a function
+-- reference
 unfoldable pub primary_at : (ℕ → Reader ExprTree) → Reader ExprTree
 unfolding ◌>>=◌
 primary_at rec [] = None
@@ -128,14 +169,18 @@ primary_at rec (c ∷ t) =
 unfoldable pub negation_at : (ℕ → Reader ExprTree) → ℕ → Reader ExprTree
 unfolding ◌>>=◌ either when
 negation_at rec least t =
-    either (after (codes ".NOT.") t) (primary_at rec t) (λ rest. when (nat_le least 3) (rec 4 rest >>= λ e. Some (negated e.0, e.1)))
+    either (after (codes ".NOT.") t)
+    (primary_at rec t) (λ rest. when (nat_le least 3)
+    (rec 4 rest >>= λ e. Some (negated e.0, e.1)))
 
--- what an expression of a level begins with: a sign and one term, where the level lets a sign stand, .NOT. and its operand,
--- or a primary
+-- what an expression of a level begins with: a sign and one term, where the level lets a sign
+-- stand, .NOT. and its operand, or a primary
 unfoldable pub front_at : (ℕ → Reader ExprTree) → ℕ → Reader ExprTree
 unfolding ◌>>=◌ either when
 front_at rec least t =
-    either (sign_at t) (negation_at rec least t) (λ s. when (nat_le least 5) (rec 6 s.1 >>= λ e. Some (signed s.0 e.0, e.1)))
+    either (sign_at t)
+    (negation_at rec least t) (λ s. when (nat_le least 5)
+    (rec 6 s.1 >>= λ e. Some (signed s.0 e.0, e.1)))
 
 -- an operator of this level or a stronger one that may have this operand on its left
 abbrev pub may_follow : ℕ → ExprTree → Operator → Bool
@@ -148,14 +193,16 @@ operations_at rec zero least left t = Some (left, t)
 operations_at rec (suc n) least left t =
     either (operator_at t) (Some (left, t)) (λ o.
     if may_follow least left o.0
-    then (rec (right_least (level o.0)) o.1 >>= λ right. operations_at rec n least (binary o.0 left right.0) right.1)
+    then (rec (right_least (level o.0)) o.1 >>= λ right. operations_at rec n least
+    (binary o.0 left right.0) right.1)
     else Some (left, t))
 
 unfoldable pub expression_at : ℕ → ℕ → Reader ExprTree
 unfolding ◌>>=◌
 expression_at zero least t = None
 expression_at (suc n) least t =
-    front_at (expression_at n) least t >>= λ e. operations_at (expression_at n) (length e.1) least e.0 e.1
+    front_at (expression_at n) least t >>=
+    λ e. operations_at (expression_at n) (length e.1) least e.0 e.1
 
 -- an expression of the weakest level, with depth enough for any
 unfoldable pub whole_expression_at : Reader ExprTree
@@ -169,7 +216,8 @@ label_at t = if is_label (run is_digit t).0 then Some (run is_digit t) else None
 unfoldable pub unit_at : Reader UnitTree
 unfolding ◌>>=◌ either
 unit_at t =
-    either (after (42 ∷ []) t) (whole_expression_at t >>= λ e. Some (unit_number e.0, e.1)) (λ rest. Some (star, rest))
+    either (after (42 ∷ []) t)
+    (whole_expression_at t >>= λ e. Some (unit_number e.0, e.1)) (λ rest. Some (star, rest))
 
 -- limits: two expressions or three, with commas between
 unfoldable pub limits_at : Reader LimitsTree
@@ -178,16 +226,21 @@ limits_at t = do
   first ← whole_expression_at t
   behind ← after (44 ∷ []) first.1
   last ← whole_expression_at behind
-  either (after (44 ∷ []) last.1) (Some (record { first = first.0; last = last.0; step = None }, last.1)) (λ rest. whole_expression_at rest >>= λ e. Some (record { first = first.0; last = last.0; step = Some e.0 }, e.1))
+  either (after (44 ∷ []) last.1)
+      (Some (record { first = first.0; last = last.0; step = None }, last.1)) (λ rest.
+      whole_expression_at rest >>=
+      λ e. Some (record { first = first.0; last = last.0; step = Some e.0 }, e.1))
 
--- the text of a character constant behind its first apostrophe, up to the last one, behind what was read of it; so many
--- characters at most
+-- the text of a character constant behind its first apostrophe, up to the last one, behind what was
+-- read of it; so many characters at most
 unfoldable pub quoted_at : ℕ → Text → Reader Text
 unfolding ◌>>=◌ either
 quoted_at zero read t = None
 quoted_at (suc n) read [] = None
 quoted_at (suc n) read (c ∷ t) =
-    if c == apostrophe then either (after (apostrophe ∷ []) t) (Some (read, t)) (λ rest. quoted_at n (read ++ (apostrophe ∷ (apostrophe ∷ []))) rest)
+    if c == apostrophe
+    then either (after (apostrophe ∷ []) t)
+    (Some (read, t)) (λ rest. quoted_at n (read ++ (apostrophe ∷ (apostrophe ∷ []))) rest)
     else quoted_at n (read ++ (c ∷ [])) t
 
 -- ---- lists of WRITE, PRINT and DATA statements
@@ -225,7 +278,9 @@ loop_item_at rec t = do
 unfoldable pub item_at : ℕ → Reader ListItemsTree → Reader ListItemTree
 unfolding either
 item_at least rec t =
-    either (after (40 ∷ []) t) (value_item_at least t) (λ rest. if has_equals rest then loop_item_at rec rest else value_item_at least t)
+    either (after (40 ∷ []) t)
+    (value_item_at least t) (λ rest. if has_equals rest then loop_item_at rec rest
+    else value_item_at least t)
 
 -- items with commas between, one at least and so many at most
 unfoldable pub items_at : ℕ → ℕ → Reader ListItemsTree
@@ -234,7 +289,8 @@ items_at least zero t = None
 items_at least (suc n) t =
     item_at least (items_at least n) t >>= λ x.
     if ends_list x.1 then Some (more_items x.0 no_items, x.1)
-    else (after (44 ∷ []) x.1 >>= λ rest. items_at least n rest >>= λ xs. Some (more_items x.0 xs.0, xs.1))
+    else (after (44 ∷ []) x.1 >>= λ rest. items_at least n rest >>= λ xs. Some
+    (more_items x.0 xs.0, xs.1))
 
 -- the rest of a text: items, or nothing
 unfoldable pub list_of : Text → Option ListItemsTree
@@ -254,7 +310,10 @@ list_behind_comma (c ∷ t) = when (c == 44) (items_at 0 (suc (length t)) t >>= 
 unfoldable pub source_at : Reader FormatTree
 unfolding ◌>>=◌ either
 source_at t =
-    either (after (apostrophe ∷ []) t) (label_at t >>= λ l. Some (format_label l.0, l.1)) (λ rest. quoted_at (suc (length rest)) [] rest >>= λ x. Some (format_constant x.0, x.1))
+    either (after (apostrophe ∷ []) t)
+    (label_at t >>=
+    λ l. Some (format_label l.0, l.1)) (λ rest. quoted_at (suc (length rest)) [] rest >>=
+    λ x. Some (format_constant x.0, x.1))
 
 unfoldable pub format_first_at : Reader ControlTree
 unfolding ◌>>=◌
@@ -277,8 +336,10 @@ unfoldable pub behind_unit_at : UnitTree → Reader ControlTree
 unfolding ◌>>=◌ either
 behind_unit_at u t =
     either (after (codes ",FMT=") t)
-    (after (44 ∷ []) t >>= λ rest. source_at rest >>= λ f. Some (record { order = orders.Plain; unit = u; source = f.0 }, f.1))
-    (λ rest. source_at rest >>= λ f. Some (record { order = orders.FormatNamed; unit = u; source = f.0 }, f.1))
+    (after (44 ∷ []) t >>= λ rest. source_at rest >>=
+    λ f. Some (record { order = orders.Plain; unit = u; source = f.0 }, f.1))
+    (λ rest. source_at rest >>=
+    λ f. Some (record { order = orders.FormatNamed; unit = u; source = f.0 }, f.1))
 
 unfoldable pub control_at : Reader ControlTree
 unfolding ◌>>=◌ either
@@ -328,7 +389,9 @@ target_of target t = do
 unfoldable pub assignment_of : Text → Option ShapeTree
 unfolding ◌>>=◌ either
 assignment_of t =
-    name_at t >>= λ n. either (after (codes "()=") n.1) (target_of n.0 n.1) (λ rest. value_of rest >>= λ e. Some (definition n.0 e))
+    name_at t >>=
+    λ n. either (after (codes "()=") n.1)
+    (target_of n.0 n.1) (λ rest. value_of rest >>= λ e. Some (definition n.0 e))
 
 unfoldable pub format_of : Text → Option ShapeTree
 unfolding ◌>>=◌ when
@@ -356,7 +419,8 @@ RangeLabel = Option (List ℕ) × Bool
 unfoldable pub range_label_at : Reader RangeLabel
 unfolding ◌>>=◌
 range_label_at t =
-    if begins_with_digit t then label_at t >>= (λ l. Some ((Some l.0, (comma_at l.1).0), (comma_at l.1).1))
+    if begins_with_digit t
+    then label_at t >>= (λ l. Some ((Some l.0, (comma_at l.1).0), (comma_at l.1).1))
     else Some ((None, false), t)
 
 unfoldable pub doing_of : Text → Option ShapeTree
@@ -385,23 +449,31 @@ doing_while_of t = do
 unfoldable pub bounds_at : Reader BoundsTree
 unfolding ◌>>=◌ either
 bounds_at t =
-    whole_expression_at t >>= λ e. either (after (58 ∷ []) e.1) (Some (record { lower = None; upper = e.0 }, e.1)) (λ rest. whole_expression_at rest >>= λ u. Some (record { lower = Some e.0; upper = u.0 }, u.1))
+    whole_expression_at t >>=
+    λ e. either (after (58 ∷ []) e.1)
+    (Some (record { lower = None; upper = e.0 }, e.1)) (λ rest. whole_expression_at rest >>=
+    λ u. Some (record { lower = Some e.0; upper = u.0 }, u.1))
 
 -- some with commas between, one at least and so many at most
 unfoldable pub separated_at : {A : Type 0} → Reader A → ℕ → Reader (List A)
 unfolding ◌>>=◌ either
 separated_at one zero t = None
 separated_at one (suc n) t =
-    one t >>= λ x. either (after (44 ∷ []) x.1) (Some (x.0 ∷ [], x.1)) (λ rest. separated_at one n rest >>= λ xs. Some (x.0 ∷ xs.0, xs.1))
+    one t >>=
+    λ x. either (after (44 ∷ []) x.1)
+    (Some (x.0 ∷ [], x.1)) (λ rest. separated_at one n rest >>= λ xs. Some (x.0 ∷ xs.0, xs.1))
 
 unfoldable pub dimensions_at : Reader (List BoundsTree)
 unfolding ◌>>=◌ either
 dimensions_at t =
-    either (after (40 ∷ []) t) (Some ([], t)) (λ rest. separated_at bounds_at (suc (length rest)) rest >>= λ bs. after (41 ∷ []) bs.1 >>= λ behind. Some (bs.0, behind))
+    either (after (40 ∷ []) t)
+    (Some ([], t)) (λ rest. separated_at bounds_at (suc (length rest)) rest >>=
+    λ bs. after (41 ∷ []) bs.1 >>= λ behind. Some (bs.0, behind))
 
 unfoldable pub declarator_at : Reader DeclaratorTree
 unfolding ◌>>=◌
-declarator_at t = name_at t >>= λ n. dimensions_at n.1 >>= λ bs. Some (record { name = n.0; bounds = bs.0 }, bs.1)
+declarator_at t = name_at t >>= λ n. dimensions_at n.1 >>=
+    λ bs. Some (record { name = n.0; bounds = bs.0 }, bs.1)
 
 -- declarators behind a keyword
 unfoldable pub declarators_of : List ℕ → Text → Option (List DeclaratorTree)
@@ -424,7 +496,8 @@ has_bounds d = nat_lt 0 (length d.bounds)
 
 unfoldable pub dimensioning_of : Text → Option ShapeTree
 unfolding ◌>>=◌ when
-dimensioning_of t = declarators_of (codes "DIMENSION") t >>= λ ds. when (list_all has_bounds ds) (Some (dimensioning ds))
+dimensioning_of t = declarators_of (codes "DIMENSION") t >>=
+    λ ds. when (list_all has_bounds ds) (Some (dimensioning ds))
 
 -- ---- PROGRAM, IMPLICIT and PARAMETER statements
 
@@ -443,7 +516,10 @@ letter_at (c ∷ t) = when (is_letter c) (Some (c, t))
 unfoldable pub letters_at : Reader LettersTree
 unfolding ◌>>=◌ either
 letters_at t =
-    letter_at t >>= λ a. either (after (45 ∷ []) a.1) (Some (record { first_letter = a.0; last_letter = None }, a.1)) (λ rest. letter_at rest >>= λ b. Some (record { first_letter = a.0; last_letter = Some b.0 }, b.1))
+    letter_at t >>=
+    λ a. either (after (45 ∷ []) a.1)
+    (Some (record { first_letter = a.0; last_letter = None }, a.1)) (λ rest. letter_at rest >>=
+    λ b. Some (record { first_letter = a.0; last_letter = Some b.0 }, b.1))
 
 unfoldable pub type_at : Reader DataType
 unfolding either
@@ -488,7 +564,8 @@ parameter_of t = do
 unfoldable pub number_behind_sign : Option Sign → Reader DataConstantTree
 unfolding when
 number_behind_sign sign t =
-    when (is_number (run is_digit t).0) (Some (data_number sign (run is_digit t).0, (run is_digit t).1))
+    when (is_number (run is_digit t).0)
+    (Some (data_number sign (run is_digit t).0, (run is_digit t).1))
 
 -- a constant without a sign
 unfoldable pub unsigned_at : Reader DataConstantTree
@@ -509,7 +586,9 @@ begins_repeat t = begins (run is_alphanumeric t).1 (codes "*")
 
 unfoldable pub repeat_of : List ℕ → Option RepeatTree
 unfolding when
-repeat_of word = if is_number word then Some (repeat_number word) else when (is_name word) (Some (repeat_name word))
+repeat_of word =
+    if is_number word then Some (repeat_number word)
+    else when (is_name word) (Some (repeat_name word))
 
 unfoldable pub repeated_value_at : Reader DataValueTree
 unfolding ◌>>=◌
@@ -544,7 +623,8 @@ unfoldable pub data_sets_of : ℕ → Text → Option (List DataSetTree)
 unfolding ◌>>=◌
 data_sets_of zero t = None
 data_sets_of (suc n) [] = Some []
-data_sets_of (suc n) (c ∷ t) = data_set_at (c ∷ t) >>= λ s. data_sets_of n s.1 >>= λ ss. Some (s.0 ∷ ss)
+data_sets_of (suc n) (c ∷ t) = data_set_at (c ∷ t) >>= λ s. data_sets_of n s.1 >>=
+    λ ss. Some (s.0 ∷ ss)
 
 unfoldable pub initializing_of : Text → Option ShapeTree
 unfolding ◌>>=◌ when
@@ -667,7 +747,8 @@ shape_of t = shape_by (kind_of t) t
 
 -- ---- texts that have no reading
 
--- the most parentheses that are open at once outside apostrophes; one that closes nothing changes nothing
+-- the most parentheses that are open at once outside apostrophes; one that closes nothing changes
+-- nothing
 unfoldable pub most_open : ℕ → Bool → Text → ℕ
 most_open depth inside [] = depth
 most_open depth true (c ∷ cs) = most_open depth (not (c == apostrophe)) cs

@@ -1,6 +1,8 @@
--- What a format makes of a list of values (ANSI X3.9-1978, chapter 13): the format unrolled, cut where the list is used
--- up, and each record as a set of positions and bytes.
-use Rattle.std.specs.Prelude.{ℕ, zero, suc, ◌+◌, ◌-◌, ℤ, pos, negsuc, unsigned_abs, Bool, true, false, ◌&&◌, ◌||◌, List, [], ◌∷◌, ◌++◌, map, length, max, replicate, nat_lt, ◌==◌, if◌then◌else◌, Option, Some, None, Result, Ok, Err}
+-- What a format makes of a list of values (ANSI X3.9-1978, chapter 13): the format unrolled, cut
+-- where the list is used up, and each record as a set of positions and bytes.
+use Rattle.std.specs.Prelude.{ℕ, zero, suc, ◌+◌, ◌-◌, ℤ, pos, negsuc, unsigned_abs, Bool, true}
+use Rattle.std.specs.Prelude.{false, ◌&&◌, ◌||◌, List, [], ◌∷◌, ◌++◌, map, length, max, replicate}
+use Rattle.std.specs.Prelude.{nat_lt, ◌==◌, if◌then◌else◌, Option, Some, None, Result, Ok, Err}
 use Rattle.std.specs.Fmt.{decimal}
 use Rattle.std.specs.List.{range_with_len}
 use Rattle.meaning.specs.declared.ending.FaultKind.{FaultKind}
@@ -8,7 +10,8 @@ use Rattle.meaning.specs.declared.ending.FaultKind.TheVariants.{F7, F8}
 use Rattle.meaning.specs.declared.ending.Value.{Value}
 use Rattle.meaning.specs.declared.ending.Value.TheVariants as values
 use Rattle.meaning.specs.Characters.{blank}
-use Rattle.meaning.specs.Formats.{Descriptor, integer_field, logical_field, characters, skip, slash, colon, Part, single, group, Parts, no_parts, parts}
+use Rattle.meaning.specs.Formats.{Descriptor, integer_field, logical_field, characters, skip, slash}
+use Rattle.meaning.specs.Formats.{colon, Part, single, group, Parts, no_parts, parts}
 
 -- ---- the format unrolled (13.2, 13.3)
 
@@ -63,11 +66,13 @@ from_last_group (parts p ps) =
 abbrev pub reverted : Parts → Parts
 reverted ps = unless_found ps (from_last_group ps)
 
--- enough of the format for n values. To go back is to stop where the list is used up, and to end the record otherwise;
--- where the part that control goes back to takes no value, nothing comes of going back
+-- enough of the format for n values. To go back is to stop where the list is used up, and to end
+-- the record otherwise; where the part that control goes back to takes no value, nothing comes of
+-- going back
 abbrev pub sequence : Parts → ℕ → List Descriptor
 sequence ps n =
-    pass ps ++ (if have_field (reverted ps) then times n (colon ∷ (slash ∷ pass (reverted ps))) else [])
+    pass ps ++ (if have_field (reverted ps) then times n (colon ∷ (slash ∷ pass (reverted ps)))
+    else [])
 
 -- ---- editing
 
@@ -93,8 +98,9 @@ abbrev pub justified : ℕ → List ℕ → List ℕ
 justified w text =
     if nat_lt w (length text) then replicate w 42 else replicate (w - length text) blank ++ text
 
--- what becomes of descriptors: fields and characters put their bytes, moves and ends of records pass, and it stops where
--- the list is used up, or clashes where a value meets a descriptor of another type or none
+-- what becomes of descriptors: fields and characters put their bytes, moves and ends of records
+-- pass, and it stops where the list is used up, or clashes where a value meets a descriptor of
+-- another type or none
 pub data Course : Type 0 where
   stops : Course
   clashes : Course
@@ -106,11 +112,13 @@ unfoldable pub course : List Descriptor → List Value → Course
 course [] [] = stops
 course [] (v ∷ vs) = clashes
 course (integer_field w m ∷ ds) [] = stops
-course (integer_field w m ∷ ds) (values.Int z ∷ vs) = puts (justified w (integer_text m z)) (course ds vs)
+course (integer_field w m ∷ ds) (values.Int z ∷ vs) =
+    puts (justified w (integer_text m z)) (course ds vs)
 course (integer_field w m ∷ ds) (values.Bool b ∷ vs) = clashes
 course (logical_field w ∷ ds) [] = stops
 course (logical_field w ∷ ds) (values.Int z ∷ vs) = clashes
-course (logical_field w ∷ ds) (values.Bool b ∷ vs) = puts (justified w (logical_text b)) (course ds vs)
+course (logical_field w ∷ ds) (values.Bool b ∷ vs) =
+    puts (justified w (logical_text b)) (course ds vs)
 course (characters text ∷ ds) vs = puts text (course ds vs)
 course (skip n ∷ ds) vs = moves n (course ds vs)
 course (slash ∷ ds) vs = ends (course ds vs)
@@ -165,8 +173,8 @@ written (r ∷ rs) = text_of r ++ (10 ∷ written rs)
 abbrev pub byte_limit : ℕ
 byte_limit = 1048576
 
--- the bytes of a course, or its fault. Bytes only grow along a course, so it met the limit first where the bytes up to
--- a clash pass it; the record that is open at a clash has no line feed yet
+-- the bytes of a course, or its fault. Bytes only grow along a course, so it met the limit first
+-- where the bytes up to a clash pass it; the record that is open at a clash has no line feed yet
 unfoldable pub outcome_of : Bool → List ℕ → Result (List ℕ) FaultKind
 outcome_of true bytes = if nat_lt byte_limit (length bytes - 1) then Err F8 else Err F7
 outcome_of false bytes = if nat_lt byte_limit (length bytes) then Err F8 else Ok bytes
@@ -174,7 +182,8 @@ outcome_of false bytes = if nat_lt byte_limit (length bytes) then Err F8 else Ok
 -- what a format makes of values where control goes back so many times at most
 abbrev pub edited_within : ℕ → Parts → List Value → Result (List ℕ) FaultKind
 edited_within n ps vs =
-    outcome_of (is_clash (course (sequence ps n) vs)) (written (laid 0 [] (course (sequence ps n) vs)))
+    outcome_of (is_clash (course (sequence ps n) vs))
+    (written (laid 0 [] (course (sequence ps n) vs)))
 
 -- what a format makes of values: each time that control goes back a value is used up
 unfoldable pub edited : Parts → List Value → Result (List ℕ) FaultKind

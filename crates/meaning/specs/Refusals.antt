@@ -1,6 +1,8 @@
--- Broken rules and the least pair. In each phase the refusal is the pair with the least line, and of those the one
--- with the least rule number; a phase with no broken pair passes what it read on to the next.
-use Rattle.std.specs.Prelude.{Bool, ◌&&◌, ◌||◌, List, [], ◌∷◌, nat_lt, ◌==◌, if◌then◌else◌, Result, Ok, Err, Option, Some, None}
+-- Broken rules and the least pair. In each phase the refusal is the pair with the least line, and
+-- of those the one with the least rule number; a phase with no broken pair passes what it read on
+-- to the next.
+use Rattle.std.specs.Prelude.{Bool, ◌&&◌, ◌||◌, List, [], ◌∷◌, nat_lt, ◌==◌, if◌then◌else◌, Result}
+use Rattle.std.specs.Prelude.{Ok, Err, Option, Some, None}
 use Rattle.meaning.specs.declared.refusal.Broken.{Broken}
 use Rattle.meaning.specs.Ranks.{rank_of}
 
@@ -37,7 +39,8 @@ abbrev pub ◌>>=◌ : {A B : Type 0} → Result A Broken → (A → Result B Br
 (Err b) >>= f = Err b
 
 -- one more in front, where both have a value; else the least pair
-abbrev pub with_first : {A : Type 0} → Result A Broken → Result (List A) Broken → Result (List A) Broken
+abbrev pub with_first : {A : Type 0} → Result A Broken → Result (List A) Broken →
+    Result (List A) Broken
 with_first (Ok x) (Ok xs) = Ok (x ∷ xs)
 with_first (Ok x) (Err c) = Err c
 with_first (Err b) (Ok xs) = Err b

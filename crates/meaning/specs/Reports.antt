@@ -1,4 +1,5 @@
--- What a refusal of the code says of a definition: a broken pair is the definition's, and want of memory says nothing.
+-- What a refusal of the code says of a definition: a broken pair is the definition's, and want of
+-- memory says nothing.
 use Rattle.std.specs.Prelude.{◌≡◌, Result, Ok, Err}
 use Rattle.meaning.specs.declared.refusal.Broken.{Broken}
 use Rattle.meaning.specs.declared.refusal.Refusal.{Refusal}

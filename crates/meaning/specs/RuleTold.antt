@@ -1,6 +1,7 @@
--- Which rule the first statement breaks up to which no program unit begins, said of the statements before it as they stand one
--- behind the other (ANSI X3.9-1978, 3.5 and 11.6 to 11.10).
-use Rattle.std.specs.Prelude.{◌≡◌, ℕ, suc, ◌<◌, Bool, true, false, List, [], ◌∷◌, ◌++◌, Option, Some, None, IsTrue, IsFalse, ◌⊎◌}
+-- Which rule the first statement breaks up to which no program unit begins, said of the statements
+-- before it as they stand one behind the other (ANSI X3.9-1978, 3.5 and 11.6 to 11.10).
+use Rattle.std.specs.Prelude.{◌≡◌, ℕ, suc, ◌<◌, Bool, true, false, List, [], ◌∷◌, ◌++◌, Option}
+use Rattle.std.specs.Prelude.{Some, None, IsTrue, IsFalse, ◌⊎◌}
 use Rattle.std.specs.List.{AllByRecursion}
 use Rattle.meaning.specs.declared.refusal.Broken.{Broken}
 use Rattle.meaning.specs.declared.refusal.Rule.{Rule}
@@ -10,7 +11,9 @@ use Rattle.meaning.specs.Refusals.{is_less}
 use Rattle.meaning.specs.Trees.{Members, flat}
 use Rattle.meaning.specs.Syntax.{ItemTree}
 use Rattle.meaning.specs.LabelRules.{has_label}
-use Rattle.meaning.specs.Nesting.{Effect, opens_range, closes_range, opens_block, opens_arm, closes_block, closes_unit, effect_of, is_else, is_opening, named, may_end, is_misplaced, lacks_end, IsWell, IsViable, LacksEnd}
+use Rattle.meaning.specs.Nesting.{Effect, opens_range, closes_range, opens_block, opens_arm}
+use Rattle.meaning.specs.Nesting.{closes_block, closes_unit, effect_of, is_else, is_opening, named}
+use Rattle.meaning.specs.Nesting.{may_end, is_misplaced, lacks_end, IsWell, IsViable, LacksEnd}
 
 -- ---- the innermost open thing
 
@@ -24,8 +27,9 @@ begins_arm e = false
 abbrev pub LackLabel : ℕ → List ItemTree → Type 0
 LackLabel label items = AllByRecursion (λ x. IsFalse (has_label label x)) items
 
--- what a statement opens is still open behind well nested ones: it is an arm, or a range whose label none of them has (11.10.1), or
--- one whose DO statement names none, since END DO stands in no other list
+-- what a statement opens is still open behind well nested ones: it is an arm, or a range whose
+-- label none of them has (11.10.1), or one whose DO statement names none, since END DO stands in no
+-- other list
 abbrev pub IsOpenBehind : Effect → List ItemTree → Type 0
 IsOpenBehind (opens_range (Some label)) inside = LackLabel label inside
 IsOpenBehind (opens_range None) inside = Unit {0}
@@ -57,7 +61,8 @@ pub record IsDo (head : ItemTree) : Type 0 where
   pub label : Option ℕ
   pub names : effect_of head.shape ≡ opens_range label
 
--- a DO statement whose range END DO with a label or none may end: it names no label, or this one (own)
+-- a DO statement whose range END DO with a label or none may end: it names no label, or this one
+-- (own)
 abbrev pub IsEndedBy : Option ℕ → Option ℕ → Type 0
 IsEndedBy label None = Unit {0}
 IsEndedBy label (Some s) = label ≡ Some s
@@ -98,27 +103,30 @@ AtLabel P None items = ⊥
 
 -- ---- the rules that a statement breaks behind others
 
--- N3: ELSE IF or ELSE where the innermost open thing is no arm of IF THEN or ELSE IF, END IF where it is no arm, END where it is
--- one (11.6 to 11.9)
+-- N3: ELSE IF or ELSE where the innermost open thing is no arm of IF THEN or ELSE IF, END IF where
+-- it is no arm, END where it is one (11.6 to 11.9)
 abbrev pub IsOutOfPlace : Effect → List ItemTree → Type 0
 IsOutOfPlace opens_arm items = ¬ InnermostIs IsEarlierArm items
 IsOutOfPlace closes_block items = ¬ InnermostIs IsArm items
 IsOutOfPlace closes_unit items = InnermostIs IsArm items
 IsOutOfPlace e items = ⊥
 
--- N4 (11.10, 11.10.1): the statement has the label of a range that can't end yet, or may not end the range that has its label; or
--- it is a DO statement that names the label of a range that can't end yet; or it is END in a range; or it is END DO where the
--- innermost open thing isn't a range that it may end, or with the label of two ranges (own)
+-- N4 (11.10, 11.10.1): the statement has the label of a range that can't end yet, or may not end
+-- the range that has its label; or it is a DO statement that names the label of a range that can't
+-- end yet; or it is END in a range; or it is END DO where the innermost open thing isn't a range
+-- that it may end, or with the label of two ranges (own)
 pub data Crosses (items : List ItemTree) (x : ItemTree) : Type 0 where
   ends_too_early : AtLabel HasBlockedRange x.label items → Crosses items x
-  may_not_end : AtLabel HasRange x.label items → IsFalse (may_end (effect_of x.shape)) → Crosses items x
+  may_not_end : AtLabel HasRange x.label items → IsFalse (may_end (effect_of x.shape)) →
+      Crosses items x
   names_too_late : AtLabel HasBlockedRange (named (effect_of x.shape)) items → Crosses items x
   ends_in_range : effect_of x.shape ≡ closes_unit → InnermostIs IsDo items → Crosses items x
-  ends_none : effect_of x.shape ≡ closes_range → ¬ InnermostIs (IsDoOf x.label) items → Crosses items x
+  ends_none : effect_of x.shape ≡ closes_range → ¬ InnermostIs (IsDoOf x.label) items →
+      Crosses items x
   ends_two : effect_of x.shape ≡ closes_range → AtLabel HasTwoRanges x.label items → Crosses items x
 
--- N1: it may not stand behind one of them. N2: END is among them. N5, where it breaks none of the others and no program unit
--- goes on so: it opens one thing more
+-- N1: it may not stand behind one of them. N2: END is among them. N5, where it breaks none of the
+-- others and no program unit goes on so: it opens one thing more
 abbrev pub IsBrokenBy : Rule → List ItemTree → ItemTree → Type 0
 IsBrokenBy N1 items x = IsTrue (is_misplaced items x)
 IsBrokenBy N2 items x = IsFalse (lacks_end items)

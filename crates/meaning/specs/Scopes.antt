@@ -1,10 +1,15 @@
--- What the names of a program unit stand for: its constants (ANSI X3.9-1978, 8.6), arrays (5.1), statement functions (15.4) and
--- intrinsic functions (15.3).
-use Rattle.std.specs.Prelude.{ℕ, ℤ, pos, Bool, true, false, ◌&&◌, nat_lt, length, List, [], ◌∷◌, map, flat_map, is_some, if◌then◌else◌, Option, Some, None, Ok, Err, reverse}
+-- What the names of a program unit stand for: its constants (ANSI X3.9-1978, 8.6), arrays (5.1),
+-- statement functions (15.4) and intrinsic functions (15.3).
+use Rattle.std.specs.Prelude.{ℕ, ℤ, pos, Bool, true, false, ◌&&◌, nat_lt, length, List, [], ◌∷◌}
+use Rattle.std.specs.Prelude.{map, flat_map, is_some, if◌then◌else◌, Option, Some, None, Ok, Err}
+use Rattle.std.specs.Prelude.{reverse}
 use Rattle.std.specs.List.{fold, list_any}
 use Rattle.std.specs.Str.{bytes_eq}
 use Rattle.meaning.specs.declared.ending.Value.{Value}
-use Rattle.meaning.specs.Syntax.{ExprTree, name, ExprsTree, no_exprs, exprs, BoundsTree, DeclaratorTree, ConstantTree, ShapeTree, typing, logical_typing, dimensioning, parameter, format, naming, implying, implicit_none, initializing, assignment, definition, ItemTree}
+use Rattle.meaning.specs.Syntax.{ExprTree, name, ExprsTree, no_exprs, exprs, BoundsTree}
+use Rattle.meaning.specs.Syntax.{DeclaratorTree, ConstantTree, ShapeTree, typing, logical_typing}
+use Rattle.meaning.specs.Syntax.{dimensioning, parameter, format, naming, implying, implicit_none}
+use Rattle.meaning.specs.Syntax.{initializing, assignment, definition, ItemTree}
 use Rattle.meaning.specs.Arrays.{Dimension}
 use Rattle.meaning.specs.Types.{Types, types_of}
 use Rattle.meaning.specs.Values.{Valued, Arrays, Known, Calls, Scope, value, as_integer}
@@ -20,10 +25,17 @@ abbrev pub intrinsic_call : Option Intrinsic → Option (List Value → Map → 
 intrinsic_call None = None
 intrinsic_call (Some f) = Some (λ vs m. intrinsic_value f (map as_integer vs))
 
--- a scope of constants and intrinsic functions alone; the rules leave no function in an expression of constants
+-- a scope of constants and intrinsic functions alone; the rules leave no function in an expression
+-- of constants
 abbrev pub constants_alone : Types → Known → Scope
 constants_alone types known =
-    record { types = types; arrays = λ n. None; known = known; calls = λ n. intrinsic_call (intrinsic_named n) }
+    record {
+      types = types;
+      arrays = λ n. None;
+      known = known;
+      calls = λ n. intrinsic_call
+          (intrinsic_named n);
+    }
 
 abbrev pub value_if : Valued → Option Value
 value_if (Ok v) = Some v
@@ -34,7 +46,8 @@ abbrev pub constant_value : Types → Known → ExprTree → Option Value
 constant_value types known e = value_if (value (constants_alone types known) e start)
 
 abbrev pub with_constant : Types → Known → ConstantTree → Known
-with_constant types known c = λ n. if bytes_eq n c.name then constant_value types known c.value else known n
+with_constant types known c =
+    λ n. if bytes_eq n c.name then constant_value types known c.value else known n
 
 -- what is known behind a statement
 abbrev pub constants_in : ShapeTree → List ConstantTree
@@ -74,22 +87,30 @@ lower_of types known (Some e) = integer_if (constant_value types known e)
 
 abbrev pub dimension_of : Types → Known → BoundsTree → Dimension
 dimension_of types known b =
-    record { lower = lower_of types known b.lower; upper = integer_if (constant_value types known b.upper) }
+    record {
+      lower = lower_of types known b.lower;
+      upper = integer_if
+          (constant_value types known b.upper);
+    }
 
 abbrev pub dimensions_in : Types → Known → List DeclaratorTree → Arrays
 dimensions_in types known [] n = None
 dimensions_in types known (d ∷ ds) n =
-    if gives_bounds n d then Some (map (dimension_of types known) d.bounds) else dimensions_in types known ds n
+    if gives_bounds n d then Some (map (dimension_of types known) d.bounds)
+    else dimensions_in types known ds n
 
-abbrev pub or_dimensions : Option (List Dimension) → Option (List Dimension) → Option (List Dimension)
+abbrev pub or_dimensions : Option (List Dimension) → Option (List Dimension) →
+    Option (List Dimension)
 or_dimensions None o = o
 or_dimensions (Some ds) o = Some ds
 
--- the arrays that statements declare, with what is known where they stand; the first declarator that gives bounds counts
+-- the arrays that statements declare, with what is known where they stand; the first declarator
+-- that gives bounds counts
 unfoldable pub arrays_from : Types → Known → List ItemTree → Arrays
 arrays_from types known [] n = None
 arrays_from types known (x ∷ xs) n =
-    or_dimensions (dimensions_in types known (declarators_in x.shape) n) (arrays_from types (known_behind types known x.shape) xs n)
+    or_dimensions (dimensions_in types known (declarators_in x.shape) n)
+    (arrays_from types (known_behind types known x.shape) xs n)
 
 -- ---- statement functions (15.4)
 
@@ -116,13 +137,16 @@ dummy_name e = []
 abbrev pub is_dummy : List ExprTree → List ℕ → Bool
 is_dummy dummies n = list_any (bytes_eq n) (flat_map dummy_name dummies)
 
--- a statement that assigns to a name with parentheses that is no array's may be a statement function's
+-- a statement that assigns to a name with parentheses that is no array's may be a statement
+-- function's
 abbrev pub defined_by : Arrays → ShapeTree → Option Definition
-defined_by arrays (assignment n (exprs e es) body) = definition_if (is_some (arrays n)) n (e ∷ listed es) body
+defined_by arrays (assignment n (exprs e es) body) =
+    definition_if (is_some (arrays n)) n (e ∷ listed es) body
 defined_by arrays (definition n body) = definition_if (is_some (arrays n)) n [] body
 defined_by arrays s = None
 
--- PROGRAM, IMPLICIT, IMPLICIT NONE, PARAMETER, type, DIMENSION, DATA and FORMAT statements aren't executable (chapter 7)
+-- PROGRAM, IMPLICIT, IMPLICIT NONE, PARAMETER, type, DIMENSION, DATA and FORMAT statements aren't
+-- executable (chapter 7)
 abbrev pub is_specification : ShapeTree → Bool
 is_specification (naming letters) = true
 is_specification (implying parts) = true
@@ -150,16 +174,24 @@ definitions_of arrays (x ∷ xs) =
 
 -- the value that goes with a dummy
 abbrev pub with_dummies : List ExprTree → List Value → Known → Known
-with_dummies (name letters ∷ es) (v ∷ vs) known = λ n. if bytes_eq n letters then Some v else with_dummies es vs known n
+with_dummies (name letters ∷ es) (v ∷ vs) known =
+    λ n. if bytes_eq n letters then Some v else with_dummies es vs known n
 with_dummies es vs known = known
 
--- a statement function's value is that of its expression, with its own dummies put in; it calls those before it and intrinsic
--- functions. The definitions stand last to first
+-- a statement function's value is that of its expression, with its own dummies put in; it calls
+-- those before it and intrinsic functions. The definitions stand last to first
 unfoldable pub calls_by : Types → Arrays → Known → List Definition → Calls
 calls_by types arrays known [] n = intrinsic_call (intrinsic_named n)
 calls_by types arrays known (d ∷ ds) n =
     if bytes_eq n d.name
-    then Some (λ vs m. value (record { types = types; arrays = arrays; known = with_dummies d.dummies vs known; calls = calls_by types arrays known ds }) d.body m)
+    then Some (λ vs m. value
+    (record {
+      types = types;
+      arrays = arrays;
+      known = with_dummies d.dummies vs known;
+      calls =
+          calls_by types arrays known ds;
+    }) d.body m)
     else calls_by types arrays known ds n
 
 -- ---- the whole scope
@@ -172,5 +204,6 @@ scope_of all = record {
   types = types_of all;
   arrays = arrays_of all;
   known = known_of (types_of all) all;
-  calls = calls_by (types_of all) (arrays_of all) (known_of (types_of all) all) (reverse (definitions_of (arrays_of all) all));
+  calls = calls_by (types_of all) (arrays_of all) (known_of (types_of all) all)
+      (reverse (definitions_of (arrays_of all) all));
 }

@@ -1,6 +1,9 @@
--- The bare text of a form, and which forms are well formed (ANSI X3.9-1978, chapters 4 to 16 and appendix F).
--- A text reads as a form exactly when the form is well formed and this is its spelling.
-use Rattle.std.specs.Prelude.{ℕ, Bool, true, false, ◌&&◌, not, List, [], ◌∷◌, ◌++◌, nat_le, nat_lt, length, ◌==◌, codes, if◌then◌else◌, IsTrue, ◌≡◌, ◌+◌, ◌-◌, Option, Some, None}
+-- The bare text of a form, and which forms are well formed (ANSI X3.9-1978, chapters 4 to 16 and
+-- appendix F). A text reads as a form exactly when the form is well formed and this is its
+-- spelling.
+use Rattle.std.specs.Prelude.{ℕ, Bool, true, false, ◌&&◌, not, List, [], ◌∷◌, ◌++◌, nat_le, nat_lt}
+use Rattle.std.specs.Prelude.{length, ◌==◌, codes, if◌then◌else◌, IsTrue, ◌≡◌, ◌+◌, ◌-◌, Option}
+use Rattle.std.specs.Prelude.{Some, None}
 use Rattle.std.specs.List.{AllByRecursion}
 use Rattle.meaning.specs.declared.syntax.Sign.{Sign}
 use Rattle.meaning.specs.declared.syntax.Sign.TheVariants as signs
@@ -10,7 +13,20 @@ use Rattle.meaning.specs.declared.syntax.ControlOrder.{ControlOrder}
 use Rattle.meaning.specs.declared.syntax.ControlOrder.TheVariants as orders
 use Rattle.meaning.specs.declared.syntax.DataType.{DataType}
 use Rattle.meaning.specs.declared.syntax.DataType.TheVariants as types
-use Rattle.meaning.specs.Syntax.{ExprTree, number, truth, name, signed, negated, binary, paren, element, call, ExprsTree, no_exprs, exprs, BoundsTree, DeclaratorTree, UnitTree, star, unit_number, LimitsTree, ListItemTree, value_item, loop_item, ListItemsTree, no_items, more_items, FormatTree, format_label, format_constant, ControlTree, LettersTree, ImplicitTree, ConstantTree, DataConstantTree, data_number, data_truth, data_name, RepeatTree, repeat_number, repeat_name, DataValueTree, DataSetTree, StopTree, stop_silent, stop_digits, stop_text, ShapeTree, assignment, writing, printing, format, doing, continuing, typing, ending, naming, implying, logical_typing, dimensioning, parameter, initializing, definition, going, computed_going, arithmetic_if, logical_if, block_if, else_if, otherwise, end_if, stopping, doing_while, end_do, implicit_none}
+use Rattle.meaning.specs.Syntax.{ExprTree, number, truth, name, signed, negated, binary, paren}
+use Rattle.meaning.specs.Syntax.{element, call, ExprsTree, no_exprs, exprs, BoundsTree}
+use Rattle.meaning.specs.Syntax.{DeclaratorTree, UnitTree, star, unit_number, LimitsTree}
+use Rattle.meaning.specs.Syntax.{ListItemTree, value_item, loop_item, ListItemsTree, no_items}
+use Rattle.meaning.specs.Syntax.{more_items, FormatTree, format_label, format_constant, ControlTree}
+use Rattle.meaning.specs.Syntax.{LettersTree, ImplicitTree, ConstantTree, DataConstantTree}
+use Rattle.meaning.specs.Syntax.{data_number, data_truth, data_name, RepeatTree, repeat_number}
+use Rattle.meaning.specs.Syntax.{repeat_name, DataValueTree, DataSetTree, StopTree, stop_silent}
+use Rattle.meaning.specs.Syntax.{stop_digits, stop_text, ShapeTree, assignment, writing, printing}
+use Rattle.meaning.specs.Syntax.{format, doing, continuing, typing, ending, naming, implying}
+use Rattle.meaning.specs.Syntax.{logical_typing, dimensioning, parameter, initializing, definition}
+use Rattle.meaning.specs.Syntax.{going, computed_going, arithmetic_if, logical_if, block_if}
+use Rattle.meaning.specs.Syntax.{else_if, otherwise, end_if, stopping, doing_while, end_do}
+use Rattle.meaning.specs.Syntax.{implicit_none}
 use Rattle.meaning.specs.Characters.{is_letter, is_number, is_name, is_label, apostrophe}
 
 -- ---- expressions (6.1)
@@ -63,8 +79,8 @@ abbrev mutual
   spell_behind no_exprs = []
   spell_behind (exprs e es) = 44 ∷ (spell_expr e ++ spell_behind es)
 
--- how strongly an operator binds: .EQV. and .NEQV. stand at level 0, .OR. at 1, .AND. at 2, .NOT. at 3, relations at 4, + and -
--- at 5, * and / at 6, ** at 7 (6.1.3, 6.4.2 and 6.5)
+-- how strongly an operator binds: .EQV. and .NEQV. stand at level 0, .OR. at 1, .AND. at 2, .NOT.
+-- at 3, relations at 4, + and - at 5, * and / at 6, ** at 7 (6.1.3, 6.4.2 and 6.5)
 abbrev pub level : Operator → ℕ
 level operators.Power = 7
 level operators.Multiply = 6
@@ -82,8 +98,8 @@ level operators.Or = 1
 level operators.Equivalent = 0
 level operators.NotEquivalent = 0
 
--- the least levels of an operator's operands, by its level: relations don't chain, ** groups from the right and the others
--- from the left (6.1.3, 6.3.1 and 6.5)
+-- the least levels of an operator's operands, by its level: relations don't chain, ** groups from
+-- the right and the others from the left (6.1.3, 6.3.1 and 6.5)
 abbrev pub left_least : ℕ → ℕ
 left_least k = if k == 4 then 5 else (if k == 7 then 8 else k)
 
@@ -107,8 +123,8 @@ abbrev pub is_more : ExprsTree → Bool
 is_more no_exprs = false
 is_more (exprs e es) = true
 
--- operands bind strongly enough, a sign takes one term and .NOT. a relation or what binds more strongly, and there is one
--- subscript at least
+-- operands bind strongly enough, a sign takes one term and .NOT. a relation or what binds more
+-- strongly, and there is one subscript at least
 abbrev mutual
   pub IsWellExpr : ExprTree → Type 0
   IsWellExpr (number digits) = IsTrue (is_number digits)
@@ -117,9 +133,13 @@ abbrev mutual
   IsWellExpr (signed sign e) = IsWellExpr e × IsTrue (nat_le 6 (level_of e))
   IsWellExpr (negated e) = IsWellExpr e × IsTrue (nat_le 4 (level_of e))
   IsWellExpr (binary operator a b) =
-      IsWellExpr a × (IsWellExpr b × (IsTrue (nat_le (left_least (level operator)) (level_of a)) × IsTrue (nat_le (right_least (level operator)) (level_of b))))
+      IsWellExpr a
+      × (IsWellExpr b
+      × (IsTrue (nat_le (left_least (level operator)) (level_of a))
+      × IsTrue (nat_le (right_least (level operator)) (level_of b))))
   IsWellExpr (paren e) = IsWellExpr e
-  IsWellExpr (element letters es) = IsTrue (is_name letters) × (IsTrue (is_more es) × AreWellSubscripts es)
+  IsWellExpr (element letters es) =
+      IsTrue (is_name letters) × (IsTrue (is_more es) × AreWellSubscripts es)
   IsWellExpr (call letters) = IsTrue (is_name letters)
 
   pub AreWellSubscripts : ExprsTree → Type 0
@@ -262,7 +282,8 @@ spell_label label = label
 abbrev pub IsWellLabel : List ℕ → Type 0
 IsWellLabel label = IsTrue (is_label label)
 
--- the label of a DO or DO WHILE statement, and a comma behind it or none; where there is no label there is no comma (11.10, own)
+-- the label of a DO or DO WHILE statement, and a comma behind it or none; where there is no label
+-- there is no comma (11.10, own)
 abbrev pub spell_range_label : Option (List ℕ) → Bool → List ℕ
 spell_range_label None comma = []
 spell_range_label (Some label) comma = label ++ spell_comma comma
@@ -275,7 +296,8 @@ IsWellRangeLabel (Some label) comma = IsTrue (is_label label)
 abbrev pub is_paired : List ℕ → Bool
 is_paired [] = true
 is_paired (c ∷ []) = not (c == apostrophe)
-is_paired (c ∷ d ∷ cs) = if c == apostrophe then (d == apostrophe && is_paired cs) else is_paired (d ∷ cs)
+is_paired (c ∷ d ∷ cs) =
+    if c == apostrophe then (d == apostrophe && is_paired cs) else is_paired (d ∷ cs)
 
 -- a character constant
 abbrev pub spell_quoted : List ℕ → List ℕ
@@ -300,7 +322,8 @@ IsWellStop (stop_text text) = IsTrue (is_paired text)
 abbrev mutual
   pub spell_item : ListItemTree → List ℕ
   spell_item (value_item e) = spell_expr e
-  spell_item (loop_item xs variable limits) = 40 ∷ ((spell_items xs ++ (44 ∷ (variable ++ (61 ∷ spell_limits limits)))) ++ 41 ∷ [])
+  spell_item (loop_item xs variable limits) =
+      40 ∷ ((spell_items xs ++ (44 ∷ (variable ++ (61 ∷ spell_limits limits)))) ++ 41 ∷ [])
 
   pub spell_items : ListItemsTree → List ℕ
   spell_items no_items = []
@@ -319,7 +342,8 @@ abbrev mutual
   pub IsWellItem : ℕ → ListItemTree → Type 0
   IsWellItem least (value_item e) = IsWellExpr e × IsTrue (nat_le least (level_of e))
   IsWellItem least (loop_item xs variable limits) =
-      IsTrue (has_item xs) × (AreWellItems least xs × (IsTrue (is_name variable) × IsWellLimits limits))
+      IsTrue (has_item xs)
+      × (AreWellItems least xs × (IsTrue (is_name variable) × IsWellLimits limits))
 
   pub AreWellItems : ℕ → ListItemsTree → Type 0
   AreWellItems least no_items = Unit {0}
@@ -373,11 +397,15 @@ IsWellDataValue v = IsWellRepeat v.repeat_count × IsWellDataConstant v.constant
 
 -- a list and its constants in a DATA statement; a comma may stand before any but the first
 abbrev pub spell_data_set : DataSetTree → List ℕ
-spell_data_set s = spell_comma s.comma ++ (spell_items s.list ++ (47 ∷ (joined spell_data_value s.values ++ 47 ∷ [])))
+spell_data_set s =
+    spell_comma s.comma
+    ++ (spell_items s.list ++ (47 ∷ (joined spell_data_value s.values ++ 47 ∷ [])))
 
 abbrev pub IsWellDataSet : DataSetTree → Type 0
 IsWellDataSet s =
-    IsTrue (has_item s.list) × (AreWellItems 8 s.list × (IsTrue (are_data_items true s.list) × AreWell IsWellDataValue s.values))
+    IsTrue (has_item s.list)
+    × (AreWellItems 8 s.list
+    × (IsTrue (are_data_items true s.list) × AreWell IsWellDataValue s.values))
 
 abbrev pub spell_data_sets : List DataSetTree → List ℕ
 spell_data_sets [] = []
@@ -398,7 +426,8 @@ IsWellSource (format_constant text) = IsTrue (is_paired text)
 
 abbrev pub spell_control_by : ControlOrder → UnitTree → FormatTree → List ℕ
 spell_control_by orders.Plain unit source = spell_unit unit ++ (44 ∷ spell_source source)
-spell_control_by orders.FormatNamed unit source = spell_unit unit ++ (codes ",FMT=" ++ spell_source source)
+spell_control_by orders.FormatNamed unit source =
+    spell_unit unit ++ (codes ",FMT=" ++ spell_source source)
 spell_control_by orders.UnitFirst unit source = codes "UNIT=" ++ (spell_unit unit ++ (codes ",FMT=" ++ spell_source source))
 spell_control_by orders.FormatFirst unit source = codes "FMT=" ++ (spell_source source ++ (codes ",UNIT=" ++ spell_unit unit))
 
@@ -422,11 +451,13 @@ is_simple (printing source xs) = true
 is_simple s = false
 
 abbrev pub spell : ShapeTree → List ℕ
-spell (assignment target subscripts e) = target ++ (spell_subscripts subscripts ++ (61 ∷ spell_expr e))
+spell (assignment target subscripts e) =
+    target ++ (spell_subscripts subscripts ++ (61 ∷ spell_expr e))
 spell (writing control xs) = codes "WRITE(" ++ (spell_control control ++ (41 ∷ spell_items xs))
 spell (printing source xs) = codes "PRINT" ++ (spell_source source ++ spell_items_behind xs)
 spell (format text) = codes "FORMAT(" ++ (text ++ 41 ∷ [])
-spell (doing label comma variable limits) = codes "DO" ++ (spell_range_label label comma ++ (variable ++ (61 ∷ spell_limits limits)))
+spell (doing label comma variable limits) =
+    codes "DO" ++ (spell_range_label label comma ++ (variable ++ (61 ∷ spell_limits limits)))
 spell continuing = codes "CONTINUE"
 spell (typing declarators) = codes "INTEGER" ++ spell_declarators declarators
 spell ending = codes "END"
@@ -438,8 +469,10 @@ spell (parameter constants) = codes "PARAMETER(" ++ (joined spell_constant const
 spell (initializing sets) = codes "DATA" ++ spell_data_sets sets
 spell (definition target e) = target ++ (codes "()=" ++ spell_expr e)
 spell (going label) = codes "GOTO" ++ label
-spell (computed_going labels comma e) = codes "GOTO(" ++ (joined spell_label labels ++ (41 ∷ (spell_comma comma ++ spell_expr e)))
-spell (arithmetic_if e negative zero positive) = codes "IF(" ++ (spell_expr e ++ (41 ∷ (negative ++ (44 ∷ (zero ++ (44 ∷ positive))))))
+spell (computed_going labels comma e) =
+    codes "GOTO(" ++ (joined spell_label labels ++ (41 ∷ (spell_comma comma ++ spell_expr e)))
+spell (arithmetic_if e negative zero positive) =
+    codes "IF(" ++ (spell_expr e ++ (41 ∷ (negative ++ (44 ∷ (zero ++ (44 ∷ positive))))))
 spell (logical_if e s) = codes "IF(" ++ (spell_expr e ++ (41 ∷ spell s))
 spell (block_if e) = codes "IF(" ++ (spell_expr e ++ codes ")THEN")
 spell (else_if e) = codes "ELSEIF(" ++ (spell_expr e ++ codes ")THEN")
@@ -451,11 +484,13 @@ spell end_do = codes "ENDDO"
 spell implicit_none = codes "IMPLICITNONE"
 
 abbrev pub IsWell : ShapeTree → Type 0
-IsWell (assignment target subscripts e) = IsTrue (is_name target) × (AreWellSubscripts subscripts × IsWellExpr e)
+IsWell (assignment target subscripts e) =
+    IsTrue (is_name target) × (AreWellSubscripts subscripts × IsWellExpr e)
 IsWell (writing control xs) = IsWellControl control × AreWellItems 0 xs
 IsWell (printing source xs) = IsWellSource source × AreWellItems 0 xs
 IsWell (format text) = IsTrue (balanced 0 false text)
-IsWell (doing label comma variable limits) = IsWellRangeLabel label comma × (IsTrue (is_name variable) × IsWellLimits limits)
+IsWell (doing label comma variable limits) =
+    IsWellRangeLabel label comma × (IsTrue (is_name variable) × IsWellLimits limits)
 IsWell continuing = Unit {0}
 IsWell (typing declarators) = AreWell IsWellDeclarator declarators
 IsWell ending = Unit {0}
@@ -469,7 +504,8 @@ IsWell (definition target e) = IsTrue (is_name target) × IsWellExpr e
 IsWell (going label) = IsTrue (is_label label)
 IsWell (computed_going labels comma e) = AreWell IsWellLabel labels × IsWellExpr e
 IsWell (arithmetic_if e negative zero positive) =
-    IsWellExpr e × (IsTrue (is_label negative) × (IsTrue (is_label zero) × IsTrue (is_label positive)))
+    IsWellExpr e
+    × (IsTrue (is_label negative) × (IsTrue (is_label zero) × IsTrue (is_label positive)))
 IsWell (logical_if e s) = IsWellExpr e × (IsTrue (is_simple s) × IsWell s)
 IsWell (block_if e) = IsWellExpr e
 IsWell (else_if e) = IsWellExpr e

@@ -1,5 +1,7 @@
 -- The statements of a source, and the rules on lines (ANSI X3.9-1978, 3.2 to 3.4).
-use Rattle.std.specs.Prelude.{◌≡◌, ℕ, ◌%◌, Bool, true, false, ◌&&◌, ◌||◌, not, List, [], ◌∷◌, ◌++◌, map, drop, length, nat_lt, nat_le, ◌==◌, if◌then◌else◌, Option, Some, None, Result, Err, count_by}
+use Rattle.std.specs.Prelude.{◌≡◌, ℕ, ◌%◌, Bool, true, false, ◌&&◌, ◌||◌, not, List, [], ◌∷◌, ◌++◌}
+use Rattle.std.specs.Prelude.{map, drop, length, nat_lt, nat_le, ◌==◌, if◌then◌else◌, Option, Some}
+use Rattle.std.specs.Prelude.{None, Result, Err, count_by}
 use Rattle.std.specs.List.{list_all, list_any, filter, flat_map, take_while}
 use Rattle.meaning.specs.declared.refusal.Broken.{Broken}
 use Rattle.meaning.specs.declared.refusal.Rule.{Rule}
@@ -7,7 +9,8 @@ use Rattle.meaning.specs.declared.refusal.Rule.TheVariants.{C1, C2, C3, C4, C5, 
 use Rattle.meaning.specs.declared.statement.Statement.{Statement}
 use Rattle.meaning.specs.Characters.{blank, apostrophe, is_digit, number_of}
 use Rattle.meaning.specs.Refusals.{least, unless}
-use Rattle.meaning.specs.Lines.{lines_of, label_field, statement_field, is_initial, StatementLine, statement_lines}
+use Rattle.meaning.specs.Lines.{lines_of, label_field, statement_field, is_initial, StatementLine}
+use Rattle.meaning.specs.Lines.{statement_lines}
 
 -- ---- statements
 
@@ -27,7 +30,8 @@ lines_in g = g.initial ∷ g.continued
 unfoldable pub groups : List StatementLine → List Group
 groups [] = []
 groups (l ∷ ls) =
-    if is_initial l.columns then record { initial = l; continued = continuations ls } ∷ groups ls else groups ls
+    if is_initial l.columns then record { initial = l; continued = continuations ls } ∷ groups ls
+    else groups ls
 
 -- columns 7 to 72 of the lines, joined
 abbrev pub text_of : Group → List ℕ
@@ -44,7 +48,8 @@ pub record IsGrouped (ls : List StatementLine) : Type 0 where
 -- the statement label in columns 1 to 5 (3.4): their digits, without the blanks
 abbrev pub label_of : List ℕ → Option ℕ
 label_of columns =
-    if list_any is_digit (label_field columns) then Some (number_of (filter is_digit (label_field columns))) else None
+    if list_any is_digit (label_field columns)
+    then Some (number_of (filter is_digit (label_field columns))) else None
 
 -- a statement: its initial line, its label and its text
 pub record Entry : Type 0 where
@@ -72,16 +77,21 @@ is_blank_field field = list_all (λ c. c == blank) field
 -- blanks alone, or a label that isn't zero
 abbrev pub is_label_field : List ℕ → Bool
 is_label_field field =
-    list_all (λ c. is_digit c || (c == blank)) field && (not (list_any is_digit field) || nat_lt 0 (number_of (filter is_digit field)))
+    list_all (λ c. is_digit c || (c == blank)) field
+    && (not (list_any is_digit field) || nat_lt 0 (number_of (filter is_digit field)))
 
 -- an odd number of apostrophes
 abbrev pub is_unpaired : List ℕ → Bool
 is_unpaired text = count_by (λ c. c == apostrophe) text % 2 == 1
 
--- a line by itself: its characters, and columns 1 to 5 of an initial line and of a continuation line
+-- a line by itself: its characters, and columns 1 to 5 of an initial line and of a continuation
+-- line
 abbrev pub broken_in_line : StatementLine → List Broken
 broken_in_line l =
-    broken_if (not (list_all is_printable l.columns)) l.line C1 ++ (broken_if (is_initial l.columns && not (is_label_field (label_field l.columns))) l.line C2 ++ broken_if (not (is_initial l.columns) && not (is_blank_field (label_field l.columns))) l.line C3)
+    broken_if (not (list_all is_printable l.columns)) l.line C1
+    ++ (broken_if (is_initial l.columns && not (is_label_field (label_field l.columns))) l.line
+    C2 ++ broken_if (not (is_initial l.columns) && not (is_blank_field (label_field l.columns)))
+    l.line C3)
 
 -- a continuation line with no initial line before it
 abbrev pub broken_alone : StatementLine → Broken
@@ -94,11 +104,13 @@ broken_past (l ∷ ls) = record { line = l.line; rule = C5 } ∷ []
 
 -- a statement: the number of its continuation lines, and the apostrophes over all its lines
 abbrev pub broken_in_group : Group → List Broken
-broken_in_group g = broken_past (drop 19 g.continued) ++ broken_if (is_unpaired (text_of g)) g.initial.line C6
+broken_in_group g =
+    broken_past (drop 19 g.continued) ++ broken_if (is_unpaired (text_of g)) g.initial.line C6
 
 abbrev pub broken_in : List StatementLine → List Broken
 broken_in ls =
-    flat_map broken_in_line ls ++ (map broken_alone (continuations ls) ++ flat_map broken_in_group (groups ls))
+    flat_map broken_in_line ls
+    ++ (map broken_alone (continuations ls) ++ flat_map broken_in_group (groups ls))
 
 -- too many bytes, or too many lines
 abbrev pub is_too_long : List ℕ → Bool

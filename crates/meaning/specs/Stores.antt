@@ -1,7 +1,9 @@
--- What a store of cells holds, and what reading and writing it does. A cell has the value of a variable or of an array
--- element (ANSI X3.9-1978, chapters 5 and 17); a LOGICAL is kept as 0 or 1. A store may stand on the values of another
--- one, and then keeps what was written to itself, and which of the other's values it has shown (own).
-use Rattle.std.specs.Prelude.{◌≡◌, ℕ, ℤ, ◌==◌, ◌||◌, ◌⊎◌, Bool, true, false, IsTrue, if◌then◌else◌, Option, Some, None, IsSome, unwrap_or}
+-- What a store of cells holds, and what reading and writing it does. A cell has the value of a
+-- variable or of an array element (ANSI X3.9-1978, chapters 5 and 17); a LOGICAL is kept as 0 or 1.
+-- A store may stand on the values of another one, and then keeps what was written to itself, and
+-- which of the other's values it has shown (own).
+use Rattle.std.specs.Prelude.{◌≡◌, ℕ, ℤ, ◌==◌, ◌||◌, ◌⊎◌, Bool, true, false, IsTrue, if◌then◌else◌}
+use Rattle.std.specs.Prelude.{Option, Some, None, IsSome, unwrap_or}
 
 -- the values of cells by their numbers
 abbrev pub Cells : Type 0
@@ -77,7 +79,8 @@ pub record Reads (before after : World) (holds : Cells → Type 0) : Type 0 wher
 -- it reads and writes: this is so of the values before and behind it
 pub record Does (before after : World) (holds : Cells → Cells → Type 0) : Type 0 where
   pub grows : IsLater before after
-  pub means : after.lost ≡ false → (m : Cells) → Agrees m after → holds (overlay m before.written) (overlay m after.written)
+  pub means : after.lost ≡ false → (m : Cells) → Agrees m after →
+      holds (overlay m before.written) (overlay m after.written)
 
 -- values, with one of them set
 abbrev pub with_value : Cells → ℕ → ℤ → Cells

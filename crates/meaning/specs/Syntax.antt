@@ -1,9 +1,11 @@
--- Expressions and forms as pure trees, and what a value of the Rust types stands for (ANSI X3.9-1978, chapters 4 to 16).
+-- Expressions and forms as pure trees, and what a value of the Rust types stands for (ANSI
+-- X3.9-1978, chapters 4 to 16).
 use Rattle.std.specs.Prelude.{ℕ, Bool, List, [], ◌∷◌, map, Option, option_map}
 use Rattle.meaning.specs.declared.syntax.Sign.{Sign}
 use Rattle.meaning.specs.declared.syntax.Operator.{Operator}
 use Rattle.meaning.specs.declared.syntax.Expr.{Expr}
-use Rattle.meaning.specs.declared.syntax.Expr.TheVariants.{Number, Truth, Name, Signed', Not', Binary', Paren', Element', Call}
+use Rattle.meaning.specs.declared.syntax.Expr.TheVariants.{Number, Truth, Name, Signed', Not'}
+use Rattle.meaning.specs.declared.syntax.Expr.TheVariants.{Binary', Paren', Element', Call}
 use Rattle.meaning.specs.declared.syntax.Exprs.{Exprs}
 use Rattle.meaning.specs.declared.syntax.Exprs.TheVariants.{Empty, More'}
 use Rattle.meaning.specs.declared.syntax.Bounds.{Bounds}
@@ -35,9 +37,9 @@ use Rattle.meaning.specs.declared.syntax.Shape.{Shape}
 use Rattle.meaning.specs.declared.syntax.Shape.TheVariants as shapes
 
 mutual
-  -- an expression (chapter 6): the digits of a constant, a logical constant, a name, a sign and its operand, .NOT. and its
-  -- operand, an operator and its operands, an expression in parentheses, a name with subscripts (5.3) or arguments, a
-  -- function reference without arguments (15.2.2)
+  -- an expression (chapter 6): the digits of a constant, a logical constant, a name, a sign and its
+  -- operand, .NOT. and its operand, an operator and its operands, an expression in parentheses, a
+  -- name with subscripts (5.3) or arguments, a function reference without arguments (15.2.2)
   pub data ExprTree : Type 0 where
     number : List ℕ → ExprTree
     truth : Bool → ExprTree
@@ -65,7 +67,8 @@ pub data UnitTree : Type 0 where
   star : UnitTree
   unit_number : ExprTree → UnitTree
 
--- the limits of a DO statement (11.10): the first and the last value of its variable, and the step, if it is written
+-- the limits of a DO statement (11.10): the first and the last value of its variable, and the step,
+-- if it is written
 pub record LimitsTree : Type 0 where
   pub first : ExprTree
   pub last : ExprTree
@@ -103,8 +106,8 @@ pub data StopTree : Type 0 where
   stop_text : List ℕ → StopTree
 
 mutual
-  -- an item of the list of a WRITE, PRINT or DATA statement (9.1, 12.8.2): an expression, or an implied DO with its items,
-  -- its variable and its limits
+  -- an item of the list of a WRITE, PRINT or DATA statement (9.1, 12.8.2): an expression, or an
+  -- implied DO with its items, its variable and its limits
   pub data ListItemTree : Type 0 where
     value_item : ExprTree → ListItemTree
     loop_item : ListItemsTree → List ℕ → LimitsTree → ListItemTree
@@ -114,7 +117,8 @@ mutual
     no_items : ListItemsTree
     more_items : ListItemTree → ListItemsTree → ListItemsTree
 
--- a constant in a DATA statement (9.1): an integer constant with a sign or without one, a logical constant, a name
+-- a constant in a DATA statement (9.1): an integer constant with a sign or without one, a logical
+-- constant, a name
 pub data DataConstantTree : Type 0 where
   data_number : Option Sign → List ℕ → DataConstantTree
   data_truth : Bool → DataConstantTree
@@ -147,13 +151,15 @@ pub record ControlTree : Type 0 where
   pub unit : UnitTree
   pub source : FormatTree
 
--- a statement: PROGRAM with its name (14.1), IMPLICIT (8.5), an assignment to a variable or an element (10.1), a statement
--- function without dummies (15.4), WRITE and PRINT with a list (12.8), FORMAT with its text (13.1), DO with a label,
--- a comma or none, a variable and limits (11.10), or without a label (own), CONTINUE (11.11), INTEGER and LOGICAL with their declarators (8.4.1),
--- DIMENSION (8.1), PARAMETER (8.6), DATA with its lists and constants (9.1), GO TO (11.1), computed GO TO with labels, a comma or none, and an expression (11.2),
--- arithmetic IF with three labels (11.4), logical IF with a statement (11.5), IF THEN, ELSE IF, ELSE and END IF (11.6 to 11.9),
--- STOP (11.12), END (3.5), DO WHILE with a label or none, a comma or none, and a condition (own), END DO (own), IMPLICIT NONE
--- (own)
+-- a statement: PROGRAM with its name (14.1), IMPLICIT (8.5), an assignment to a variable or an
+-- element (10.1), a statement function without dummies (15.4), WRITE and PRINT with a list (12.8),
+-- FORMAT with its text (13.1), DO with a label, a comma or none, a variable and limits (11.10), or
+-- without a label (own), CONTINUE (11.11), INTEGER and LOGICAL with their declarators (8.4.1),
+-- DIMENSION (8.1), PARAMETER (8.6), DATA with its lists and constants (9.1), GO TO (11.1), computed
+-- GO TO with labels, a comma or none, and an expression (11.2), arithmetic IF with three labels
+-- (11.4), logical IF with a statement (11.5), IF THEN, ELSE IF, ELSE and END IF (11.6 to 11.9),
+-- STOP (11.12), END (3.5), DO WHILE with a label or none, a comma or none, and a condition (own),
+-- END DO (own), IMPLICIT NONE (own)
 pub data ShapeTree : Type 0 where
   assignment : List ℕ → ExprsTree → ExprTree → ShapeTree
   writing : ControlTree → ListItemsTree → ShapeTree
@@ -217,12 +223,19 @@ unit_tree units.Star = star
 unit_tree (units.Number e) = unit_number (expr_tree e)
 
 abbrev pub limits_tree : Limits → LimitsTree
-limits_tree l = record { first = expr_tree l.first; last = expr_tree l.last; step = option_map expr_tree l.step }
+limits_tree l =
+    record {
+      first = expr_tree l.first;
+      last = expr_tree l.last;
+      step = option_map expr_tree
+          l.step;
+    }
 
 abbrev mutual
   pub list_item_tree : ListItem → ListItemTree
   list_item_tree (list_items.Value e) = value_item (expr_tree e)
-  list_item_tree (list_items.Loop' p xs variable limits) = loop_item (list_items_tree xs) variable.items (limits_tree limits)
+  list_item_tree (list_items.Loop' p xs variable limits) =
+      loop_item (list_items_tree xs) variable.items (limits_tree limits)
 
   pub list_items_tree : ListItems → ListItemsTree
   list_items_tree lists.Empty = no_items
@@ -238,10 +251,21 @@ repeat_tree (repeat_counts.Number digits) = repeat_number digits.items
 repeat_tree (repeat_counts.Name letters) = repeat_name letters.items
 
 abbrev pub data_value_tree : DataValue → DataValueTree
-data_value_tree v = record { repeat_count = option_map repeat_tree v.repeat_count; constant = data_constant_tree v.constant }
+data_value_tree v =
+    record {
+      repeat_count = option_map repeat_tree v.repeat_count;
+      constant = data_constant_tree
+          v.constant;
+    }
 
 abbrev pub data_set_tree : DataSet → DataSetTree
-data_set_tree s = record { comma = s.comma; list = list_items_tree s.list; values = map data_value_tree s.values.items }
+data_set_tree s =
+    record {
+      comma = s.comma;
+      list = list_items_tree s.list;
+      values = map data_value_tree
+          s.values.items;
+    }
 
 abbrev pub format_tree : FormatSource → FormatTree
 format_tree (sources.Label label) = format_label label.items
@@ -265,11 +289,13 @@ stop_tree (stops.Digits digits) = stop_digits digits.items
 stop_tree (stops.Constant text) = stop_text text.items
 
 abbrev pub shape_tree : Shape → ShapeTree
-shape_tree (shapes.Assignment target subscripts value) = assignment target.items (exprs_tree subscripts) (expr_tree value)
+shape_tree (shapes.Assignment target subscripts value) =
+    assignment target.items (exprs_tree subscripts) (expr_tree value)
 shape_tree (shapes.Write control list) = writing (control_tree control) (list_items_tree list)
 shape_tree (shapes.Print source list) = printing (format_tree source) (list_items_tree list)
 shape_tree (shapes.Format text) = format text.items
-shape_tree (shapes.Do label comma variable limits) = doing (option_map (λ l. l.items) label) comma variable.items (limits_tree limits)
+shape_tree (shapes.Do label comma variable limits) =
+    doing (option_map (λ l. l.items) label) comma variable.items (limits_tree limits)
 shape_tree shapes.Continue = continuing
 shape_tree (shapes.Integer declarators) = typing (map declarator_tree declarators.items)
 shape_tree shapes.End = ending
@@ -281,15 +307,18 @@ shape_tree (shapes.Parameter constants) = parameter (map constant_tree constants
 shape_tree (shapes.Data sets) = initializing (map data_set_tree sets.items)
 shape_tree (shapes.Definition target value) = definition target.items (expr_tree value)
 shape_tree (shapes.GoTo label) = going label.items
-shape_tree (shapes.ComputedGoTo labels comma value) = computed_going (map (λ l. l.items) labels.items) comma (expr_tree value)
+shape_tree (shapes.ComputedGoTo labels comma value) =
+    computed_going (map (λ l. l.items) labels.items) comma (expr_tree value)
 shape_tree (shapes.ArithmeticIf value negative zero positive) =
     arithmetic_if (expr_tree value) negative.items zero.items positive.items
-shape_tree (shapes.LogicalIf' condition p statement) = logical_if (expr_tree condition) (shape_tree statement)
+shape_tree (shapes.LogicalIf' condition p statement) =
+    logical_if (expr_tree condition) (shape_tree statement)
 shape_tree (shapes.IfThen condition) = block_if (expr_tree condition)
 shape_tree (shapes.ElseIf condition) = else_if (expr_tree condition)
 shape_tree shapes.Else = otherwise
 shape_tree shapes.EndIf = end_if
 shape_tree (shapes.Stop text) = stopping (stop_tree text)
-shape_tree (shapes.DoWhile label comma condition) = doing_while (option_map (λ l. l.items) label) comma (expr_tree condition)
+shape_tree (shapes.DoWhile label comma condition) =
+    doing_while (option_map (λ l. l.items) label) comma (expr_tree condition)
 shape_tree shapes.EndDo = end_do
 shape_tree shapes.ImplicitNone = implicit_none

@@ -10,9 +10,12 @@ use Rattle.meaning.specs.Execution.{jump, exec}
 -- in a program unit that breaks no rule each transfer is to the label of a statement
 abbrev pub TransfersArrive : Type 0
 TransfersArrive =
-    (t u : Nested) → checked t ≡ Ok u → AllByRecursion (λ x. AllByRecursion (λ s. list_any (has_label s) (flatten t) ≡ true) (transfers_of x.shape)) (flatten t)
+    (t u : Nested) → checked t ≡ Ok u →
+    AllByRecursion (λ x. AllByRecursion (λ s. list_any (has_label s) (flatten t) ≡ true)
+    (transfers_of x.shape)) (flatten t)
 
 -- and no transfer leaves the body
 abbrev pub TransfersStay : Type 0
 TransfersStay =
-    (t u : Nested) → checked t ≡ Ok u → (m : Map) (n s : ℕ) → (exec (flatten t) t.body t.body m n).outcome ≡ jump s → ⊥
+    (t u : Nested) → checked t ≡ Ok u → (m : Map) (n s : ℕ) →
+    (exec (flatten t) t.body t.body m n).outcome ≡ jump s → ⊥

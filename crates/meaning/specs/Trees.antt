@@ -1,23 +1,26 @@
--- A program unit as a tree: lists of statements, in which a DO statement stands with its range, and a block IF with its
--- arms (ANSI X3.9-1978, 3.5, 11.6 to 11.10), and what values of the Rust types stand for.
+-- A program unit as a tree: lists of statements, in which a DO statement stands with its range, and
+-- a block IF with its arms (ANSI X3.9-1978, 3.5, 11.6 to 11.10), and what values of the Rust types
+-- stand for.
 use Rattle.std.specs.Prelude.{List, [], ◌∷◌, ◌++◌}
 use Rattle.meaning.specs.declared.syntax.Item.{Item}
 use Rattle.meaning.specs.declared.syntax.Arm.{Arm}
 use Rattle.meaning.specs.declared.syntax.Block.{Block', Row_of-Arm, end_of-Arm, more_of-Arm}
-use Rattle.meaning.specs.declared.syntax.Member.{Member, Plain, Loop', Block, Row_of-Member, end_of-Member, more_of-Member}
+use Rattle.meaning.specs.declared.syntax.Member.{Member, Plain, Loop', Block, Row_of-Member}
+use Rattle.meaning.specs.declared.syntax.Member.{end_of-Member, more_of-Member}
 use Rattle.meaning.specs.declared.syntax.Tree.{Tree}
 use Rattle.meaning.specs.Syntax.{ItemTree, shape_tree}
 
 mutual
-  -- the members of a list: a statement and what follows it, or a DO statement, its range and what follows, or the arms of a
-  -- block IF, its END IF statement and what follows
+  -- the members of a list: a statement and what follows it, or a DO statement, its range and what
+  -- follows, or the arms of a block IF, its END IF statement and what follows
   pub data Members : Type 0 where
     none : Members
     plain : ItemTree → Members → Members
     loop : ItemTree → Members → Members → Members
     block : Arms → ItemTree → Members → Members
 
-  -- the arms of a block IF: an IF THEN, ELSE IF or ELSE statement, the members behind it, and further arms
+  -- the arms of a block IF: an IF THEN, ELSE IF or ELSE statement, the members behind it, and
+  -- further arms
   pub data Arms : Type 0 where
     no_arms : Arms
     arm : ItemTree → Members → Arms → Arms
@@ -59,7 +62,8 @@ abbrev mutual
 
   pub row_arms : {m : _} → Row_of-Arm m → Arms
   row_arms end_of-Arm = no_arms
-  row_arms (more_of-Arm head shape body arms) = arm (item_tree head) (row_members body) (row_arms arms)
+  row_arms (more_of-Arm head shape body arms) =
+      arm (item_tree head) (row_members body) (row_arms arms)
 
 abbrev pub members_tree : List Member → Members
 members_tree [] = none

@@ -1,5 +1,6 @@
 -- The trips of a DO (ANSI X3.9-1978, 11.10.3): its limits, and how often its range is executed.
-use Rattle.std.specs.Prelude.{ℕ, ℤ, pos, ◌+ℤ◌, ◌-ℤ◌, ◌*ℤ◌, int_div, List, map, if◌then◌else◌, Option, Some, None, Result, Ok, Err}
+use Rattle.std.specs.Prelude.{ℕ, ℤ, pos, ◌+ℤ◌, ◌-ℤ◌, ◌*ℤ◌, int_div, List, map, if◌then◌else◌}
+use Rattle.std.specs.Prelude.{Option, Some, None, Result, Ok, Err}
 use Rattle.std.specs.List.{range_with_len}
 use Rattle.std.specs.Ordering.{int_eq}
 use Rattle.meaning.specs.declared.ending.FaultKind.{FaultKind}
@@ -16,7 +17,8 @@ trip_count first last step = at_least_zero (int_div (last -ℤ first +ℤ step) 
 
 -- the values of the DO variable, one for each trip
 abbrev pub trips : ℤ → ℤ → ℤ → List ℤ
-trips first last step = map (λ k. first +ℤ pos k *ℤ step) (range_with_len 0 (trip_count first last step))
+trips first last step =
+    map (λ k. first +ℤ pos k *ℤ step) (range_with_len 0 (trip_count first last step))
 
 -- the values of limits
 pub record Span : Type 0 where
@@ -38,4 +40,5 @@ with_step first last step =
 unfoldable pub span_of : Scope → LimitsTree → Map → Result Span FaultKind
 unfolding and_then
 span_of s l m =
-    value s l.first m >>= λ a. value s l.last m >>= λ b. step_value s l.step m >>= λ c. with_step (as_integer a) (as_integer b) (as_integer c)
+    value s l.first m >>= λ a. value s l.last m >>= λ b. step_value s l.step m >>=
+    λ c. with_step (as_integer a) (as_integer b) (as_integer c)

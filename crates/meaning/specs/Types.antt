@@ -1,11 +1,14 @@
--- The data types of names (ANSI X3.9-1978, 4.1.2, 8.4 and 8.5). There is no data of type REAL here: a name of that type has none.
-use Rattle.std.specs.Prelude.{ℕ, Bool, true, false, ◌&&◌, nat_le, List, [], ◌∷◌, map, flat_map, if◌then◌else◌, Option, Some, None, unwrap_or}
+-- The data types of names (ANSI X3.9-1978, 4.1.2, 8.4 and 8.5). There is no data of type REAL here:
+-- a name of that type has none.
+use Rattle.std.specs.Prelude.{ℕ, Bool, true, false, ◌&&◌, nat_le, List, [], ◌∷◌, map, flat_map}
+use Rattle.std.specs.Prelude.{if◌then◌else◌, Option, Some, None, unwrap_or}
 use Rattle.std.specs.List.{list_any}
 use Rattle.std.specs.Option.{option_or}
 use Rattle.std.specs.Str.{bytes_eq}
 use Rattle.meaning.specs.declared.syntax.DataType.{DataType}
 use Rattle.meaning.specs.declared.syntax.DataType.TheVariants as types
-use Rattle.meaning.specs.Syntax.{LettersTree, ImplicitTree, DeclaratorTree, ShapeTree, typing, logical_typing, implying, implicit_none, ItemTree}
+use Rattle.meaning.specs.Syntax.{LettersTree, ImplicitTree, DeclaratorTree, ShapeTree, typing}
+use Rattle.meaning.specs.Syntax.{logical_typing, implying, implicit_none, ItemTree}
 
 -- a type for each name that has one
 abbrev pub Types : Type 0
@@ -18,7 +21,8 @@ is_among c l = nat_le l.first_letter c && nat_le c (unwrap_or l.last_letter l.fi
 -- the type that IMPLICIT statements give a letter, the first that does (own)
 abbrev pub implied_by : List ImplicitTree → ℕ → Option DataType
 implied_by [] c = None
-implied_by (p ∷ ps) c = if list_any (is_among c) p.letters then Some p.data_type else implied_by ps c
+implied_by (p ∷ ps) c =
+    if list_any (is_among c) p.letters then Some p.data_type else implied_by ps c
 
 -- without one a name is INTEGER from I to N
 abbrev pub by_letter : ℕ → Option DataType
@@ -66,4 +70,5 @@ has_implicit_none all = list_any (λ (x : ItemTree). is_implicit_none x.shape) a
 -- the types of the names of a program unit; a type statement holds for the whole unit (own)
 abbrev pub types_of : List ItemTree → Types
 types_of all n =
-    option_or (declared_by (flat_map (λ x. typed_in x.shape) all) n) (by_first_letter (has_implicit_none all) (flat_map (λ x. implied_in x.shape) all) n)
+    option_or (declared_by (flat_map (λ x. typed_in x.shape) all) n)
+    (by_first_letter (has_implicit_none all) (flat_map (λ x. implied_in x.shape) all) n)

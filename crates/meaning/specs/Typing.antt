@@ -1,17 +1,25 @@
--- The types of expressions (ANSI X3.9-1978, 6.1 to 6.4), and what is of the wrong type. Nothing is converted. A part whose type
--- isn't known, a REAL name or an unknown function, agrees with every type.
-use Rattle.std.specs.Prelude.{ℕ, Bool, true, false, not, ◌&&◌, ◌||◌, List, [], ◌∷◌, ◌++◌, map, flat_map, is_some, if◌then◌else◌, Option, Some, None}
+-- The types of expressions (ANSI X3.9-1978, 6.1 to 6.4), and what is of the wrong type. Nothing is
+-- converted. A part whose type isn't known, a REAL name or an unknown function, agrees with every
+-- type.
+use Rattle.std.specs.Prelude.{ℕ, Bool, true, false, not, ◌&&◌, ◌||◌, List, [], ◌∷◌, ◌++◌, map}
+use Rattle.std.specs.Prelude.{flat_map, is_some, if◌then◌else◌, Option, Some, None}
 use Rattle.std.specs.List.{list_any}
 use Rattle.meaning.specs.declared.syntax.DataType.{DataType}
 use Rattle.meaning.specs.declared.syntax.DataType.TheVariants as types
 use Rattle.meaning.specs.declared.syntax.Operator.{Operator}
 use Rattle.meaning.specs.declared.syntax.Operator.TheVariants as operators
-use Rattle.meaning.specs.Syntax.{ExprTree, number, truth, name, signed, negated, binary, paren, element, call, ExprsTree, no_exprs, exprs, BoundsTree, UnitTree, star, unit_number, LimitsTree, ListItemsTree, no_items, more_items, value_item, loop_item, ShapeTree, assignment, writing, printing, doing, parameter, initializing, definition, computed_going, arithmetic_if, logical_if, block_if, else_if, doing_while}
+use Rattle.meaning.specs.Syntax.{ExprTree, number, truth, name, signed, negated, binary, paren}
+use Rattle.meaning.specs.Syntax.{element, call, ExprsTree, no_exprs, exprs, BoundsTree, UnitTree}
+use Rattle.meaning.specs.Syntax.{star, unit_number, LimitsTree, ListItemsTree, no_items, more_items}
+use Rattle.meaning.specs.Syntax.{value_item, loop_item, ShapeTree, assignment, writing, printing}
+use Rattle.meaning.specs.Syntax.{doing, parameter, initializing, definition, computed_going}
+use Rattle.meaning.specs.Syntax.{arithmetic_if, logical_if, block_if, else_if, doing_while}
 use Rattle.meaning.specs.Types.{Types}
 use Rattle.meaning.specs.Values.{Arrays}
 use Rattle.meaning.specs.Scopes.{listed, declarators_in, is_dummy}
 
--- what is said of names: their types, which are arrays, the dummies of statement functions, and which are intrinsic functions
+-- what is said of names: their types, which are arrays, the dummies of statement functions, and
+-- which are intrinsic functions
 pub record Names : Type 0 where
   pub types : Types
   pub arrays : Arrays
@@ -129,14 +137,16 @@ abbrev mutual
   is_ill ns (signed sign e) = clash integer_type (type_of ns e) || is_ill ns e
   is_ill ns (negated e) = clash logical_type (type_of ns e) || is_ill ns e
   is_ill ns (binary operator a b) =
-      (clash (operand_type operator) (type_of ns a) || is_ill ns a) || (clash (operand_type operator) (type_of ns b) || is_ill ns b)
+      (clash (operand_type operator) (type_of ns a) || is_ill ns a)
+      || (clash (operand_type operator) (type_of ns b) || is_ill ns b)
   is_ill ns (paren e) = is_ill ns e
   is_ill ns (element letters es) = are_ill ns (wanted_by ns letters) es
   is_ill ns (call letters) = false
 
   pub are_ill : Names → Wanted → ExprsTree → Bool
   are_ill ns w no_exprs = false
-  are_ill ns w (exprs e es) = (clash (next_wanted w) (type_of ns e) || is_ill ns e) || are_ill ns (further_wanted w) es
+  are_ill ns w (exprs e es) =
+      (clash (next_wanted w) (type_of ns e) || is_ill ns e) || are_ill ns (further_wanted w) es
 
 -- ---- statements
 
@@ -161,8 +171,8 @@ in_limits l = map (expected integer_type) (l.first ∷ (l.last ∷ option_list l
 abbrev pub in_bounds : BoundsTree → List Expected
 in_bounds b = map (expected integer_type) (option_list b.lower ++ b.upper ∷ [])
 
--- an item of an output list has either type; what stands in the parentheses of an item of DATA are subscripts, whether or not its
--- name is an array's
+-- an item of an output list has either type; what stands in the parentheses of an item of DATA are
+-- subscripts, whether or not its name is an array's
 abbrev pub in_item : Bool → ExprTree → List Expected
 in_item true (element letters es) = map (expected integer_type) (listed es)
 in_item of_data e = expected None e ∷ []
@@ -177,9 +187,11 @@ abbrev pub in_unit : UnitTree → List Expected
 in_unit star = []
 in_unit (unit_number e) = expected None e ∷ []
 
--- the subscripts of an array that is set, or what stands there without one: dummies, and what should be one
+-- the subscripts of an array that is set, or what stands there without one: dummies, and what
+-- should be one
 abbrev pub in_target : Names → List ℕ → ExprsTree → List Expected
-in_target ns n es = map (expected (if is_some (ns.arrays n) then integer_type else None)) (listed es)
+in_target ns n es =
+    map (expected (if is_some (ns.arrays n) then integer_type else None)) (listed es)
 
 -- the expressions of a statement
 abbrev pub expected_in : Names → ShapeTree → List Expected
@@ -209,4 +221,5 @@ dummies_if false s = []
 
 -- K5
 abbrev pub has_wrong_type : Names → Bool → ShapeTree → Bool
-has_wrong_type ns defines s = list_any (is_mistyped (within (dummies_if defines s) ns)) (expected_in ns s)
+has_wrong_type ns defines s =
+    list_any (is_mistyped (within (dummies_if defines s) ns)) (expected_in ns s)

@@ -1,6 +1,9 @@
--- The value of an expression, or its leftmost fault (ANSI X3.9-1978, 5.4, 6.1 and 6.6). Results are exact; one outside the
--- range of INTEGER is the fault F2, a zero divisor F1, and a subscript outside its bounds F3 (own).
-use Rattle.std.specs.Prelude.{ℕ, suc, ◌^◌, ℤ, pos, negsuc, ◌+ℤ◌, ◌-ℤ◌, ◌*ℤ◌, neg_ℤ, int_div, Bool, true, false, not, ◌&&◌, ◌||◌, ◌==◌, List, [], ◌∷◌, nat_lt, if◌then◌else◌, Result, Ok, Err, Option, Some, None}
+-- The value of an expression, or its leftmost fault (ANSI X3.9-1978, 5.4, 6.1 and 6.6). Results are
+-- exact; one outside the range of INTEGER is the fault F2, a zero divisor F1, and a subscript
+-- outside its bounds F3 (own).
+use Rattle.std.specs.Prelude.{ℕ, suc, ◌^◌, ℤ, pos, negsuc, ◌+ℤ◌, ◌-ℤ◌, ◌*ℤ◌, neg_ℤ, int_div, Bool}
+use Rattle.std.specs.Prelude.{true, false, not, ◌&&◌, ◌||◌, ◌==◌, List, [], ◌∷◌, nat_lt}
+use Rattle.std.specs.Prelude.{if◌then◌else◌, Result, Ok, Err, Option, Some, None}
 use Rattle.std.specs.Int.{int_pow}
 use Rattle.std.specs.Int.Signed.{lt_z}
 use Rattle.std.specs.Ordering.{int_eq}
@@ -13,7 +16,8 @@ use Rattle.meaning.specs.declared.syntax.Sign.TheVariants as signs
 use Rattle.meaning.specs.declared.syntax.Operator.{Operator}
 use Rattle.meaning.specs.declared.syntax.Operator.TheVariants as operators
 use Rattle.meaning.specs.Characters.{number_of}
-use Rattle.meaning.specs.Syntax.{ExprTree, number, truth, name, signed, negated, binary, paren, element, call, ExprsTree, no_exprs, exprs}
+use Rattle.meaning.specs.Syntax.{ExprTree, number, truth, name, signed, negated, binary, paren}
+use Rattle.meaning.specs.Syntax.{element, call, ExprsTree, no_exprs, exprs}
 use Rattle.meaning.specs.declared.syntax.DataType.{DataType}
 use Rattle.meaning.specs.declared.syntax.DataType.TheVariants as types
 use Rattle.meaning.specs.Arrays.{Dimension, above}
@@ -38,12 +42,14 @@ as_integer (values.Bool true) = pos 1
 as_integer (values.Bool false) = pos 0
 
 -- what follows a value, or the fault
-unfoldable pub and_then : {A B : Type 0} → Result A FaultKind → (A → Result B FaultKind) → Result B FaultKind
+unfoldable pub and_then : {A B : Type 0} → Result A FaultKind → (A → Result B FaultKind) →
+    Result B FaultKind
 and_then (Ok x) f = f x
 and_then (Err k) f = Err k
 
 infixl 10 ◌>>=◌
-abbrev pub ◌>>=◌ : {A B : Type 0} → Result A FaultKind → (A → Result B FaultKind) → Result B FaultKind
+abbrev pub ◌>>=◌ : {A B : Type 0} → Result A FaultKind → (A → Result B FaultKind) →
+    Result B FaultKind
 r >>= f = and_then r f
 
 abbrev pub with_sign : Sign → ℤ → ℤ
@@ -66,10 +72,12 @@ logical b = Ok (values.Bool b)
 abbrev pub divided : ℤ → ℤ → Valued
 divided x y = if int_eq y (pos 0) then Err F1 else integer (int_div x y)
 
--- a power; with a negative exponent the quotient of 1 by it (6.1.5). Zero to the power of zero or less is a fault (own)
+-- a power; with a negative exponent the quotient of 1 by it (6.1.5). Zero to the power of zero or
+-- less is a fault (own)
 abbrev pub raised : ℤ → ℤ → Valued
 raised x (pos n) = if int_eq x (pos 0) && (n == 0) then Err F6 else integer (int_pow x n)
-raised x (negsuc n) = if int_eq x (pos 0) then Err F6 else integer (int_div (pos 1) (int_pow x (suc n)))
+raised x (negsuc n) =
+    if int_eq x (pos 0) then Err F6 else integer (int_div (pos 1) (int_pow x (suc n)))
 
 -- an operator and the values of its operands (6.1, 6.3 and 6.4)
 abbrev pub operated : Operator → Value → Value → Valued
@@ -103,7 +111,8 @@ unless_decided None r = r
 abbrev pub Arrays : Type 0
 Arrays = List ℕ → Option (List Dimension)
 
--- the names whose values are known: constants, and the dummies of a statement function in its expression
+-- the names whose values are known: constants, and the dummies of a statement function in its
+-- expression
 abbrev pub Known : Type 0
 Known = List ℕ → Option Value
 
@@ -122,7 +131,8 @@ abbrev pub dimensions_in : Option (List Dimension) → List Dimension
 dimensions_in None = []
 dimensions_in (Some ds) = ds
 
--- a subscript within the bounds of its dimension; where there are no further dimensions the rules leave no subscript
+-- a subscript within the bounds of its dimension; where there are no further dimensions the rules
+-- leave no subscript
 abbrev pub if_above : Option ℕ → ℤ → Result ℤ FaultKind
 if_above None s = Err F3
 if_above (Some k) s = Ok s
@@ -135,7 +145,8 @@ abbrev pub others : List Dimension → List Dimension
 others [] = []
 others (d ∷ ds) = ds
 
--- what a variable or an element of this type has, kept as a number: a LOGICAL is true where it isn't 0
+-- what a variable or an element of this type has, kept as a number: a LOGICAL is true where it
+-- isn't 0
 abbrev pub typed : Option DataType → ℤ → Valued
 typed (Some types.Logical) z = logical (not (int_eq z (pos 0)))
 typed k z = integer z
@@ -164,17 +175,22 @@ unfoldable mutual
   value s (signed sign e) m = value s e m >>= λ x. integer (with_sign sign (as_integer x))
   value s (negated e) m = value s e m >>= λ x. logical (not (as_logical x))
   value s (binary operator a b) m =
-      value s a m >>= λ x. unless_decided (decided operator x) (value s b m >>= λ y. operated operator x y)
+      value s a m >>=
+      λ x. unless_decided (decided operator x) (value s b m >>= λ y. operated operator x y)
   value s (paren e) m = value s e m
   value s (element letters es) m =
-      by_dimensions (s.arrays letters) (λ ds. subscripts s ds es m >>= λ ss. typed (s.types letters) (m letters ss)) (arguments s es m >>= λ vs. called (s.calls letters) vs m)
+      by_dimensions
+      (s.arrays letters) (λ ds. subscripts s ds es m >>=
+      λ ss. typed (s.types letters) (m letters ss)) (arguments s es m >>=
+      λ vs. called (s.calls letters) vs m)
   value s (call letters) m = called (s.calls letters) [] m
 
   -- the values of subscripts, each checked against its bounds as soon as it has its value
   pub subscripts : Scope → List Dimension → ExprsTree → Map → Result (List ℤ) FaultKind
   subscripts s ds no_exprs m = Ok []
   subscripts s ds (exprs e es) m =
-      value s e m >>= λ x. in_first ds (as_integer x) >>= λ i. subscripts s (others ds) es m >>= λ is. Ok (i ∷ is)
+      value s e m >>= λ x. in_first ds (as_integer x) >>= λ i. subscripts s (others ds) es m >>=
+      λ is. Ok (i ∷ is)
 
   -- the values of arguments, first to last
   pub arguments : Scope → ExprsTree → Map → Result (List Value) FaultKind

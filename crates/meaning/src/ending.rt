@@ -77,7 +77,8 @@ pub struct Fault {
 pub enum Outcome {
     /// Normally: execution goes on behind them (ANSI X3.9-1978, 11.1).
     Normal,
-    /// By a transfer of control to the statement with this label, which isn't one of the list (11.1 to 11.4).
+    /// By a transfer of control to the statement with this label, which isn't one of the list (11.1
+    /// to 11.4).
     Left(u32),
     /// By the STOP statement at this line (11.12).
     Stopped(u32),
@@ -92,8 +93,8 @@ pub struct Run {
     pub turns_used: u64,
 }
 
-/// What a STOP statement tells (ANSI X3.9-1978, 11.12): its digits as they were written, or the characters of its character
-/// constant. It is empty where the statement has neither.
+/// What a STOP statement tells (ANSI X3.9-1978, 11.12): its digits as they were written, or the
+/// characters of its character constant. It is empty where the statement has neither.
 #[derive(Drop, Debug)]
 pub struct StopMessage {
     text: Vec<u8>,
@@ -154,8 +155,9 @@ pub enum Ending {
     WriteRefused,
 }
 
-/// What is told of a run: how it ended, and how many turns it used. Those are told of a run that was ended by its statements, and of
-/// no other: where the source was refused, memory or a write, there is no number.
+/// What is told of a run: how it ended, and how many turns it used. Those are told of a run that
+/// was ended by its statements, and of no other: where the source was refused, memory or a write,
+/// there is no number.
 #[derive(Drop, Debug, PartialEq, Eq)]
 pub struct Report {
     pub ending: Ending,

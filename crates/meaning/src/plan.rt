@@ -1,12 +1,13 @@
 //! How a program is run.
 
 ghost use Rattle.std.specs.Prelude.{◌≡◌};
-ghost use Rattle.meaning.specs.Plans.{IsIn, in_range, most_workers, most_trips, most_blocks, most_turns, plan_of};
+ghost use Rattle.meaning.specs.Plans.{IsIn, in_range, most_workers, most_trips, most_blocks};
+ghost use Rattle.meaning.specs.Plans.{most_turns, plan_of};
 
 use std::marker::Model;
 
-/// How a program is run: by how many workers, in blocks of how many trips of a DO, how many blocks at a time, and with how
-/// many turns at most. Each number is in its range.
+/// How a program is run: by how many workers, in blocks of how many trips of a DO, how many blocks
+/// at a time, and with how many turns at most. Each number is in its range.
 #[derive(Clone, Copy, Debug, PartialEq, Eq)]
 pub struct Plan {
     workers: u64,
@@ -43,8 +44,9 @@ impl Model for Plan {
 }
 
 impl Plan {
-    /// The plan with these numbers: 1 to 64 workers, 1 to 1,000,000 trips in a block, 1 to 256 blocks at a time and
-    /// 1 to 1,000,000,000,000 turns. There is none where a number is out of its range.
+    /// The plan with these numbers: 1 to 64 workers, 1 to 1,000,000 trips in a block, 1 to 256
+    /// blocks at a time and 1 to 1,000,000,000,000 turns. There is none where a number is out of
+    /// its range.
     pub fn new(workers: u64, block: u64, window: u64, turns: u64) -> Option<Self>
         ensures { result ≡ plan_of workers block window turns }
     {

@@ -9,7 +9,8 @@ ghost use Rattle.meaning.specs.declared.refusal.Refusal.TheVariants.{Memory};
 use std::alloc::{AllocError, AllocFailed};
 use std::fmt;
 
-/// A rule of the profile, by the name that the program prints. docs/LANGUAGE.md says what each one asks.
+/// A rule of the profile, by the name that the program prints. docs/LANGUAGE.md says what each one
+/// asks.
 #[derive(Clone, Copy, Debug, PartialEq, Eq)]
 pub enum Rule {
     /// A byte outside 32 to 126 in columns 1 to 72.
@@ -32,15 +33,16 @@ pub enum Rule {
     G2,
     /// More than 64 parentheses open at once.
     G3,
-    /// A statement that may not stand behind one that was read: PROGRAM behind any; IMPLICIT, PARAMETER, a type statement or
-    /// DIMENSION behind a DATA statement, a statement function's or an executable one, END included; or IMPLICIT behind a type
-    /// statement or DIMENSION.
+    /// A statement that may not stand behind one that was read: PROGRAM behind any; IMPLICIT,
+    /// PARAMETER, a type statement or DIMENSION behind a DATA statement, a statement function's or
+    /// an executable one, END included; or IMPLICIT behind a type statement or DIMENSION.
     N1,
     /// The END statement is missing, or a statement follows it.
     N2,
     /// ELSE IF, ELSE or END IF out of place, or END inside a block IF.
     N3,
-    /// A DO range that crosses another or a block IF, a terminal statement that isn't allowed, or END inside a DO range.
+    /// A DO range that crosses another or a block IF, a terminal statement that isn't allowed, or
+    /// END inside a DO range.
     N4,
     /// A DO or block IF that would be the 33rd open one.
     N5,
@@ -48,27 +50,32 @@ pub enum Rule {
     K1,
     /// A transfer to a label that no statement has, or that none may be reached by.
     K2,
-    /// A variable, array, constant, statement function or dummy argument of type REAL, or, under IMPLICIT NONE, of no type.
+    /// A variable, array, constant, statement function or dummy argument of type REAL, or, under
+    /// IMPLICIT NONE, of no type.
     K3,
-    /// A name that is given a type, bounds, a value or an expression twice, or that is used as what it isn't; a letter in two
-    /// IMPLICIT ranges; IMPLICIT NONE beside another IMPLICIT statement.
+    /// A name that is given a type, bounds, a value or an expression twice, or that is used as what
+    /// it isn't; a letter in two IMPLICIT ranges; IMPLICIT NONE beside another IMPLICIT statement.
     K4,
     /// An expression of the wrong type.
     K5,
-    /// An integer constant outside the range of INTEGER; a PARAMETER value or a bound that is no constant expression, or faults.
+    /// An integer constant outside the range of INTEGER; a PARAMETER value or a bound that is no
+    /// constant expression, or faults.
     K6,
     /// Too many dimensions or elements, or a lower bound above the upper one.
     K7,
-    /// A wrong number of subscripts or arguments, or an array without subscripts where it has to have them.
+    /// A wrong number of subscripts or arguments, or an array without subscripts where it has to
+    /// have them.
     K8,
-    /// A DO variable that is no INTEGER variable, or a statement that sets that of a DO or implied DO around it.
+    /// A DO variable that is no INTEGER variable, or a statement that sets that of a DO or implied
+    /// DO around it.
     K9,
     /// A DATA statement whose items and values don't fit.
     K10,
     /// A unit, a format label or a format that isn't allowed.
     K11,
-    /// An assignment to an element of what is no array, which is no statement function's there; a statement function that uses
-    /// itself or a later one, or has dummies that aren't distinct names, too many of them, too many levels or too many parts.
+    /// An assignment to an element of what is no array, which is no statement function's there; a
+    /// statement function that uses itself or a later one, or has dummies that aren't distinct
+    /// names, too many of them, too many levels or too many parts.
     K12,
     /// A reference to a function that is neither a statement function nor intrinsic.
     K13,
@@ -153,7 +160,8 @@ pub struct Broken {
 /// Why a source, or a part of it, is refused.
 #[derive(Clone, Copy, Debug, PartialEq, Eq)]
 pub enum Refusal {
-    /// A rule of the profile is broken: the least one of the least line, in the first phase that has one.
+    /// A rule of the profile is broken: the least one of the least line, in the first phase that
+    /// has one.
     Rule { rule: Rule, line: u32 },
     /// A growth was refused.
     Memory,
@@ -175,7 +183,8 @@ impl<T: Drop> From<AllocFailed<T>> for Refusal {
     }
 }
 
-/// The lesser of two broken rules: that of the lesser line, and at one line that of the lesser rank.
+/// The lesser of two broken rules: that of the lesser line, and at one line that of the lesser
+/// rank.
 pub fn lesser(a: Option<Broken>, b: Option<Broken>) -> Option<Broken>
     ensures { result ≡ merge a b }
 {

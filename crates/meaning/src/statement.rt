@@ -2,7 +2,8 @@
 
 ghost use Rattle.std.specs.Prelude.{◌≤◌, vec_len};
 
-/// A statement: what the columns of its initial line and of its continuation lines hold (ANSI X3.9-1978, 3.2 and 3.3).
+/// A statement: what the columns of its initial line and of its continuation lines hold (ANSI
+/// X3.9-1978, 3.2 and 3.3).
 #[derive(Drop)]
 pub struct Statement {
     /// The number of its initial line, counted from 1.

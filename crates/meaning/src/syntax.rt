@@ -86,8 +86,8 @@ pub enum Unit {
     Number(Expr),
 }
 
-/// The limits of a DO statement: the first and the last value of its variable, and the step, which is 1 when not
-/// written (ANSI X3.9-1978, 11.10).
+/// The limits of a DO statement: the first and the last value of its variable, and the step, which
+/// is 1 when not written (ANSI X3.9-1978, 11.10).
 #[derive(Drop)]
 pub struct Limits {
     pub first: Expr,
@@ -147,8 +147,8 @@ pub enum StopText {
     Constant(Vec<u8>),
 }
 
-/// An item of the list of a WRITE, PRINT or DATA statement: an expression, or an implied DO (ANSI X3.9-1978, 9.1 and
-/// 12.8.2).
+/// An item of the list of a WRITE, PRINT or DATA statement: an expression, or an implied DO (ANSI
+/// X3.9-1978, 9.1 and 12.8.2).
 #[derive(Drop)]
 #[cycle(list_item)]
 pub enum ListItem {
@@ -168,7 +168,8 @@ pub enum ListItems {
     More(ListItem, Box<ListItems>),
 }
 
-/// Along the list, so that no list is too long for the stack: a frame for each implied DO in another, and none for each item.
+/// Along the list, so that no list is too long for the stack: a frame for each implied DO in
+/// another, and none for each item.
 impl Drop for ListItems {
     #[cycle(list_item)]
     fn drop(mut self) {
@@ -212,8 +213,8 @@ pub struct DataValue {
     pub constant: DataConstant,
 }
 
-/// `list/values/` in a DATA statement (ANSI X3.9-1978, 9.1). The items of the list are names, elements and implied DOs,
-/// and inside implied DOs elements and implied DOs.
+/// `list/values/` in a DATA statement (ANSI X3.9-1978, 9.1). The items of the list are names,
+/// elements and implied DOs, and inside implied DOs elements and implied DOs.
 #[derive(Drop)]
 pub struct DataSet {
     /// Whether a comma stands before the list, as it may behind another set.
@@ -279,8 +280,8 @@ pub enum Shape {
     },
     /// `FORMAT(text)`
     Format(Vec<u8>),
-    /// `DO label variable=limits`, the label as its digits stand there; a comma may stand behind it. Or without a label, which
-    /// END DO ends.
+    /// `DO label variable=limits`, the label as its digits stand there; a comma may stand behind
+    /// it. Or without a label, which END DO ends.
     Do {
         label: Option<Vec<u8>>,
         comma: bool,
@@ -324,8 +325,8 @@ pub enum Shape {
         zero: Vec<u8>,
         positive: Vec<u8>,
     },
-    /// `IF(condition)statement`, the statement being an assignment, `name()=value`, any GO TO, an arithmetic IF, CONTINUE,
-    /// STOP, WRITE or PRINT.
+    /// `IF(condition)statement`, the statement being an assignment, `name()=value`, any GO TO, an
+    /// arithmetic IF, CONTINUE, STOP, WRITE or PRINT.
     LogicalIf(Expr, Box<Shape>),
     /// `IF(condition)THEN`
     IfThen(Expr),
@@ -341,15 +342,17 @@ pub enum Shape {
     End,
 }
 
-/// A form: what a statement says, no longer than a statement can be. It stands behind a pointer, so that a form in its place is
-/// moved as a few words are, and the proofs of those that move one needn't say all that a form can be.
+/// A form: what a statement says, no longer than a statement can be. It stands behind a pointer, so
+/// that a form in its place is moved as a few words are, and the proofs of those that move one
+/// needn't say all that a form can be.
 pub struct Form {
     pub shape: Box<Shape>,
     /// Twenty lines of 66 columns at most.
     ghost short: { length (spell (shape_tree shape.value)) ≤ 1320 },
 }
 
-/// Written out, so that the crates above call it and don't prove again how each part of a form is dropped.
+/// Written out, so that the crates above call it and don't prove again how each part of a form is
+/// dropped.
 impl Drop for Form {
     fn drop(self) {
         let Form { shape } = self;
@@ -384,7 +387,8 @@ pub enum Member {
     Block(Block),
 }
 
-/// A DO statement and its range, the statements behind it up to its terminal statement (ANSI X3.9-1978, 11.10).
+/// A DO statement and its range, the statements behind it up to its terminal statement (ANSI
+/// X3.9-1978, 11.10).
 #[derive(Drop)]
 #[cycle(member)]
 pub struct Loop {
@@ -392,8 +396,8 @@ pub struct Loop {
     pub range: Vec<Member>,
 }
 
-/// A block IF: its arms, and its END IF statement, which belongs to the list that holds the block IF (ANSI X3.9-1978, 11.6
-/// to 11.9).
+/// A block IF: its arms, and its END IF statement, which belongs to the list that holds the block
+/// IF (ANSI X3.9-1978, 11.6 to 11.9).
 #[derive(Drop)]
 #[cycle(member)]
 pub struct Block {
@@ -401,7 +405,8 @@ pub struct Block {
     pub end: Item,
 }
 
-/// An arm of a block IF: its IF THEN, ELSE IF or ELSE statement, and the statements behind it (ANSI X3.9-1978, 11.6 to 11.8).
+/// An arm of a block IF: its IF THEN, ELSE IF or ELSE statement, and the statements behind it (ANSI
+/// X3.9-1978, 11.6 to 11.8).
 #[derive(Drop)]
 #[cycle(member)]
 pub struct Arm {

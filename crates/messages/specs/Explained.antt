@@ -1,13 +1,14 @@
 -- What is told of an ending behind its line.
-use Rattle.std.specs.Prelude.{◌≡◌, ◌⊎◌, ℕ, Bool, true, false, List, [], ◌∷◌, ◌++◌, map, Option, Some, None, codes, decimal, take}
+use Rattle.std.specs.Prelude.{◌≡◌, ◌⊎◌, ℕ, Bool, true, false, List, [], ◌∷◌, ◌++◌, map, Option}
+use Rattle.std.specs.Prelude.{Some, None, codes, decimal, take}
 use Rattle.meaning.specs.declared.ending.Ending.{Ending}
 use Rattle.meaning.specs.declared.ending.Ending.TheVariants as endings
 use Rattle.meaning.specs.declared.ending.Fault.{Fault}
 use Rattle.meaning.specs.declared.refusal.Rule.{Rule}
 use Rattle.meaning.specs.declared.refusal.Rule.TheVariants.{C1, C7}
 use Rattle.meaning.specs.Names.{fault_name, rule_name}
-use Rattle.rule_texts.specs.declared.FaultText.{FaultText}
-use Rattle.rule_texts.specs.declared.RuleText.{RuleText}
+use Rattle.rule_help.specs.declared.FaultText.{FaultText}
+use Rattle.rule_help.specs.declared.RuleText.{RuleText}
 use Rattle.source_columns.specs.Excerpts.{excerpt}
 use Rattle.messages.specs.declared.explaining.Known.{Known}
 use Rattle.messages.specs.declared.explaining.Matter.{Matter}
@@ -73,14 +74,16 @@ sentence_behind matter (c ∷ cs) = told_line matter.sentence.now
 -- where it is, what is wrong there, the lines of the statement, and the sentence
 abbrev pub explained : List ℕ → List ℕ → Matter → Place → List ℕ → List ℕ
 explained file source matter place text =
-    headline file matter place text ++ lines_at (is_shown matter.rule) source place ++ sentence_behind matter text
+    headline file matter place text ++ lines_at (is_shown matter.rule) source place
+    ++ sentence_behind matter text
 
 -- ---- where a message points, and what is wrong there
 
 -- of characters the first that isn't printable, if there is one
 abbrev pub AreCharacters : List ℕ → ℕ → Place → List ℕ → Type 0
 AreCharacters source line place text =
-    ((place.line ≡ line) × IsUnprintable (take 72 (line_in line source)) place.column text) ⊎ (IsFirst source line place × (text ≡ []))
+    ((place.line ≡ line) × IsUnprintable (take 72 (line_in line source)) place.column text)
+    ⊎ (IsFirst source line place × (text ≡ []))
 
 -- the place that is known, or where the statement begins
 abbrev pub IsPlaced : List ℕ → ℕ → Option Place → Place → Type 0
@@ -89,4 +92,5 @@ IsPlaced source line None place = IsFirst source line place
 
 abbrev pub IsAbout : List ℕ → Option Rule → ℕ → Known → Place → List ℕ → Type 0
 IsAbout source (Some C1) line known place text = AreCharacters source line place text
-IsAbout source rule line known place text = IsPlaced source line known.place place × (text ≡ known.text.items)
+IsAbout source rule line known place text =
+    IsPlaced source line known.place place × (text ≡ known.text.items)

@@ -28,4 +28,5 @@ IsHintLine (Some hint) lines = (text : List ℕ) × (lines ≡ hint_line text)
 -- where a growth was refused for it, so
 abbrev pub IsHinted : List ℕ → Option Cause → List ℕ → Type 0
 IsHinted source None lines = lines ≡ []
-IsHinted source (Some cause) lines = (lines ≡ told_line (codes "NOT TOLD")) ⊎ IsHintLine (hint_in source cause) lines
+IsHinted source (Some cause) lines =
+    (lines ≡ told_line (codes "NOT TOLD")) ⊎ IsHintLine (hint_in source cause) lines

@@ -1,5 +1,7 @@
 -- Where a message points, and the lines of a source that it shows.
-use Rattle.std.specs.Prelude.{◌≡◌, ℕ, ◌+◌, ◌-◌, ◌==◌, Bool, not, List, [], ◌∷◌, ◌++◌, length, take, drop, map, Option, Some, None, codes, decimal, get_or, nat_lt, position, if◌then◌else◌}
+use Rattle.std.specs.Prelude.{◌≡◌, ℕ, ◌+◌, ◌-◌, ◌==◌, Bool, not, List, [], ◌∷◌, ◌++◌, length, take}
+use Rattle.std.specs.Prelude.{drop, map, Option, Some, None, codes, decimal, get_or, nat_lt}
+use Rattle.std.specs.Prelude.{position, if◌then◌else◌}
 use Rattle.std.proofs.Math.ListN.{replicate}
 use Rattle.meaning.specs.Lines.{lines_of}
 use Rattle.meaning.specs.Statements.{is_printable}

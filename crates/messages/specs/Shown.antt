@@ -1,5 +1,6 @@
 -- Bytes for people, and what a sink has of them.
-use Rattle.std.specs.Prelude.{◌≡◌, ◌⊎◌, ℕ, Bool, false, true, List, [], ◌++◌, map, codes, if◌then◌else◌}
+use Rattle.std.specs.Prelude.{◌≡◌, ◌⊎◌, ℕ, Bool, false, true, List, [], ◌++◌, map, codes}
+use Rattle.std.specs.Prelude.{if◌then◌else◌}
 use Rattle.meaning.specs.Promise.{Told, Took, IsBroken}
 use Rattle.meaning.specs.Statements.{is_printable}
 
@@ -15,7 +16,8 @@ told_line line = codes "  " ++ map shown line ++ codes "\n"
 abbrev pub hint_line : List ℕ → List ℕ
 hint_line text = codes "  HINT: " ++ map shown text ++ codes "\n"
 
--- a sink took all of the bytes, or a beginning of them and then refused; one that had refused took none
+-- a sink took all of the bytes, or a beginning of them and then refused; one that had refused took
+-- none
 pub record IsTold (bytes : List ℕ) (old new : Told) : Type 0 where
   pub tried : old.refused ≡ false → Took old new bytes ⊎ IsBroken bytes old new
   pub over : old.refused ≡ true → Took old new []

@@ -1,8 +1,10 @@
-//! What is told of an ending behind its line: where it was and what is wrong there, the lines of the statement, and the rule or the
-//! fault in a sentence.
+//! What is told of an ending behind its line: where it was and what is wrong there, the lines of
+//! the statement, and the rule or the fault in a sentence.
 
 ghost use Rattle.std.specs.Prelude.{◌≡◌};
-ghost use Rattle.messages.specs.Explained.{AreCharacters, IsAbout, IsMatter, IsPlaced, IsRuleMatter, explained, headline, is_shown, lines_at, place_text, said, sentence_behind};
+ghost use Rattle.messages.specs.Explained.{AreCharacters, IsAbout, IsMatter, IsPlaced};
+ghost use Rattle.messages.specs.Explained.{IsRuleMatter, explained, headline, is_shown, lines_at};
+ghost use Rattle.messages.specs.Explained.{place_text, said, sentence_behind};
 ghost use Rattle.messages.specs.Knowing.{IsNothing};
 ghost use Rattle.messages.specs.Shown.{IsTold};
 
@@ -11,7 +13,7 @@ use crate::putting::{put, put_line, put_number, put_shown};
 use meaning::ending::Ending;
 use meaning::refusal::Rule;
 use record_sinks::Sink;
-use rule_texts::{text_of_fault, text_of_rule};
+use rule_help::{text_of_fault, text_of_rule};
 use std::alloc::Global;
 use word_places::Place;
 
@@ -28,7 +30,8 @@ pub struct Matter {
     pub sentence: &'static str,
 }
 
-/// What is told of it: where a message points, and what is wrong there, empty where that is the sentence.
+/// What is told of it: where a message points, and what is wrong there, empty where that is the
+/// sentence.
 #[derive(Clone, Copy, Debug)]
 pub struct About<'a> {
     /// Where a message points.
@@ -65,7 +68,8 @@ pub fn matter_of_rule(rule: Rule, line: u32) -> Matter
     }
 }
 
-/// What is known of what is wrong beside its line: of a fault what it was about, of a rule what breaks it.
+/// What is known of what is wrong beside its line: of a fault what it was about, of a rule what
+/// breaks it.
 #[derive(Drop)]
 pub struct Known {
     /// Where that stands, if it stands in the source.
@@ -86,10 +90,11 @@ impl Known {
     }
 }
 
-/// Where a message on a matter points, and what is wrong there: of C1 the first byte that isn't printable, and else what is known,
-/// where no place is at the first character of the statement.
+/// Where a message on a matter points, and what is wrong there: of C1 the first byte that isn't
+/// printable, and else what is known, where no place is at the first character of the statement.
 pub fn about_of<'a>(source: &[u8], matter: Matter, known: &'a Known) -> About<'a>
-    ensures { IsAbout source.now matter.rule matter.line known.entry.now result.place result.text.now }
+    ensures { IsAbout source.now matter.rule matter.line known.entry.now result.place
+        result.text.now }
 {
     if matter.rule == Some(Rule::C1) {
         about_characters(source, matter.line)
@@ -127,9 +132,11 @@ fn about_characters(source: &[u8], line: u32) -> About<'static>
     }
 }
 
-/// Writes the line that editors jump to, the lines of the statement, and behind what is wrong the sentence.
+/// Writes the line that editors jump to, the lines of the statement, and behind what is wrong the
+/// sentence.
 pub fn put_about<S: Sink>(file: &str, source: &[u8], matter: Matter, about: About<'_>, err: &mut S)
-    ensures { IsTold (explained file.now source.now matter about.entry.place about.entry.text.now) (S.told err.old) (S.told err.new) }
+    ensures { IsTold (explained file.now source.now matter about.entry.place about.entry.text.now)
+        (S.told err.old) (S.told err.new) }
 {
     put_headline(file, matter, about, err);
     put_lines(is_shown(matter.rule), source, about.place, err);
@@ -163,7 +170,8 @@ fn put_sentence<S: Sink>(matter: Matter, text: &[u8], err: &mut S)
 
 // Writes the line that editors jump to.
 fn put_headline<S: Sink>(file: &str, matter: Matter, about: About<'_>, err: &mut S)
-    ensures { IsTold (headline file.now matter about.entry.place about.entry.text.now) (S.told err.old) (S.told err.new) }
+    ensures { IsTold (headline file.now matter about.entry.place about.entry.text.now)
+        (S.told err.old) (S.told err.new) }
 {
     put_shown(file.as_bytes(), err);
     put_place(about.place, err);

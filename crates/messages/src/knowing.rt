@@ -12,7 +12,8 @@ use meaning::syntax::Tree;
 use std::alloc::{AllocError, Global};
 use word_places::place_of;
 
-/// What breaks a rule K at a line of the program unit that a source spells; nothing of what none is known.
+/// What breaks a rule K at a line of the program unit that a source spells; nothing of what none is
+/// known.
 ///
 /// # Errors
 ///

@@ -1,5 +1,6 @@
-//! What is told on standard error, in the form that editors know: where a rule is broken or a fault happened, what is wrong there,
-//! and the lines of the source (GNU Coding Standards, "Formatting Error Messages").
+//! What is told on standard error, in the form that editors know: where a rule is broken or a fault
+//! happened, what is wrong there, and the lines of the source (GNU Coding Standards, "Formatting
+//! Error Messages").
 #![tactic(auto)]
 
 mod explaining;

@@ -3,7 +3,8 @@
 ghost use Rattle.std.specs.Prelude.{◌≡◌};
 ghost use Rattle.messages.specs.Named.{file_named};
 
-/// The name of the file that a source is read from, for messages; where there is none, or a minus sign, that is standard input.
+/// The name of the file that a source is read from, for messages; where there is none, or a minus
+/// sign, that is standard input.
 pub fn file_name<'a>(file: Option<&'a str>) -> &'a str
     ensures { result.now ≡ file_named file.entry }
 {

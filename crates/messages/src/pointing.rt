@@ -1,10 +1,13 @@
 //! Where a message points, and the lines of the source that it shows.
 
-ghost use Rattle.std.specs.Prelude.{◌≡◌, ◌<◌, ◌≤◌, IfSome, MatchOption, None, drop, length, position, take};
+ghost use Rattle.std.specs.Prelude.{◌≡◌, ◌<◌, ◌≤◌, IfSome, MatchOption, None, drop, length};
+ghost use Rattle.std.specs.Prelude.{position, take};
 ghost use Rattle.std.proofs.Math.ListN.{replicate};
 ghost use Rattle.meaning.specs.Lines.{lines_of};
 ghost use Rattle.source_columns.specs.Excerpts.{continued, excerpt};
-ghost use Rattle.messages.specs.Pointed.{IsFirst, IsUnprintable, behind_mark, body, byte_text, column_of, further, is_character, is_unprintable, line_in, mark_line, numbered, pointed, statement_field};
+ghost use Rattle.messages.specs.Pointed.{IsFirst, IsUnprintable, behind_mark, body, byte_text};
+ghost use Rattle.messages.specs.Pointed.{column_of, further, is_character, is_unprintable, line_in};
+ghost use Rattle.messages.specs.Pointed.{mark_line, numbered, pointed, statement_field};
 ghost use Rattle.messages.specs.Shown.{IsTold};
 
 use crate::putting::{put, put_shown};
@@ -23,8 +26,8 @@ fn line_in(source: &[u8], number: u32) -> &[u8]
     }
 }
 
-/// The place of the first character of the statement that begins at a line, behind its label; column 1 where the line has no character
-/// in columns 7 to 72.
+/// The place of the first character of the statement that begins at a line, behind its label;
+/// column 1 where the line has no character in columns 7 to 72.
 pub(crate) fn first_place(source: &[u8], line: u32) -> Place
     ensures { IsFirst source.now line result }
 {
@@ -32,7 +35,8 @@ pub(crate) fn first_place(source: &[u8], line: u32) -> Place
     Place { line, column }
 }
 
-/// The column of the first byte in columns 1 to 72 of a line that isn't printable, and what it is; none where all are.
+/// The column of the first byte in columns 1 to 72 of a line that isn't printable, and what it is;
+/// none where all are.
 pub(crate) fn unprintable(source: &[u8], line: u32) -> Option<(u32, &'static [u8])>
     ensures { MatchOption result
         (position is_unprintable (take 72 (line_in line source.now)) ≡ None)
@@ -110,10 +114,11 @@ fn column_of(line: &[u8]) -> u32
     }
 }
 
-/// Writes the line of a place with its number, a mark below its column, and up to two continuation lines behind it; nothing where
-/// there is no such line.
+/// Writes the line of a place with its number, a mark below its column, and up to two continuation
+/// lines behind it; nothing where there is no such line.
 pub(crate) fn put_pointed<S: Sink>(source: &[u8], place: Place, err: &mut S)
-    ensures { IsTold (pointed place (excerpt place.line source.now)) (S.told err.old) (S.told err.new) }
+    ensures { IsTold (pointed place (excerpt place.line source.now)) (S.told err.old)
+        (S.told err.new) }
 {
     if let Some((first, behind)) = line_at(source, place.line) {
         put_numbered(place.line, first, err);
@@ -162,7 +167,8 @@ fn put_blanks<S: Sink>(count: usize, err: &mut S)
 
 // Writes up to two of the continuation lines that come first among lines.
 fn put_behind<S: Sink>(source: &[u8], err: &mut S)
-    ensures { IsTold (behind_mark (continued (lines_of source.now))) (S.told err.old) (S.told err.new) }
+    ensures { IsTold (behind_mark (continued (lines_of source.now))) (S.told err.old)
+        (S.told err.new) }
 {
     if let Some((first, behind)) = next_continuation(source) {
         put_further(first, err);

@@ -7,7 +7,7 @@ use Rattle.std.specs.Str.{bytes_eq}
 use Rattle.std.proofs.lemmas.List.{append-nil}
 use Rattle.meaning.specs.NameRules.{given_by, given_from, repeats, shares}
 use Rattle.meaning.specs.Syntax.{ItemTree}
-use Rattle.meaning.specs.Uses.{Roles, is_defining, is_one_of}
+use Rattle.meaning.specs.Uses.{Symbols, is_defining, is_one_of}
 use Rattle.rule_passes.proofs.Missing.{any_both}
 use Rattle.finding.specs.Answers.{IsAnswer}
 use Rattle.finding.proofs.Answering.{or_answer, same_answer, test_answer}
@@ -28,7 +28,7 @@ last_first false true c = refl
 last_first false false true = refl
 last_first false false false = refl
 
-module _ (r : Roles) (k : Giving) (n : List ℕ) where
+module _ (r : Symbols) (k : Giving) (n : List ℕ) where
   -- a statement gives it exactly where there is a line
   pub given_somewhere : (front xs : List ItemTree) → is_one_of (flat_map (names_by k) (given_from r front xs)) n ≡ is_some (giving_line r k front xs n)
   unfolding giving_line given_from
@@ -81,7 +81,7 @@ module _ (r : Roles) (k : Giving) (n : List ℕ) where
       let f = line_found [] before line is in
       record { front = f.front; earlier = f.earlier; back = f.back; parts = f.parts; line_is = f.line_is; gives_it = f.gives_it }
 
-module _ (r : Roles) (before : List ItemTree) (x : ItemTree) where
+module _ (r : Symbols) (before : List ItemTree) (x : ItemTree) where
   abbrev by : Told → Type 0
   by = IsGiven r before x
 

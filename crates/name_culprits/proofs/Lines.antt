@@ -7,9 +7,9 @@ use Rattle.meaning.specs.declared.syntax.DataType.{DataType}
 use Rattle.meaning.specs.declared.syntax.Item.{Item}
 use Rattle.meaning.specs.Syntax.{DeclaratorTree}
 use Rattle.meaning.specs.Types.{typed_as}
-use Rattle.meaning.specs.Uses.{Roles, is_one_of}
-use Rattle.roles.specs.Listed.{tree_at, trees_at}
-use Rattle.roles.proofs.Passes.{map_left, map_more}
+use Rattle.meaning.specs.Uses.{Symbols, is_one_of}
+use Rattle.symbols.specs.Listed.{tree_at, trees_at}
+use Rattle.symbols.proofs.Passes.{map_left, map_more}
 use Rattle.name_culprits.specs.declared.culprit.Giving.{Giving}
 use Rattle.name_culprits.specs.Names.{gives, giving_line}
 
@@ -17,7 +17,7 @@ pub typed_names : (k : DataType) (ds : List DeclaratorTree) → map (λ t. t.nam
 typed_names k [] = refl
 typed_names k (d ∷ ds) = ap (λ ns. d.name ∷ ns) (typed_names k ds)
 
-module _ (r : Roles) (k : Giving) (n : List ℕ) where
+module _ (r : Symbols) (k : Giving) (n : List ℕ) where
   module _ (ms : List (Bor Item)) (i : ℕ) where
     line_left : (m : Bor Item) → i < length ms → m ≡ get_or ms i m → giving_line r k (trees_at (take i ms)) (trees_at (drop i ms)) n ≡ (if is_one_of (gives r k (trees_at (take i ms)) (tree_at m)) n then Some (tree_at m).line else giving_line r k (trees_at (take i ms) ++ tree_at m ∷ []) (trees_at (drop (i + 1) ms)) n)
     unfolding giving_line

@@ -6,7 +6,7 @@ use Rattle.std.specs.Option.{option_or}
 use Rattle.meaning.specs.NameRules.{Given, given_by, given_from, given_twice, has_rival, has_two_roles, is_against_role, is_both, is_disputed, is_implicit, is_logical_function, letters_clash, letters_in, repeats, sets_constant, shares}
 use Rattle.meaning.specs.Syntax.{ItemTree, ShapeTree, assignment, definition, logical_if, implying, implicit_none}
 use Rattle.meaning.specs.Types.{has_implicit_none, is_implicit_none}
-use Rattle.meaning.specs.Uses.{Roles, Use, is_constant, is_defining, parts_at, parts_from, uses_at}
+use Rattle.meaning.specs.Uses.{Symbols, Use, is_constant, is_defining, parts_at, parts_from, uses_at}
 use Rattle.finding.specs.Answers.{IsAnswer}
 use Rattle.finding.proofs.Answering.{find_answer, or_answer, test_answer, weaker_answer}
 use Rattle.finding.proofs.Found.{any_found, found, none_found}
@@ -24,7 +24,7 @@ either_answer {K} p q a b o u h g =
 
 -- ---- what is given
 
-module _ (r : Roles) (before : List ItemTree) (x : ItemTree) where
+module _ (r : Symbols) (before : List ItemTree) (x : ItemTree) where
   abbrev gs : List Given
   gs = given_from r [] before
 
@@ -39,13 +39,13 @@ module _ (r : Roles) (before : List ItemTree) (x : ItemTree) where
 
 -- ---- what is used
 
-assigned_answer : (r : Roles) (s : ShapeTree) → IsAnswer (IsAssigned r s) (sets_constant r s) (assigned_in r s)
+assigned_answer : (r : Symbols) (s : ShapeTree) → IsAnswer (IsAssigned r s) (sets_constant r s) (assigned_in r s)
 assigned_answer r (assignment n es e) = test_answer (IsAssigned r (assignment n es e)) (is_constant r n) (assigned n) (λ h. (n, refl, h, refl))
 assigned_answer r (definition n e) = test_answer (IsAssigned r (definition n e)) (is_constant r n) (assigned n) (λ h. (n, refl, h, refl))
 assigned_answer r (logical_if e s) = assigned_answer r s
 assigned_answer r s = refl
 
-used_answer : (r : Roles) (before : List ItemTree) (x : ItemTree) → IsAnswer (IsUsed r before x) (is_misused r before x) (used_in r (uses_at r before x) x.shape)
+used_answer : (r : Symbols) (before : List ItemTree) (x : ItemTree) → IsAnswer (IsUsed r before x) (is_misused r before x) (used_in r (uses_at r before x) x.shape)
 used_answer r before x =
     let us = uses_at r before x in
     either_answer (IsAgainst r us) (IsAssigned r x.shape) (list_any (is_against_role r) us) (sets_constant r x.shape) (option_map against_told (find (is_against_role r) us)) (assigned_in r x.shape) (find_answer (IsAgainst r us) against_told (is_against_role r) us (λ u at. (u, at.stands, at.passes, refl))) (assigned_answer r x.shape)
@@ -111,7 +111,7 @@ part_whole false false true false false true is = refl
 part_whole false false true false false false is = refl
 part_whole false false false d e f is = absurd cc
 
-pub names_told : (r : Roles) (before : List ItemTree) (x : ItemTree) → IsTold r before x (disputed_in r before x)
+pub names_told : (r : Symbols) (before : List ItemTree) (x : ItemTree) → IsTold r before x (disputed_in r before x)
 names_told r before x =
     let g = given_by r (is_defining r before x) x.shape in
     by_answer (disputed_in r before x) (either_answer (IsGiven r before x) (λ k. IsUsed r before x k ⊎ IsRival before k) (is_overgiven r before x) (is_misused r before x || has_rival before x) (given_in r before x.line g) (option_or (used_in r (uses_at r before x) x.shape) (rival_in before x.shape)) (overgiven_answer r before x g) (either_answer (IsUsed r before x) (IsRival before) (is_misused r before x) (has_rival before x) (used_in r (uses_at r before x) x.shape) (rival_in before x.shape) (used_answer r before x) (rival_answer before x.shape)))

@@ -4,8 +4,9 @@ use Rattle.name_culprits.specs.declared.culprit.Giving.{Giving}
 use Rattle.name_culprits.specs.declared.culprit.NameCulprit.{NameCulprit}
 use Rattle.name_culprits.specs.declared.culprit.NameCulprit.TheVariants as culprits
 
--- a name, what a statement gives it, and the line of that one; the name of a statement function without parentheses; that of a constant that
--- has them, or is set; the line of an IMPLICIT statement
+-- a name, what a statement gives it, and the line of that one; the name of a statement function
+-- without parentheses; that of a constant that has them, or is set; the line of an IMPLICIT
+-- statement
 pub data Told : Type 0 where
   given : List ℕ → Giving → ℕ → Told
   bare : List ℕ → Told

@@ -17,7 +17,8 @@ pub enum Giving {
     Either,
 }
 
-/// What breaks the rule on what names are at a statement (ANSI X3.9-1978, 8.1, 8.4 to 8.6 and 15.4).
+/// What breaks the rule on what names are at a statement (ANSI X3.9-1978, 8.1, 8.4 to 8.6 and
+/// 15.4).
 #[derive(Clone, Copy)]
 pub enum NameCulprit<'a> {
     /// The name is given something, and the statement of that line gives it this.

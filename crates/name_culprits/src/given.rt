@@ -3,20 +3,21 @@
 ghost use Rattle.std.specs.Prelude.{◌≡◌, [], Bool, IfOk};
 ghost use Rattle.meaning.specs.NameRules.{given_by};
 ghost use Rattle.meaning.specs.Syntax.{shape_tree};
-ghost use Rattle.meaning.specs.Uses.{Roles as Said, is_one_of};
-ghost use Rattle.roles.specs.Listed.{trees_at};
-ghost use Rattle.roles.specs.RolesAt.{roles_at};
+ghost use Rattle.meaning.specs.Uses.{Symbols as Said, is_one_of};
+ghost use Rattle.symbols.specs.Listed.{trees_at};
+ghost use Rattle.symbols.specs.SymbolsAt.{symbols_at};
 ghost use Rattle.name_uses.specs.Held.{AreNames, names_at};
-ghost use Rattle.roles.specs.Stages.{IsBehind};
+ghost use Rattle.symbols.specs.Stages.{IsBehind};
 ghost use Rattle.rule_passes.specs.Telling.{Finds};
-ghost use Rattle.name_uses.specs.NamesIn.{AreDefined, bounded, constant, declared, defined, typed, valued};
+ghost use Rattle.name_uses.specs.NamesIn.{AreDefined, bounded, constant, declared, defined, typed};
+ghost use Rattle.name_uses.specs.NamesIn.{valued};
 ghost use Rattle.name_culprits.specs.Names.{giving_line, names_by};
 ghost use Rattle.name_culprits.specs.GivesAt.{gives_at};
 
 use crate::culprit::Giving;
 use meaning::syntax::{Declarator, Item, NamedConstant, Shape};
-use roles::{Roles, Stage, declarators_in, defined_by};
 use std::alloc::{AllocError, Global};
+use symbols::{Stage, Symbols, declarators_in, defined_by};
 
 /// The names in a type or DIMENSION statement.
 fn declared_names<'a>(
@@ -87,13 +88,13 @@ fn valued_names<'a>(alloc: Global, shape: &'a Shape) -> Result<Vec<&'a [u8]>, Al
 /// The name of the statement function that a statement defines.
 fn function_name<'a>(
     alloc: Global,
-    roles: &Roles,
+    symbols: &Symbols,
     shape: &'a Shape,
 ) -> Result<Vec<&'a [u8]>, AllocError>
-    ensures { IfOk result (AreNames (defined (roles_at roles.now) (shape_tree shape.now))) }
+    ensures { IfOk result (AreNames (defined (symbols_at symbols.now) (shape_tree shape.now))) }
 {
     let mut names = Vec::new(alloc);
-    match defined_by(&roles.ranks, shape) {
+    match defined_by(&symbols.ranks, shape) {
         Some(function) => names.push(function.name)?,
         None => {}
     }
@@ -103,14 +104,14 @@ fn function_name<'a>(
 /// That name, if the statement is a statement function's.
 fn defined_names<'a>(
     alloc: Global,
-    roles: &Roles,
+    symbols: &Symbols,
     defines: bool,
     shape: &'a Shape,
 ) -> Result<Vec<&'a [u8]>, AllocError>
-    ensures { IfOk result (AreDefined defines (roles_at roles.now) (shape_tree shape.now)) }
+    ensures { IfOk result (AreDefined defines (symbols_at symbols.now) (shape_tree shape.now)) }
 {
     if defines {
-        function_name(alloc, roles, shape)
+        function_name(alloc, symbols, shape)
     } else {
         Ok(Vec::new(alloc))
     }
@@ -118,7 +119,8 @@ fn defined_names<'a>(
 
 /// The names that a statement gives bounds.
 fn arrays_in<'a>(alloc: Global, shape: &'a Shape) -> Result<Vec<&'a [u8]>, AllocError>
-    ensures { (said : Said) (defines : Bool) → IfOk result (AreNames (given_by said defines (shape_tree shape.now)).bounded) }
+    ensures { (said : Said) (defines : Bool) →
+        IfOk result (AreNames (given_by said defines (shape_tree shape.now)).bounded) }
 {
     bounded_names(alloc, declarators_in(shape))
 }
@@ -126,14 +128,17 @@ fn arrays_in<'a>(alloc: Global, shape: &'a Shape) -> Result<Vec<&'a [u8]>, Alloc
 /// The names that it gives bounds or an expression.
 fn shaped_names<'a>(
     alloc: Global,
-    roles: &Roles,
+    symbols: &Symbols,
     defines: bool,
     shape: &'a Shape,
 ) -> Result<Vec<&'a [u8]>, AllocError>
-    ensures { IfOk result (AreNames (names_by Giving.Either (given_by (roles_at roles.now) defines (shape_tree shape.now)))) }
+    ensures { IfOk result
+        (AreNames
+        (names_by Giving.Either
+        (given_by (symbols_at symbols.now) defines (shape_tree shape.now)))) }
 {
     let mut names = arrays_in(alloc, shape)?;
-    let more = defined_names(alloc, roles, defines, shape)?;
+    let more = defined_names(alloc, symbols, defines, shape)?;
     names.extend_from_slice(&more)?;
     Ok(names)
 }
@@ -141,19 +146,21 @@ fn shaped_names<'a>(
 /// The names that a statement gives something; it defines a statement function or doesn't.
 pub fn names_given<'a>(
     alloc: Global,
-    roles: &Roles,
+    symbols: &Symbols,
     defines: bool,
     shape: &'a Shape,
     giving: Giving,
 ) -> Result<Vec<&'a [u8]>, AllocError>
-    ensures { IfOk result (AreNames (names_by giving (given_by (roles_at roles.now) defines (shape_tree shape.now)))) }
+    ensures { IfOk result
+        (AreNames
+        (names_by giving (given_by (symbols_at symbols.now) defines (shape_tree shape.now)))) }
 {
     match giving {
         Giving::Typed => typed_names(alloc, shape),
         Giving::Bounds => arrays_in(alloc, shape),
         Giving::Value => valued_names(alloc, shape),
-        Giving::Expression => defined_names(alloc, roles, defines, shape),
-        Giving::Either => shaped_names(alloc, roles, defines, shape),
+        Giving::Expression => defined_names(alloc, symbols, defines, shape),
+        Giving::Either => shaped_names(alloc, symbols, defines, shape),
     }
 }
 
@@ -172,36 +179,39 @@ pub fn is_among(names: &[&[u8]], name: &[u8]) -> bool
 /// Whether the statement that comes now gives a name something.
 fn gives(
     alloc: Global,
-    roles: &Roles,
+    symbols: &Symbols,
     stage: &Stage,
     item: &Item,
     giving: Giving,
     name: &[u8],
 ) -> Result<bool, AllocError>
-    ensures { IfOk result (Finds (IsBehind roles.now stage.now) (gives_at roles.now giving item.now name.now)) }
+    ensures { IfOk result
+        (Finds (IsBehind symbols.now stage.now) (gives_at symbols.now giving item.now name.now)) }
 {
-    let defines = stage.is_defining(roles, item);
-    let names = names_given(alloc, roles, defines, &*item.form.shape, giving)?;
+    let defines = stage.is_defining(symbols, item);
+    let names = names_given(alloc, symbols, defines, &*item.form.shape, giving)?;
     Ok(is_among(&names, name))
 }
 
 /// The line of the first of some statements that gives a name something.
 pub fn line_giving(
     alloc: Global,
-    roles: &Roles,
+    symbols: &Symbols,
     before: &[&Item],
     giving: Giving,
     name: &[u8],
 ) -> Result<Option<u32>, AllocError>
-    ensures { IfOk result (λ l. l ≡ giving_line (roles_at roles.now) giving [] (trees_at before.now) name.now) }
+    ensures { IfOk
+        result (λ l. l
+        ≡ giving_line (symbols_at symbols.now) giving [] (trees_at before.now) name.now) }
 {
     let mut stage = Stage::new();
     for item in before {
-        let is_there = gives(alloc, roles, &stage, item, giving, name)?;
+        let is_there = gives(alloc, symbols, &stage, item, giving, name)?;
         if is_there {
             return Ok(Some(item.line));
         }
-        stage.pass(roles, item);
+        stage.pass(symbols, item);
     }
     Ok(None)
 }

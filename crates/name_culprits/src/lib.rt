@@ -1,4 +1,5 @@
-//! What breaks the rule on what names are (ANSI X3.9-1978, 8.1, 8.4 to 8.6 and 15.4), for whoever tells people of it.
+//! What breaks the rule on what names are (ANSI X3.9-1978, 8.1, 8.4 to 8.6 and 15.4), for whoever
+//! tells people of it.
 #![tactic(auto)]
 
 mod culprit;

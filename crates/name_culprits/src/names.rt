@@ -4,21 +4,22 @@ ghost use Rattle.std.specs.Prelude.{◌≡◌, ◌++◌, ◌∷◌, [], IfOk, On
 ghost use Rattle.meaning.specs.NameRules.{given_by};
 ghost use Rattle.meaning.specs.Syntax.{shape_tree};
 ghost use Rattle.name_uses.specs.Held.{names_at};
-ghost use Rattle.name_culprits.specs.Names.{again_in, given_before, names_by, seen_told, shared_in, two_roles_in, twice_in};
-ghost use Rattle.name_culprits.specs.Searched.{again_one, before_at, given_at, roles_in};
+ghost use Rattle.name_culprits.specs.Names.{again_in, given_before, names_by, seen_told, shared_in};
+ghost use Rattle.name_culprits.specs.Names.{two_roles_in, twice_in};
+ghost use Rattle.name_culprits.specs.Searched.{again_one, before_at, given_at, symbols_in};
 ghost use Rattle.name_culprits.specs.Told.{tell};
 
 use crate::culprit::{Giving, NameCulprit};
 use crate::given::{is_among, line_giving, names_given};
 use meaning::syntax::{Item, Shape};
-use roles::Roles;
 use std::alloc::{AllocError, Global};
+use symbols::Symbols;
 
 /// What names are sought in.
 #[derive(Clone, Copy)]
 pub struct Search<'a> {
     pub alloc: Global,
-    pub roles: &'a Roles<'a>,
+    pub symbols: &'a Symbols<'a>,
     /// The statements before.
     pub before: &'a [&'a Item],
     /// The line of the statement.
@@ -31,9 +32,11 @@ fn before<'a>(
     giving: Giving,
     name: &'a [u8],
 ) -> Result<Option<NameCulprit<'a>>, AllocError>
-    ensures { IfOk result (λ c. tell c ≡ given_before (roles_in search.now) giving (before_at search.now) name.now) }
+    ensures { IfOk
+        result (λ c. tell c
+        ≡ given_before (symbols_in search.now) giving (before_at search.now) name.now) }
 {
-    match line_giving(search.alloc, search.roles, search.before, giving, name)? {
+    match line_giving(search.alloc, search.symbols, search.before, giving, name)? {
         Some(line) => Ok(Some(NameCulprit::Given { name, giving, line })),
         None => Ok(None),
     }
@@ -57,7 +60,8 @@ fn again_one<'a>(
     earlier: &[&[u8]],
     name: &'a [u8],
 ) -> Result<Option<NameCulprit<'a>>, AllocError>
-    ensures { IfOk result (λ c. tell c ≡ again_one search.now giving (names_at earlier.now) name.now) }
+    ensures { IfOk
+        result (λ c. tell c ≡ again_one search.now giving (names_at earlier.now) name.now) }
 {
     match before(search, giving, name)? {
         Some(culprit) => Ok(Some(culprit)),
@@ -79,7 +83,10 @@ fn again<'a>(
     giving: Giving,
     names: &[&'a [u8]],
 ) -> Result<Option<NameCulprit<'a>>, AllocError>
-    ensures { IfOk result (λ c. tell c ≡ again_in (roles_in search.now) giving (before_at search.now) search.now.line [] (names_at names.now)) }
+    ensures { IfOk
+        result (λ c. tell c
+        ≡ again_in (symbols_in search.now) giving (before_at search.now) search.now.line []
+        (names_at names.now)) }
 {
     let mut earlier = Vec::new(search.alloc);
     for name in names {
@@ -98,7 +105,9 @@ fn shared<'a>(
     giving: Giving,
     names: &[&'a [u8]],
 ) -> Result<Option<NameCulprit<'a>>, AllocError>
-    ensures { IfOk result (λ c. tell c ≡ shared_in (roles_in search.now) giving (before_at search.now) (names_at names.now)) }
+    ensures { IfOk
+        result (λ c. tell c
+        ≡ shared_in (symbols_in search.now) giving (before_at search.now) (names_at names.now)) }
 {
     for name in names {
         match before(search, giving, *name)? {
@@ -116,13 +125,17 @@ fn again_by<'a>(
     shape: &'a Shape,
     giving: Giving,
 ) -> Result<Option<NameCulprit<'a>>, AllocError>
-    ensures { IfOk result (λ c. tell c ≡ again_in (roles_in search.now) giving (before_at search.now) search.now.line [] (names_by giving (given_by (roles_in search.now) defines (shape_tree shape.now)))) }
+    ensures { IfOk
+        result (λ c. tell c
+        ≡ again_in (symbols_in search.now) giving (before_at search.now) search.now.line []
+        (names_by giving (given_by (symbols_in search.now) defines (shape_tree shape.now)))) }
 {
-    let names = names_given(search.alloc, search.roles, defines, shape, giving)?;
+    let names = names_given(search.alloc, search.symbols, defines, shape, giving)?;
     again(search, giving, &names)
 }
 
-/// The first name of a statement that gives it one thing, where a statement before gives it another.
+/// The first name of a statement that gives it one thing, where a statement before gives it
+/// another.
 fn shared_by<'a>(
     search: &Search,
     defines: bool,
@@ -130,9 +143,12 @@ fn shared_by<'a>(
     here: Giving,
     giving: Giving,
 ) -> Result<Option<NameCulprit<'a>>, AllocError>
-    ensures { IfOk result (λ c. tell c ≡ shared_in (roles_in search.now) giving (before_at search.now) (names_by here (given_by (roles_in search.now) defines (shape_tree shape.now)))) }
+    ensures { IfOk
+        result (λ c. tell c
+        ≡ shared_in (symbols_in search.now) giving (before_at search.now)
+        (names_by here (given_by (symbols_in search.now) defines (shape_tree shape.now)))) }
 {
-    let names = names_given(search.alloc, search.roles, defines, shape, here)?;
+    let names = names_given(search.alloc, search.symbols, defines, shape, here)?;
     shared(search, giving, &names)
 }
 
@@ -142,7 +158,10 @@ fn twice<'a>(
     defines: bool,
     shape: &'a Shape,
 ) -> Result<Option<NameCulprit<'a>>, AllocError>
-    ensures { IfOk result (λ c. tell c ≡ twice_in (roles_in search.now) (before_at search.now) search.now.line (given_by (roles_in search.now) defines (shape_tree shape.now))) }
+    ensures { IfOk
+        result (λ c. tell c
+        ≡ twice_in (symbols_in search.now) (before_at search.now) search.now.line
+        (given_by (symbols_in search.now) defines (shape_tree shape.now))) }
 {
     if let Some(culprit) = again_by(search, defines, shape, Giving::Typed)? {
         return Ok(Some(culprit));
@@ -162,7 +181,10 @@ fn two_roles<'a>(
     defines: bool,
     shape: &'a Shape,
 ) -> Result<Option<NameCulprit<'a>>, AllocError>
-    ensures { IfOk result (λ c. tell c ≡ two_roles_in (roles_in search.now) (before_at search.now) (given_by (roles_in search.now) defines (shape_tree shape.now))) }
+    ensures { IfOk
+        result (λ c. tell c
+        ≡ two_roles_in (symbols_in search.now) (before_at search.now)
+        (given_by (symbols_in search.now) defines (shape_tree shape.now))) }
 {
     if let Some(culprit) = shared_by(search, defines, shape, Giving::Value, Giving::Either)? {
         return Ok(Some(culprit));
@@ -170,7 +192,8 @@ fn two_roles<'a>(
     shared_by(search, defines, shape, Giving::Either, Giving::Value)
 }
 
-/// The first name of a statement that is given too much; the statement defines a statement function or doesn't.
+/// The first name of a statement that is given too much; the statement defines a statement function
+/// or doesn't.
 pub fn overgiven<'a>(
     search: &Search,
     defines: bool,

@@ -62,8 +62,8 @@ fn add_rival(bytes: &mut Vec<u8>, line: u32) -> Result<(), AllocError>
     add(bytes, " has IMPLICIT too")
 }
 
-/// Puts what breaks the rule on what names are behind a text, in the words of a message. The `AllocError` comes only where a growth
-/// was refused, and leaves a part of it there.
+/// Puts what breaks the rule on what names are behind a text, in the words of a message. The
+/// `AllocError` comes only where a growth was refused, and leaves a part of it there.
 pub fn add_name_text(bytes: &mut Vec<u8>, culprit: NameCulprit) -> Result<(), AllocError>
     ensures { OnOk result (bytes.new.items ≡ bytes.old.items ++ told_text (told_at culprit.entry)) }
 {

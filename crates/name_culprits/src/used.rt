@@ -1,4 +1,5 @@
-//! Names that are used against what they are, and all of the rule (ANSI X3.9-1978, 8.5, 8.6 and 15.4).
+//! Names that are used against what they are, and all of the rule (ANSI X3.9-1978, 8.5, 8.6 and
+//! 15.4).
 
 ghost use Rattle.std.specs.Prelude.{◌≡◌, option_map, IfOk};
 ghost use Rattle.std.specs.List.{find};
@@ -7,11 +8,12 @@ ghost use Rattle.meaning.specs.Syntax.{shape_tree};
 ghost use Rattle.meaning.specs.Trees.{item_tree};
 ghost use Rattle.meaning.specs.Types.{is_implicit_none as is_none};
 ghost use Rattle.meaning.specs.Uses.{is_constant, is_defining as is_defining_behind};
-ghost use Rattle.roles.specs.Listed.{trees_at};
-ghost use Rattle.roles.specs.RolesAt.{roles_at};
-ghost use Rattle.roles.specs.Stages.{IsBehind};
+ghost use Rattle.symbols.specs.Listed.{trees_at};
+ghost use Rattle.symbols.specs.SymbolsAt.{symbols_at};
+ghost use Rattle.symbols.specs.Stages.{IsBehind};
 ghost use Rattle.name_uses.specs.UsesAt.{use_at, uses_at};
-ghost use Rattle.name_culprits.specs.Names.{against_told, assigned_in, assigned_told, disputed_in, line_if, rival_in, used_in};
+ghost use Rattle.name_culprits.specs.Names.{against_told, assigned_in, assigned_told, disputed_in};
+ghost use Rattle.name_culprits.specs.Names.{line_if, rival_in, used_in};
 ghost use Rattle.name_culprits.specs.Searched.{disputed_at};
 ghost use Rattle.name_culprits.specs.Told.{rival, tell, told_at};
 
@@ -20,23 +22,23 @@ use crate::names::{Search, overgiven};
 use finding::first_passing;
 use meaning::syntax::{Item, Shape};
 use name_uses::{Arguments, NameUse, Sought, is_bare, uses_of};
-use roles::{Roles, Stage, is_constant_name, is_function_name, is_implicit_none};
 use std::alloc::{AllocError, Global};
+use symbols::{Stage, Symbols, is_constant_name, is_function_name, is_implicit_none};
 
 /// A use of a constant with parentheses, or of a statement function without.
 #[derive(Clone, Copy)]
 struct AgainstRole<'a> {
-    roles: &'a Roles<'a>,
+    symbols: &'a Symbols<'a>,
 }
 
 impl Sought for AgainstRole<'_> {
-    ghost is_use = { λ s u. is_against_role (roles_at s.roles.now) u };
+    ghost is_use = { λ s u. is_against_role (symbols_at s.symbols.now) u };
 
     fn is(&self, one: &NameUse) -> bool {
         match one.arguments {
-            Arguments::Bare => is_function_name(self.roles, one.name),
-            Arguments::Without => is_constant_name(self.roles, one.name),
-            Arguments::With(_) => is_constant_name(self.roles, one.name),
+            Arguments::Bare => is_function_name(self.symbols, one.name),
+            Arguments::Without => is_constant_name(self.symbols, one.name),
+            Arguments::With(_) => is_constant_name(self.symbols, one.name),
         }
     }
 }
@@ -53,10 +55,10 @@ fn against<'a>(one: NameUse<'a>) -> NameCulprit<'a>
 }
 
 /// A name, if it is a constant's.
-fn assigned_name<'a>(roles: &Roles, name: &'a [u8]) -> Option<NameCulprit<'a>>
-    ensures { tell result ≡ assigned_told (is_constant (roles_at roles.now) name.now) name.now }
+fn assigned_name<'a>(symbols: &Symbols, name: &'a [u8]) -> Option<NameCulprit<'a>>
+    ensures { tell result ≡ assigned_told (is_constant (symbols_at symbols.now) name.now) name.now }
 {
-    if is_constant_name(roles, name) {
+    if is_constant_name(symbols, name) {
         Some(NameCulprit::Set { name })
     } else {
         None
@@ -64,24 +66,25 @@ fn assigned_name<'a>(roles: &Roles, name: &'a [u8]) -> Option<NameCulprit<'a>>
 }
 
 /// The name of a constant that a statement assigns to.
-fn assigned<'a>(roles: &Roles, shape: &'a Shape) -> Option<NameCulprit<'a>>
-    ensures { tell result ≡ assigned_in (roles_at roles.now) (shape_tree shape.now) }
+fn assigned<'a>(symbols: &Symbols, shape: &'a Shape) -> Option<NameCulprit<'a>>
+    ensures { tell result ≡ assigned_in (symbols_at symbols.now) (shape_tree shape.now) }
 {
     match shape {
-        Shape::Assignment { name, .. } => assigned_name(roles, name),
-        Shape::Definition(name, _) => assigned_name(roles, name),
-        Shape::LogicalIf(_, statement) => assigned(roles, statement),
+        Shape::Assignment { name, .. } => assigned_name(symbols, name),
+        Shape::Definition(name, _) => assigned_name(symbols, name),
+        Shape::LogicalIf(_, statement) => assigned(symbols, statement),
         _ => None,
     }
 }
 
 /// The first name of a statement that is used against what it is.
-fn used<'a>(roles: &Roles, uses: &[NameUse<'a>], shape: &'a Shape) -> Option<NameCulprit<'a>>
-    ensures { tell result ≡ used_in (roles_at roles.now) (uses_at uses.now) (shape_tree shape.now) }
+fn used<'a>(symbols: &Symbols, uses: &[NameUse<'a>], shape: &'a Shape) -> Option<NameCulprit<'a>>
+    ensures { tell result
+        ≡ used_in (symbols_at symbols.now) (uses_at uses.now) (shape_tree shape.now) }
 {
-    match first_passing(uses, &AgainstRole { roles }) {
+    match first_passing(uses, &AgainstRole { symbols }) {
         Some(one) => Some(against(one)),
-        None => assigned(roles, shape),
+        None => assigned(symbols, shape),
     }
 }
 
@@ -142,21 +145,22 @@ fn rival_statement<'a>(before: &[&Item], shape: &Shape) -> Option<NameCulprit<'a
 }
 
 /// How far one has come behind statements.
-fn stage_behind(roles: &Roles, before: &[&Item]) -> Stage
-    ensures { IsBehind roles.now result (trees_at before.now) }
+fn stage_behind(symbols: &Symbols, before: &[&Item]) -> Stage
+    ensures { IsBehind symbols.now result (trees_at before.now) }
 {
     let mut stage = Stage::new();
     for item in before {
-        stage.pass(roles, item);
+        stage.pass(symbols, item);
     }
     stage
 }
 
 /// Whether the statement behind these is that of a statement function.
-fn is_defining(roles: &Roles, before: &[&Item], item: &Item) -> bool
-    ensures { result ≡ is_defining_behind (roles_at roles.now) (trees_at before.now) (item_tree item.now) }
+fn is_defining(symbols: &Symbols, before: &[&Item], item: &Item) -> bool
+    ensures { result
+        ≡ is_defining_behind (symbols_at symbols.now) (trees_at before.now) (item_tree item.now) }
 {
-    stage_behind(roles, before).is_defining(roles, item)
+    stage_behind(symbols, before).is_defining(symbols, item)
 }
 
 /// What is told of a statement of a line, which defines a statement function or doesn't.
@@ -170,28 +174,35 @@ fn disputed<'a>(
     if let Some(culprit) = overgiven(search, defines, shape)? {
         return Ok(Some(culprit));
     }
-    let uses = uses_of(search.alloc, search.roles, defines, shape)?;
-    if let Some(culprit) = used(search.roles, &uses, shape) {
+    let uses = uses_of(search.alloc, search.symbols, defines, shape)?;
+    if let Some(culprit) = used(search.symbols, &uses, shape) {
         return Ok(Some(culprit));
     }
     Ok(rival_statement(search.before, shape))
 }
 
-/// K4: the first thing by which a statement behind others breaks the rule on what names are, but what it says of letters, of variables
-/// that are functions too, and of LOGICAL intrinsic functions.
+/// K4: the first thing by which a statement behind others breaks the rule on what names are, but
+/// what it says of letters, of variables that are functions too, and of LOGICAL intrinsic
+/// functions.
 pub fn disputed_name<'a>(
     alloc: Global,
-    roles: &Roles,
+    symbols: &Symbols,
     before: &[&Item],
     item: &'a Item,
 ) -> Result<Option<NameCulprit<'a>>, AllocError>
-    ensures { IfOk result (λ c. tell c ≡ disputed_in (roles_at roles.now) (trees_at before.now) (item_tree item.now)) }
+    ensures { IfOk
+        result (λ c. tell c
+        ≡ disputed_in (symbols_at symbols.now) (trees_at before.now) (item_tree item.now)) }
 {
     let search = Search {
         alloc,
-        roles,
+        symbols,
         before,
         line: item.line,
     };
-    disputed(&search, is_defining(roles, before, item), &*item.form.shape)
+    disputed(
+        &search,
+        is_defining(symbols, before, item),
+        &*item.form.shape,
+    )
 }

@@ -15,7 +15,9 @@ pub fn add_first<V: Copy>(
     name: &[u8],
     value: V,
 ) -> Result<(), AllocError>
-    ensures { OnOk result ((n : List ℕ) → kept_at kept.new n ≡ option_or (kept_at kept.old n) (if bytes_eq n name.now then Some value else None)) }
+    ensures { OnOk result
+        ((n : List ℕ) → kept_at kept.new n
+        ≡ option_or (kept_at kept.old n) (if bytes_eq n name.now then Some value else None)) }
 {
     if !kept.contains_key(name) {
         let own = Vec::from_slice(alloc, name)?;

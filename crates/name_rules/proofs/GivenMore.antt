@@ -10,9 +10,9 @@ use Rattle.meaning.specs.declared.syntax.DataType.TheVariants as types
 use Rattle.meaning.specs.Syntax.{DeclaratorTree, ItemTree}
 use Rattle.meaning.specs.Types.{typed_as}
 use Rattle.meaning.specs.NameRules.{Given, given_by, given_from, given_twice, has_two_roles, is_logical_type}
-use Rattle.meaning.specs.Uses.{Roles, is_defining, is_one_of}
+use Rattle.meaning.specs.Uses.{Symbols, is_defining, is_one_of}
 use Rattle.name_maps.specs.NameSets.{texts, with_names}
-use Rattle.roles.proofs.Passes.{flat_map_last}
+use Rattle.symbols.proofs.Passes.{flat_map_last}
 use Rattle.name_uses.specs.Held.{Holds}
 use Rattle.name_rules.specs.HeldNames.{HoldsGiven, is_given_twice, is_two_things}
 use Rattle.name_uses.proofs.Seeing.{holds_more, holds_none, repeats_same, sought_both, sought_same}
@@ -31,11 +31,11 @@ integer_names (d ∷ ds) = integer_names ds
 
 -- ---- what statements give, one statement more
 
-pub given_none : (r : Roles) → given_from r [] [] ≡ []
+pub given_none : (r : Symbols) → given_from r [] [] ≡ []
 unfolding given_from
 given_none r = refl
 
-given_last : (r : Roles) (before xs : List ItemTree) (x : ItemTree) → given_from r before (xs ++ x ∷ []) ≡ given_from r before xs ++ given_by r (is_defining r (before ++ xs) x) x.shape ∷ []
+given_last : (r : Symbols) (before xs : List ItemTree) (x : ItemTree) → given_from r before (xs ++ x ∷ []) ≡ given_from r before xs ++ given_by r (is_defining r (before ++ xs) x) x.shape ∷ []
 unfolding given_from
 given_last r before [] x = ap (λ b. given_by r (is_defining r b x) x.shape ∷ []) (sym (append-nil before))
 given_last r before (y ∷ ys) x =
@@ -81,7 +81,7 @@ module _ (typed bounded valued defined : List (Vec ℕ)) (gs : List Given) (g : 
   too_much = ap₂ ◌||◌ twice_is two_is
 
 -- one statement more
-pub gives_more : (Before Behind : Type 0) (r : Roles) (before : List ItemTree) (x : ItemTree) (g : Given) (t b v d nt nb nv nd : List (Vec ℕ)) → HoldsGiven Before t b v d (given_from r [] before) → Behind → g ≡ given_by r (is_defining r before x) x.shape → texts nt ≡ with_names (texts t) g.typed → texts nb ≡ with_names (texts b) g.bounded → texts nv ≡ with_names (texts v) g.valued → texts nd ≡ with_names (texts d) g.defined → HoldsGiven Behind nt nb nv nd (given_from r [] (before ++ x ∷ []))
+pub gives_more : (Before Behind : Type 0) (r : Symbols) (before : List ItemTree) (x : ItemTree) (g : Given) (t b v d nt nb nv nd : List (Vec ℕ)) → HoldsGiven Before t b v d (given_from r [] before) → Behind → g ≡ given_by r (is_defining r before x) x.shape → texts nt ≡ with_names (texts t) g.typed → texts nb ≡ with_names (texts b) g.bounded → texts nv ≡ with_names (texts v) g.valued → texts nd ≡ with_names (texts d) g.defined → HoldsGiven Behind nt nb nv nd (given_from r [] (before ++ x ∷ []))
 gives_more Before Behind r before x g t b v d nt nb nv nd held stage is et eb ev ed =
     let gs = given_from r [] before in
     let whole : gs ++ g ∷ [] ≡ given_from r [] (before ++ x ∷ []) = ap (λ h. gs ++ h ∷ []) is ∙ sym (given_last r [] before x) in
@@ -97,7 +97,7 @@ gives_more Before Behind r before x g t b v d nt nb nv nd held stage is et eb ev
     held_more f gs h old new has added n =
         holds_more old new (flat_map f gs) (f h) has added n ∙ ap (λ ns. is_one_of ns n) (sym (flat_map_last f gs h))
 
-pub gives_none : (Stage : Type 0) (r : Roles) (t b v d : List (Vec ℕ)) → Stage → t ≡ [] → b ≡ [] → v ≡ [] → d ≡ [] → HoldsGiven Stage t b v d (given_from r [] [])
+pub gives_none : (Stage : Type 0) (r : Symbols) (t b v d : List (Vec ℕ)) → Stage → t ≡ [] → b ≡ [] → v ≡ [] → d ≡ [] → HoldsGiven Stage t b v d (given_from r [] [])
 gives_none Stage r t b v d stage et eb ev ed =
     subst (HoldsGiven Stage t b v d) (sym (given_none r)) (record {
       stage = stage;

@@ -8,7 +8,7 @@ use Rattle.std.specs.BTreeSet.{BTreeSet, contains}
 use Rattle.std.specs.Ordering.{nat_cmp}
 use Rattle.rule_passes.proofs.Membership.{or_false, or_swap}
 use Rattle.std.proofs.lemmas.List.Folds.{list_any-append}
-use Rattle.roles.proofs.Passes.{map_more}
+use Rattle.symbols.proofs.Passes.{map_more}
 use Rattle.meaning.specs.declared.syntax.Letters.{Letters}
 use Rattle.meaning.specs.NameRules.{is_reversed, last_letter, letters_clash, meet}
 use Rattle.meaning.specs.Syntax.{LettersTree}

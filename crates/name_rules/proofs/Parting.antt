@@ -9,19 +9,19 @@ use Rattle.std.proofs.lemmas.List.Elements.{filter-append}
 use Rattle.std.proofs.lemmas.List.Folds.{list_any-append}
 use Rattle.meaning.specs.Syntax.{ItemTree}
 use Rattle.meaning.specs.NameRules.{is_both, is_function_use, is_intrinsic_use, is_logical_function, is_variable_use, logical_names, names_used}
-use Rattle.meaning.specs.Uses.{Parts, Roles, Use, is_one_of, joined, parts_at, parts_from}
+use Rattle.meaning.specs.Uses.{Parts, Symbols, Use, is_one_of, joined, parts_at, parts_from}
 use Rattle.name_maps.specs.NameSets.{texts, with_names}
 use Rattle.name_maps.proofs.NameSets.{any_with_names}
-use Rattle.roles.proofs.Passes.{flat_map_last}
+use Rattle.symbols.proofs.Passes.{flat_map_last}
 use Rattle.name_uses.specs.Held.{Holds}
 use Rattle.name_rules.specs.HeldNames.{HoldsLogical, HoldsUsed}
 use Rattle.name_uses.proofs.Seeing.{holds_more, holds_none, sought_both, sought_same}
 
-pub parts_none : (r : Roles) → parts_from r [] [] ≡ record { sets = []; reads = [] }
+pub parts_none : (r : Symbols) → parts_from r [] [] ≡ record { sets = []; reads = [] }
 unfolding parts_from
 parts_none r = refl
 
-parts_last : (r : Roles) (before xs : List ItemTree) (x : ItemTree) → parts_from r before (xs ++ x ∷ []) ≡ joined (parts_from r before xs) (parts_at r (before ++ xs) x)
+parts_last : (r : Symbols) (before xs : List ItemTree) (x : ItemTree) → parts_from r before (xs ++ x ∷ []) ≡ joined (parts_from r before xs) (parts_at r (before ++ xs) x)
 unfolding parts_from
 parts_last r before [] x =
     let here = parts_at r before x in
@@ -54,7 +54,7 @@ sought_used test us vs a b ns first second =
 pub held_same : (own : List (Vec ℕ)) (fs vs : List (List ℕ)) → Holds own fs → list_any (is_one_of (texts own)) vs ≡ list_any (is_one_of fs) vs
 held_same own fs vs held = sought_same (texts own) fs held vs
 
-pub both_is : (r : Roles) (before here : Parts) (variables functions : List (Vec ℕ)) (vs fs : List (List ℕ)) → Holds variables (names_used (is_variable_use r) (before.sets ++ before.reads)) → Holds functions (names_used (is_function_use r) before.reads) → vs ≡ names_used (is_variable_use r) (here.sets ++ here.reads) → fs ≡ names_used (is_function_use r) here.reads → ((list_any (is_one_of (texts functions)) vs || list_any (is_one_of fs) vs) || list_any (is_one_of (texts variables)) fs) ≡ is_both r before here
+pub both_is : (r : Symbols) (before here : Parts) (variables functions : List (Vec ℕ)) (vs fs : List (List ℕ)) → Holds variables (names_used (is_variable_use r) (before.sets ++ before.reads)) → Holds functions (names_used (is_function_use r) before.reads) → vs ≡ names_used (is_variable_use r) (here.sets ++ here.reads) → fs ≡ names_used (is_function_use r) here.reads → ((list_any (is_one_of (texts functions)) vs || list_any (is_one_of fs) vs) || list_any (is_one_of (texts variables)) fs) ≡ is_both r before here
 both_is r before here variables functions vs fs held_v held_f ev ef =
     ap₂ ◌||◌
     (sought_used (is_function_use r) before.reads here.reads (texts functions) fs vs held_f (λ n. ap (λ ns. is_one_of ns n) ef)
@@ -80,7 +80,7 @@ used_joined test p q n =
     regroup false true false d = refl
     regroup false false c d = refl
 
-pub used_more : (Before Behind : Type 0) (r : Roles) (before : List ItemTree) (x : ItemTree) (v f nv nf : List (Vec ℕ)) (vs fs : List (List ℕ)) → HoldsUsed Before r before v f → Behind → vs ≡ names_used (is_variable_use r) ((parts_at r before x).sets ++ (parts_at r before x).reads) → fs ≡ names_used (is_function_use r) (parts_at r before x).reads → texts nv ≡ with_names (texts v) vs → texts nf ≡ with_names (texts f) fs → HoldsUsed Behind r (before ++ x ∷ []) nv nf
+pub used_more : (Before Behind : Type 0) (r : Symbols) (before : List ItemTree) (x : ItemTree) (v f nv nf : List (Vec ℕ)) (vs fs : List (List ℕ)) → HoldsUsed Before r before v f → Behind → vs ≡ names_used (is_variable_use r) ((parts_at r before x).sets ++ (parts_at r before x).reads) → fs ≡ names_used (is_function_use r) (parts_at r before x).reads → texts nv ≡ with_names (texts v) vs → texts nf ≡ with_names (texts f) fs → HoldsUsed Behind r (before ++ x ∷ []) nv nf
 used_more Before Behind r before x v f nv nf vs fs held stage ev ef av af =
     let here = parts_at r before x in
     let old = parts_from r [] before in
@@ -98,13 +98,13 @@ used_more Before Behind r before x v f nv nf vs fs held stage ev ef av af =
           ∙ ap (λ p. is_one_of (names_used (is_function_use r) p.reads) n) whole;
     }
 
-pub used_none : (Stage : Type 0) (r : Roles) (v f : List (Vec ℕ)) → Stage → v ≡ [] → f ≡ [] → HoldsUsed Stage r [] v f
+pub used_none : (Stage : Type 0) (r : Symbols) (v f : List (Vec ℕ)) → Stage → v ≡ [] → f ≡ [] → HoldsUsed Stage r [] v f
 unfolding parts_from
 used_none Stage r v f stage ev ef = record { stage = stage; variables_held = holds_none v ev; functions_held = holds_none f ef }
 
 -- ---- intrinsic functions and LOGICAL statements
 
-pub logical_is : (r : Roles) (before : List ItemTree) (x : ItemTree) (used here : List Use) (intrinsics logicals : List (Vec ℕ)) (ns fs : List (List ℕ)) → Holds intrinsics (names_used (is_intrinsic_use r) used) → Holds logicals (flat_map logical_names before) → ns ≡ logical_names x → fs ≡ names_used (is_intrinsic_use r) here → ((list_any (is_one_of (texts intrinsics)) ns || list_any (is_one_of fs) ns) || list_any (is_one_of (texts logicals)) fs) ≡ is_logical_function r before used x here
+pub logical_is : (r : Symbols) (before : List ItemTree) (x : ItemTree) (used here : List Use) (intrinsics logicals : List (Vec ℕ)) (ns fs : List (List ℕ)) → Holds intrinsics (names_used (is_intrinsic_use r) used) → Holds logicals (flat_map logical_names before) → ns ≡ logical_names x → fs ≡ names_used (is_intrinsic_use r) here → ((list_any (is_one_of (texts intrinsics)) ns || list_any (is_one_of fs) ns) || list_any (is_one_of (texts logicals)) fs) ≡ is_logical_function r before used x here
 logical_is r before x used here intrinsics logicals ns fs held_i held_l en ef =
     ap₂ ◌||◌
     (sought_used (is_intrinsic_use r) used here (texts intrinsics) fs ns held_i (λ n. ap (λ ms. is_one_of ms n) ef)
@@ -112,7 +112,7 @@ logical_is r before x used here intrinsics logicals ns fs held_i held_l en ef =
     (sought_same (texts logicals) (flat_map logical_names before) held_l fs
     ∙ ap (list_any (is_one_of (flat_map logical_names before))) ef)
 
-pub logical_more : (Before Behind : Type 0) (r : Roles) (before : List ItemTree) (x : ItemTree) (i l ni nl : List (Vec ℕ)) (ns fs : List (List ℕ)) → HoldsLogical Before r before i l → Behind → ns ≡ logical_names x → fs ≡ names_used (is_intrinsic_use r) (parts_at r before x).reads → texts nl ≡ with_names (texts l) ns → texts ni ≡ with_names (texts i) fs → HoldsLogical Behind r (before ++ x ∷ []) ni nl
+pub logical_more : (Before Behind : Type 0) (r : Symbols) (before : List ItemTree) (x : ItemTree) (i l ni nl : List (Vec ℕ)) (ns fs : List (List ℕ)) → HoldsLogical Before r before i l → Behind → ns ≡ logical_names x → fs ≡ names_used (is_intrinsic_use r) (parts_at r before x).reads → texts nl ≡ with_names (texts l) ns → texts ni ≡ with_names (texts i) fs → HoldsLogical Behind r (before ++ x ∷ []) ni nl
 logical_more Before Behind r before x i l ni nl ns fs held stage en ef al ai =
     let here = parts_at r before x in
     let old = parts_from r [] before in
@@ -127,6 +127,6 @@ logical_more Before Behind r before x i l ni nl ns fs held stage en ef al ai =
           ∙ ap (λ ms. is_one_of ms n) (sym (flat_map_last logical_names before x));
     }
 
-pub logical_none : (Stage : Type 0) (r : Roles) (i l : List (Vec ℕ)) → Stage → i ≡ [] → l ≡ [] → HoldsLogical Stage r [] i l
+pub logical_none : (Stage : Type 0) (r : Symbols) (i l : List (Vec ℕ)) → Stage → i ≡ [] → l ≡ [] → HoldsLogical Stage r [] i l
 unfolding parts_from
 logical_none Stage r i l stage ei el = record { stage = stage; intrinsics_held = holds_none i ei; logicals_held = holds_none l el }

@@ -1,5 +1,6 @@
 -- Ranges of letters.
-use Rattle.std.specs.Prelude.{◌≡◌, ℕ, zero, suc, ◌-◌, Bool, false, ◌||◌, List, [], ◌∷◌, ◌++◌, flat_map, map}
+use Rattle.std.specs.Prelude.{◌≡◌, ℕ, zero, suc, ◌-◌, Bool, false, ◌||◌, List, [], ◌∷◌, ◌++◌}
+use Rattle.std.specs.Prelude.{flat_map, map}
 use Rattle.std.specs.BTreeSet.{BTreeSet, contains}
 use Rattle.std.specs.Borrow.{Bor}
 use Rattle.std.specs.Global.{Vec}
@@ -24,12 +25,15 @@ count_in_range l = suc (last_letter l) - l.first_letter
 -- letters that are out of order, or one of which is among others
 abbrev pub clash_by : (ℕ → Bool) → (ℕ → Bool) → LettersTree → Bool
 clash_by taken here l =
-    is_reversed l || (any_from taken l.first_letter (count_in_range l) || any_from here l.first_letter (count_in_range l))
+    is_reversed l
+    || (any_from taken l.first_letter (count_in_range l)
+    || any_from here l.first_letter (count_in_range l))
 
 abbrev pub clash_from : (ℕ → Bool) → List LettersTree → Bool
 clash_from taken [] = false
 clash_from taken (l ∷ ls) =
-    (is_reversed l || any_from taken l.first_letter (count_in_range l)) || clash_from (λ c. taken c || is_among c l) ls
+    (is_reversed l || any_from taken l.first_letter (count_in_range l))
+    || clash_from (λ c. taken c || is_among c l) ls
 
 -- a set has a code
 abbrev pub has : BTreeSet ℕ → ℕ → Bool
@@ -61,4 +65,5 @@ AreLetters ls found = map letters_at found.items ≡ ls
 
 -- the codes of the letters in statements
 abbrev pub KnowsLetters : BTreeSet ℕ → List ItemTree → Type 0
-KnowsLetters taken before = (c : ℕ) → contains nat_cmp taken c ≡ list_any (is_among c) (flat_map letters_in before)
+KnowsLetters taken before =
+    (c : ℕ) → contains nat_cmp taken c ≡ list_any (is_among c) (flat_map letters_in before)

@@ -1,16 +1,20 @@
-//! What statements give names: a type, bounds, a value, an expression (ANSI X3.9-1978, 8.1, 8.4, 8.6 and 15.4).
+//! What statements give names: a type, bounds, a value, an expression (ANSI X3.9-1978, 8.1, 8.4,
+//! 8.6 and 15.4).
 
 ghost use Rattle.std.specs.Prelude.{IfOk};
 ghost use Rattle.meaning.specs.NameRules.{given_by as by_shape};
 ghost use Rattle.meaning.specs.Syntax.{shape_tree};
-ghost use Rattle.roles.specs.RolesAt.{roles_at};
+ghost use Rattle.symbols.specs.SymbolsAt.{symbols_at};
 ghost use Rattle.name_uses.specs.Held.{AreNames};
 ghost use Rattle.name_rules.specs.GivenAt.{IsGiven};
-ghost use Rattle.name_uses.specs.NamesIn.{AreDefined, bounded as names_bounded, constant as names_constant, declared as names_declared, defined as names_defined, typed as names_typed, valued as names_valued};
+ghost use Rattle.name_uses.specs.NamesIn.{AreDefined, bounded as names_bounded};
+ghost use Rattle.name_uses.specs.NamesIn.{constant as names_constant, declared as names_declared};
+ghost use Rattle.name_uses.specs.NamesIn.{defined as names_defined, typed as names_typed};
+ghost use Rattle.name_uses.specs.NamesIn.{valued as names_valued};
 
 use meaning::syntax::{Declarator, NamedConstant, Shape};
-use roles::{Roles, declarators_in, defined_by};
 use std::alloc::{AllocError, Global};
+use symbols::{Symbols, declarators_in, defined_by};
 
 /// The names that a statement gives a type, bounds, a value, an expression as a statement function.
 pub struct Given<'a> {
@@ -104,13 +108,14 @@ fn valued_names<'a>(alloc: Global, shape: &'a Shape) -> Result<Vec<&'a [u8]>, Al
 /// The name of the statement function that a statement defines.
 fn function_name<'a>(
     alloc: Global,
-    roles: &Roles,
+    symbols: &Symbols,
     shape: &'a Shape,
 ) -> Result<Vec<&'a [u8]>, AllocError>
-    ensures { IfOk result (AreNames (names_defined (roles_at roles.now) (shape_tree shape.now))) }
+    ensures { IfOk result
+        (AreNames (names_defined (symbols_at symbols.now) (shape_tree shape.now))) }
 {
     let mut names = Vec::new(alloc);
-    match defined_by(&roles.ranks, shape) {
+    match defined_by(&symbols.ranks, shape) {
         Some(function) => names.push(function.name)?,
         None => {}
     }
@@ -120,14 +125,14 @@ fn function_name<'a>(
 /// That name, if the statement is a statement function's.
 fn defined_names<'a>(
     alloc: Global,
-    roles: &Roles,
+    symbols: &Symbols,
     defines: bool,
     shape: &'a Shape,
 ) -> Result<Vec<&'a [u8]>, AllocError>
-    ensures { IfOk result (AreDefined defines (roles_at roles.now) (shape_tree shape.now)) }
+    ensures { IfOk result (AreDefined defines (symbols_at symbols.now) (shape_tree shape.now)) }
 {
     if defines {
-        function_name(alloc, roles, shape)
+        function_name(alloc, symbols, shape)
     } else {
         Ok(Vec::new(alloc))
     }
@@ -136,16 +141,17 @@ fn defined_names<'a>(
 /// What a statement gives names; it defines a statement function or doesn't.
 pub fn given_by<'a>(
     alloc: Global,
-    roles: &Roles,
+    symbols: &Symbols,
     defines: bool,
     shape: &'a Shape,
 ) -> Result<Given<'a>, AllocError>
-    ensures { IfOk result (IsGiven (by_shape (roles_at roles.now) defines (shape_tree shape.now))) }
+    ensures { IfOk result
+        (IsGiven (by_shape (symbols_at symbols.now) defines (shape_tree shape.now))) }
 {
     let typed = typed_names(alloc, shape)?;
     let bounded = bounded_names(alloc, declarators_in(shape))?;
     let valued = valued_names(alloc, shape)?;
-    let defined = defined_names(alloc, roles, defines, shape)?;
+    let defined = defined_names(alloc, symbols, defines, shape)?;
     Ok(Given {
         typed,
         bounded,

@@ -1,7 +1,7 @@
 //! Names that are given too much (ANSI X3.9-1978, 8.1, 8.4, 8.6, 15.4 and 18.2).
 
 ghost use Rattle.std.specs.Prelude.{◌≡◌, IfOk, OnOk, []};
-ghost use Rattle.roles.specs.RolesAt.{roles_at};
+ghost use Rattle.symbols.specs.SymbolsAt.{symbols_at};
 ghost use Rattle.name_rules.specs.Disputed.{is_given_too_much};
 ghost use Rattle.name_rules.specs.GivenAt.{are_given_twice, are_too_much, are_two_things, given_at};
 ghost use Rattle.name_rules.specs.GivenAt.{Gains, KnowsGiven};
@@ -10,9 +10,9 @@ use crate::given::{Given, given_by};
 use indexmap::IndexSet;
 use meaning::syntax::Item;
 use name_uses::{add_names, has_seen, repeats};
-use roles::{Roles, Stage};
 use rule_passes::Behind;
 use std::alloc::{AllocError, Global};
+use symbols::{Stage, Symbols};
 
 /// The names that statements gave something.
 pub struct Names {
@@ -85,7 +85,7 @@ fn add_given(names: &mut Names, alloc: Global, given: &Given) -> Result<(), Allo
 /// The rule on what names are given.
 pub struct Givings<'a> {
     alloc: Global,
-    roles: &'a Roles<'a>,
+    symbols: &'a Symbols<'a>,
     stage: Stage,
     names: Names,
 }
@@ -94,7 +94,7 @@ impl Drop for Givings<'_> {
     fn drop(self) {
         let Givings {
             alloc: _,
-            roles: _,
+            symbols: _,
             stage: _,
             names,
         } = self;
@@ -104,13 +104,13 @@ impl Drop for Givings<'_> {
 
 impl<'a> Givings<'a> {
     /// The rule, where no statement was passed yet.
-    pub fn new(alloc: Global, roles: &'a Roles<'a>) -> Givings<'a>
-        ensures same { result.roles.now ≡ roles.now }
-        ensures none { KnowsGiven result.roles.now result.stage result.names [] }
+    pub fn new(alloc: Global, symbols: &'a Symbols<'a>) -> Givings<'a>
+        ensures same { result.symbols.now ≡ symbols.now }
+        ensures none { KnowsGiven result.symbols.now result.stage result.names [] }
     {
         Givings {
             alloc,
-            roles,
+            symbols,
             stage: Stage::new(),
             names: Names {
                 typed: IndexSet::new(alloc),
@@ -123,22 +123,22 @@ impl<'a> Givings<'a> {
 }
 
 impl Behind for Givings<'_> {
-    ghost breaks = { λ s before x. is_given_too_much (roles_at s.roles.now) before x };
+    ghost breaks = { λ s before x. is_given_too_much (symbols_at s.symbols.now) before x };
 
-    ghost knows = { λ s before. KnowsGiven s.roles.now s.stage s.names before };
+    ghost knows = { λ s before. KnowsGiven s.symbols.now s.stage s.names before };
 
     fn is_broken(&self, item: &Item) -> Result<bool, AllocError> {
-        let defines = self.stage.is_defining(self.roles, item);
-        let given = given_by(self.alloc, self.roles, defines, &*item.form.shape)?;
+        let defines = self.stage.is_defining(self.symbols, item);
+        let given = given_by(self.alloc, self.symbols, defines, &*item.form.shape)?;
         let much = gives_too_much(self.alloc, &self.names, &given)?;
         Ok(much)
     }
 
     fn pass(&mut self, item: &Item) -> Result<(), AllocError> {
-        let defines = self.stage.is_defining(self.roles, item);
-        let given = given_by(self.alloc, self.roles, defines, &*item.form.shape)?;
+        let defines = self.stage.is_defining(self.symbols, item);
+        let given = given_by(self.alloc, self.symbols, defines, &*item.form.shape)?;
         add_given(&mut self.names, self.alloc, &given)?;
-        self.stage.pass(self.roles, item);
+        self.stage.pass(self.symbols, item);
         Ok(())
     }
 }

@@ -5,7 +5,10 @@ ghost use Rattle.meaning.specs.NameRules.{is_reversed as is_reversed_by, last_le
 ghost use Rattle.meaning.specs.Syntax.{implicit_tree, letters_tree, shape_tree};
 ghost use Rattle.meaning.specs.Types.{implied_in, is_among};
 ghost use Rattle.name_rules.specs.Disputed.{has_clashing_letters};
-ghost use Rattle.name_rules.specs.Lettered.{AddsLetters, AreLetters, KnowsLetters, Takes, any_among, any_from, are_among, clash_by, clash_from, count_in_range, has, letters_at, letters_of as letters_of_all};
+ghost use Rattle.name_rules.specs.Lettered.{AddsLetters, AreLetters, KnowsLetters, Takes};
+ghost use Rattle.name_rules.specs.Lettered.{any_among, any_from, are_among, clash_by, clash_from};
+ghost use Rattle.name_rules.specs.Lettered.{count_in_range, has, letters_at};
+ghost use Rattle.name_rules.specs.Lettered.{letters_of as letters_of_all};
 
 use meaning::syntax::{ImplicitPart, Item, Letters, Shape};
 use rule_passes::Behind;

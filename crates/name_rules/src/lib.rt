@@ -1,5 +1,5 @@
-//! The rule on what names are: what statements give them, and uses against that (ANSI X3.9-1978, chapters 4, 8, 15 and 18).
-//! K4: `add_name_conflicts`.
+//! The rule on what names are: what statements give them, and uses against that (ANSI X3.9-1978,
+//! chapters 4, 8, 15 and 18). K4: `add_name_conflicts`.
 #![tactic(auto)]
 
 mod against;

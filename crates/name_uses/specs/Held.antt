@@ -20,7 +20,8 @@ Holds keys names = (n : List ℕ) → is_one_of (texts keys) n ≡ is_one_of nam
 abbrev pub Joins : {S T : Type 0} → IndexSet (Vec ℕ) S → IndexSet (Vec ℕ) T → List (List ℕ) → Type 0
 Joins old new names = texts new.keys ≡ with_names (texts old.keys) names
 
-abbrev pub Adds : {S T : Type 0} → IndexSet (Vec ℕ) S → IndexSet (Vec ℕ) T → List (Bor (List ℕ)) → Type 0
+abbrev pub Adds : {S T : Type 0} → IndexSet (Vec ℕ) S → IndexSet (Vec ℕ) T → List (Bor (List ℕ)) →
+    Type 0
 Adds old new names = Joins old new (names_at names)
 
 -- references to these names, and to these uses

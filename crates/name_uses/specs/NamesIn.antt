@@ -10,7 +10,7 @@ use Rattle.meaning.specs.Scopes.{constants_in, defined_by}
 use Rattle.meaning.specs.Syntax.{ShapeTree, constant_tree, declarator_tree}
 use Rattle.meaning.specs.Types.{typed_in}
 use Rattle.meaning.specs.Typing.{option_list}
-use Rattle.meaning.specs.Uses.{Roles}
+use Rattle.meaning.specs.Uses.{Symbols}
 use Rattle.name_uses.specs.Held.{AreNames}
 
 -- names that are declared, those that are given bounds, and those of constants
@@ -34,9 +34,9 @@ abbrev pub valued : ShapeTree → List (List ℕ)
 valued s = map (λ c. c.name) (constants_in s)
 
 -- that of a statement function
-abbrev pub defined : Roles → ShapeTree → List (List ℕ)
+abbrev pub defined : Symbols → ShapeTree → List (List ℕ)
 defined r s = map (λ d. d.name) (option_list (defined_by r.names.arrays s))
 
 -- references to it, if the statement defines one
-abbrev pub AreDefined : Bool → Roles → ShapeTree → Vec (Bor (List ℕ)) → Type 0
+abbrev pub AreDefined : Bool → Symbols → ShapeTree → Vec (Bor (List ℕ)) → Type 0
 AreDefined defines r s ns = AreNames (if defines then defined r s else []) ns

@@ -1,4 +1,5 @@
-//! The uses of names in expressions and statements, and the names that were seen (ANSI X3.9-1978, 18.1 and 18.2).
+//! The uses of names in expressions and statements, and the names that were seen (ANSI X3.9-1978,
+//! 18.1 and 18.2).
 #![tactic(auto)]
 
 mod hiding;

@@ -2,11 +2,11 @@
 
 ghost use Rattle.std.specs.Prelude.{◌≡◌, is_none};
 ghost use Rattle.meaning.specs.NameRules.{is_function_use as is_function_use_by};
-ghost use Rattle.roles.specs.RolesAt.{roles_at};
+ghost use Rattle.symbols.specs.SymbolsAt.{symbols_at};
 ghost use Rattle.name_uses.specs.UsesAt.{arguments_at, use_at};
 
 use crate::uses::{Arguments, NameUse};
-use roles::{Roles, is_other_name};
+use symbols::{Symbols, is_other_name};
 
 /// Whether a name stands without parentheses.
 pub fn is_bare(arguments: Arguments) -> bool
@@ -20,8 +20,8 @@ pub fn is_bare(arguments: Arguments) -> bool
 }
 
 /// Whether a use refers to a function that is no statement function.
-pub fn is_function_use(roles: &Roles, one: &NameUse) -> bool
-    ensures { result ≡ is_function_use_by (roles_at roles.now) (use_at one.now) }
+pub fn is_function_use(symbols: &Symbols, one: &NameUse) -> bool
+    ensures { result ≡ is_function_use_by (symbols_at symbols.now) (use_at one.now) }
 {
-    is_other_name(roles, one.name) && !is_bare(one.arguments)
+    is_other_name(symbols, one.name) && !is_bare(one.arguments)
 }

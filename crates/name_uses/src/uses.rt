@@ -44,7 +44,9 @@ pub fn add_use<'a>(
     name: &'a [u8],
     arguments: Arguments<'a>,
 ) -> Result<(), AllocError>
-    ensures { OnOk result (uses_at uses.new.items ≡ uses_at uses.old.items ++ record { name = name.now; arguments = arguments_at arguments.entry } ∷ []) }
+    ensures { OnOk result
+        (uses_at uses.new.items ≡ uses_at uses.old.items
+        ++ record { name = name.now; arguments = arguments_at arguments.entry } ∷ []) }
 {
     uses.push(NameUse { name, arguments })?;
     Ok(())
@@ -52,9 +54,10 @@ pub fn add_use<'a>(
 
 /// Puts the uses in an expression behind those that are there, from the left.
 #[cycle(uses)]
-#[tactic(auto, using(roles::proofs::Passes::appended, roles::proofs::Passes::nothing_more))]
+#[tactic(auto, using(symbols::proofs::Passes::appended, symbols::proofs::Passes::nothing_more))]
 pub fn add_uses<'a>(uses: &mut Vec<NameUse<'a>>, expression: &'a Expr) -> Result<(), AllocError>
-    ensures { OnOk result (uses_at uses.new.items ≡ uses_at uses.old.items ++ uses_in (expr_tree expression.now)) }
+    ensures { OnOk result
+        (uses_at uses.new.items ≡ uses_at uses.old.items ++ uses_in (expr_tree expression.now)) }
 {
     match expression {
         Expr::Number(_) | Expr::Truth(_) => Ok(()),
@@ -76,12 +79,14 @@ pub fn add_uses<'a>(uses: &mut Vec<NameUse<'a>>, expression: &'a Expr) -> Result
 
 /// Puts the uses in a list behind those that are there.
 #[cycle(uses)]
-#[tactic(auto, using(roles::proofs::Passes::appended, roles::proofs::Passes::nothing_more))]
+#[tactic(auto, using(symbols::proofs::Passes::appended, symbols::proofs::Passes::nothing_more))]
 pub fn add_all_uses<'a>(
     uses: &mut Vec<NameUse<'a>>,
     expressions: &'a Exprs,
 ) -> Result<(), AllocError>
-    ensures { OnOk result (uses_at uses.new.items ≡ uses_at uses.old.items ++ uses_in_all (exprs_tree expressions.now)) }
+    ensures { OnOk result
+        (uses_at uses.new.items ≡ uses_at uses.old.items
+        ++ uses_in_all (exprs_tree expressions.now)) }
 {
     match expressions {
         Exprs::Empty => Ok(()),
@@ -93,12 +98,14 @@ pub fn add_all_uses<'a>(
 }
 
 /// Puts the uses in an expression that may be written behind those that are there.
-#[tactic(auto, using(roles::proofs::Passes::appended, roles::proofs::Passes::nothing_more))]
+#[tactic(auto, using(symbols::proofs::Passes::appended, symbols::proofs::Passes::nothing_more))]
 pub fn add_option_uses<'a>(
     uses: &mut Vec<NameUse<'a>>,
     expression: &'a Option<Expr>,
 ) -> Result<(), AllocError>
-    ensures { OnOk result (uses_at uses.new.items ≡ uses_at uses.old.items ++ flat_map uses_in (option_list (option_map expr_tree expression.now))) }
+    ensures { OnOk result
+        (uses_at uses.new.items ≡ uses_at uses.old.items
+        ++ flat_map uses_in (option_list (option_map expr_tree expression.now))) }
 {
     match expression {
         Some(expression) => add_uses(uses, expression),
@@ -107,9 +114,10 @@ pub fn add_option_uses<'a>(
 }
 
 /// Puts the uses in a unit behind those that are there.
-#[tactic(auto, using(roles::proofs::Passes::nothing_more))]
+#[tactic(auto, using(symbols::proofs::Passes::nothing_more))]
 pub fn add_unit_uses<'a>(uses: &mut Vec<NameUse<'a>>, unit: &'a Unit) -> Result<(), AllocError>
-    ensures { OnOk result (uses_at uses.new.items ≡ uses_at uses.old.items ++ unit_uses (unit_tree unit.now)) }
+    ensures { OnOk result
+        (uses_at uses.new.items ≡ uses_at uses.old.items ++ unit_uses (unit_tree unit.now)) }
 {
     match unit {
         Unit::Star => Ok(()),
@@ -118,9 +126,10 @@ pub fn add_unit_uses<'a>(uses: &mut Vec<NameUse<'a>>, unit: &'a Unit) -> Result<
 }
 
 /// Puts the uses in the limits of a DO behind those that are there.
-#[tactic(auto, using(roles::proofs::Passes::appended, roles::proofs::Passes::nothing_more))]
+#[tactic(auto, using(symbols::proofs::Passes::appended, symbols::proofs::Passes::nothing_more))]
 pub fn add_limit_uses<'a>(uses: &mut Vec<NameUse<'a>>, limits: &'a Limits) -> Result<(), AllocError>
-    ensures { OnOk result (uses_at uses.new.items ≡ uses_at uses.old.items ++ limit_uses (limits_tree limits.now)) }
+    ensures { OnOk result
+        (uses_at uses.new.items ≡ uses_at uses.old.items ++ limit_uses (limits_tree limits.now)) }
 {
     add_uses(uses, &limits.first)?;
     add_uses(uses, &limits.last)?;
@@ -133,7 +142,9 @@ pub fn add_passing<'a, S: Sought>(
     found: &[NameUse<'a>],
     sought: &S,
 ) -> Result<(), AllocError>
-    ensures { OnOk result (uses_at uses.new.items ≡ uses_at uses.old.items ++ filter (S.is_use sought.now) (uses_at found.now)) }
+    ensures { OnOk result
+        (uses_at uses.new.items ≡ uses_at uses.old.items
+        ++ filter (S.is_use sought.now) (uses_at found.now)) }
 {
     for one in found {
         if sought.is(one) {

@@ -10,7 +10,8 @@ use Rattle.nesting.specs.declared.nesting.Arranged.TheVariants.{Nests, Breaks}
 
 -- END is missing; the first statement that breaks a rule behind those before it
 abbrev pub pairs_of_order : List ItemTree → List Broken
-pairs_of_order items = option_to_list (missing_end items) ++ option_to_list (first_broken [] start items)
+pairs_of_order items =
+    option_to_list (missing_end items) ++ option_to_list (first_broken [] start items)
 
 -- a program unit that breaks none, or the pairs, one at least
 abbrev pub IsArranged : List ItemTree → Arranged → Type 0

@@ -1,7 +1,8 @@
 //! What a statement does to the lists of a program unit.
 
 ghost use Rattle.std.specs.Prelude.{◌≡◌, option_map};
-ghost use Rattle.meaning.specs.Nesting.{effect_of, named_label, is_else, is_end, is_opening, may_end, named};
+ghost use Rattle.meaning.specs.Nesting.{effect_of, named_label, is_else, is_end, is_opening};
+ghost use Rattle.meaning.specs.Nesting.{may_end, named};
 ghost use Rattle.meaning.specs.Trees.{item_tree};
 ghost use Rattle.nesting.specs.Open.{effect};
 
@@ -11,7 +12,8 @@ use meaning::syntax::{Item, Shape};
 /// What a statement does to the lists of a program unit.
 #[derive(Clone, Copy)]
 pub enum Effect {
-    /// DO and DO WHILE open a range, and name its label, which is 4294967296 where it is more, or none.
+    /// DO and DO WHILE open a range, and name its label, which is 4294967296 where it is more, or
+    /// none.
     OpensRange(Option<u64>),
     /// END DO closes a range.
     ClosesRange,
@@ -23,7 +25,8 @@ pub enum Effect {
     ClosesBlock,
     /// END closes the program unit.
     ClosesUnit,
-    /// Any other statement stands in a list, and may be the last one of a range or not (ANSI X3.9-1978, 11.10).
+    /// Any other statement stands in a list, and may be the last one of a range or not (ANSI
+    /// X3.9-1978, 11.10).
     Stands(bool),
 }
 

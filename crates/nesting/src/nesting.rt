@@ -2,7 +2,8 @@
 
 ghost use Rattle.std.specs.Prelude.{◌≡◌, ◌≢◌, ◌++◌, List, map, Err, IfOk};
 ghost use Rattle.std.specs.Option.{option_to_list};
-ghost use Rattle.meaning.specs.Nesting.{breaks, innermost, lacks_end, last_line, missing_end as missing, nest};
+ghost use Rattle.meaning.specs.Nesting.{breaks, innermost, lacks_end, last_line};
+ghost use Rattle.meaning.specs.Nesting.{missing_end as missing, nest};
 ghost use Rattle.meaning.specs.Reports.{Gives};
 ghost use Rattle.meaning.specs.Trees.{item_tree, nested};
 ghost use Rattle.meaning.specs.Refusals.{unless};
@@ -78,7 +79,8 @@ fn missing_end(items: &[Item]) -> Option<Broken>
 /// The least rule that a statement breaks behind those that were read, if it breaks one.
 #[tactic(auto, unfolding(meaning::specs::Nesting::breaks))]
 fn broken_rule(order: Order, so_far: &Open, item: &Item) -> Option<Rule>
-    ensures { (before : List ItemTree) → IsOrderOf order before → result ≡ breaks before (unfinished so_far.now) (item_tree item.now) }
+    ensures { (before : List ItemTree) → IsOrderOf order before → result
+        ≡ breaks before (unfinished so_far.now) (item_tree item.now) }
 {
     if order.misplaces(item) {
         return Some(Rule::N1);
@@ -99,9 +101,11 @@ fn broken_at(item: &Item, rule: Rule) -> Broken
     }
 }
 
-/// What was read, unless a rule is broken. No growth is made, so `Refusal::Memory` is never answered.
+/// What was read, unless a rule is broken. No growth is made, so `Refusal::Memory` is never
+/// answered.
 fn told(broken: Option<Broken>, so_far: Open) -> Result<Tree, Refusal>
-    ensures exact { Gives nested result (unless broken (record { body = innermost (unfinished so_far) })) }
+    ensures exact { Gives nested result
+        (unless broken (record { body = innermost (unfinished so_far) })) }
     ensures sure { result ≢ Err Refusal.Memory }
 {
     match broken {
@@ -146,12 +150,12 @@ fn read(alloc: Global, items: Vec<Item>) -> Result<Front, AllocError>
 ///
 /// # Errors
 ///
-/// `Refusal::Rule` with the least of two pairs: N2 at the last statement if none is END, or at line 1 if there is no
-/// statement; and, at the first statement up to which no program unit begins so, the least rule that it breaks there. That is
-/// N1 if it may not stand behind those before it, N2 if it stands behind END, N3 if it is an ELSE IF, ELSE or END IF out of
-/// place or END in a block IF, N4 if ranges and block IFs cross, a terminal statement isn't allowed or END stands in a range,
-/// or N5 if it opens the 33rd DO or block IF.
-/// `Refusal::Memory` where a growth was refused.
+/// `Refusal::Rule` with the least of two pairs: N2 at the last statement if none is END, or at line
+/// 1 if there is no statement; and, at the first statement up to which no program unit begins so,
+/// the least rule that it breaks there. That is N1 if it may not stand behind those before it, N2
+/// if it stands behind END, N3 if it is an ELSE IF, ELSE or END IF out of place or END in a block
+/// IF, N4 if ranges and block IFs cross, a terminal statement isn't allowed or END stands in a
+/// range, or N5 if it opens the 33rd DO or block IF. `Refusal::Memory` where a growth was refused.
 pub fn tree(alloc: Global, items: Vec<Item>) -> Result<Tree, Refusal>
     ensures exact { Gives nested result (nest (map item_tree items.items)) }
 {
@@ -181,8 +185,9 @@ fn pairs_of(
     Ok(pairs)
 }
 
-/// The program unit that statements make, or both pairs of which `tree` tells the lesser: N2 where END is missing, and the least
-/// rule at the first statement up to which no program unit begins so, each where there is one.
+/// The program unit that statements make, or both pairs of which `tree` tells the lesser: N2 where
+/// END is missing, and the least rule at the first statement up to which no program unit begins so,
+/// each where there is one.
 ///
 /// # Errors
 ///

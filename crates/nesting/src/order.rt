@@ -4,59 +4,67 @@ ghost use Rattle.std.specs.Prelude.{◌≡◌, [], ◌∷◌, ◌++◌, List};
 ghost use Rattle.meaning.specs.Nesting.{is_misplaced, place_of};
 ghost use Rattle.meaning.specs.Syntax.{ItemTree};
 ghost use Rattle.meaning.specs.Trees.{item_tree};
-ghost use Rattle.nesting.specs.Places.{IsOrderOf, is_at_executable, is_at_typing, misplaced_by, place};
+ghost use Rattle.nesting.specs.Places.{IsOrderOf, is_at_executable, is_at_typing, misplaced_by};
+ghost use Rattle.nesting.specs.Places.{place};
 
 use meaning::syntax::{Item, Shape};
 
 /// Where a statement stands among others.
 #[derive(Clone, Copy)]
-pub enum Place {
+pub enum StatementClass {
     Program,
     Implicit,
     Parameter,
     /// A type statement or DIMENSION.
     Typing,
     Format,
-    /// An executable statement, or another that stands behind the specification statements as one does.
+    /// An executable statement, or another that stands behind the specification statements as one
+    /// does.
     Executable,
 }
 
 /// Where the statement stands.
-fn place_of_item(item: &Item) -> Place
+fn place_of_item(item: &Item) -> StatementClass
     ensures { place result ≡ place_of (item_tree item.now).shape }
 {
     match &*item.form.shape {
-        Shape::Program(_) => Place::Program,
-        Shape::Implicit(_) => Place::Implicit,
-        Shape::ImplicitNone => Place::Implicit,
-        Shape::Parameter(_) => Place::Parameter,
-        Shape::Integer(_) => Place::Typing,
-        Shape::Logical(_) => Place::Typing,
-        Shape::Dimension(_) => Place::Typing,
-        Shape::Format(_) => Place::Format,
-        _ => Place::Executable,
+        Shape::Program(_) => StatementClass::Program,
+        Shape::Implicit(_) => StatementClass::Implicit,
+        Shape::ImplicitNone => StatementClass::Implicit,
+        Shape::Parameter(_) => StatementClass::Parameter,
+        Shape::Integer(_) => StatementClass::Typing,
+        Shape::Logical(_) => StatementClass::Typing,
+        Shape::Dimension(_) => StatementClass::Typing,
+        Shape::Format(_) => StatementClass::Format,
+        _ => StatementClass::Executable,
     }
 }
 
 /// Whether it is a type statement or DIMENSION that stands there.
-fn is_typing(stands: Place) -> bool
+fn is_typing(stands: StatementClass) -> bool
     ensures { result ≡ is_at_typing (place stands) }
 {
     match stands {
-        Place::Typing => true,
-        Place::Program | Place::Implicit | Place::Parameter | Place::Format | Place::Executable =>
-            false,
+        StatementClass::Typing => true,
+        StatementClass::Program
+        | StatementClass::Implicit
+        | StatementClass::Parameter
+        | StatementClass::Format
+        | StatementClass::Executable => false,
     }
 }
 
 /// Whether it is an executable statement, or another that stands as one does.
-fn is_executable(stands: Place) -> bool
+fn is_executable(stands: StatementClass) -> bool
     ensures { result ≡ is_at_executable (place stands) }
 {
     match stands {
-        Place::Executable => true,
-        Place::Program | Place::Implicit | Place::Parameter | Place::Typing | Place::Format =>
-            false,
+        StatementClass::Executable => true,
+        StatementClass::Program
+        | StatementClass::Implicit
+        | StatementClass::Parameter
+        | StatementClass::Typing
+        | StatementClass::Format => false,
     }
 }
 
@@ -85,7 +93,8 @@ impl Order {
 
     /// One statement more was read.
     pub fn with(self, item: &Item) -> Order
-        ensures { (before : List ItemTree) → IsOrderOf self before → IsOrderOf result (before ++ item_tree item.now ∷ []) }
+        ensures { (before : List ItemTree) → IsOrderOf self before →
+            IsOrderOf result (before ++ item_tree item.now ∷ []) }
     {
         let stands = place_of_item(item);
         Order {
@@ -97,22 +106,23 @@ impl Order {
 
     /// Whether a statement may not stand behind those that were read.
     pub fn misplaces(self, item: &Item) -> bool
-        ensures { (before : List ItemTree) → IsOrderOf self before → result ≡ is_misplaced before (item_tree item.now) }
+        ensures { (before : List ItemTree) → IsOrderOf self before → result
+            ≡ is_misplaced before (item_tree item.now) }
     {
         self.misplaces_at(place_of_item(item))
     }
 
     /// Whether a statement that stands there may not stand behind those that were read.
-    fn misplaces_at(self, stands: Place) -> bool
+    fn misplaces_at(self, stands: StatementClass) -> bool
         ensures { result ≡ misplaced_by self (place stands) }
     {
         match stands {
-            Place::Program => self.begun,
-            Place::Implicit => self.typed || self.executable,
-            Place::Parameter => self.executable,
-            Place::Typing => self.executable,
-            Place::Format => false,
-            Place::Executable => false,
+            StatementClass::Program => self.begun,
+            StatementClass::Implicit => self.typed || self.executable,
+            StatementClass::Parameter => self.executable,
+            StatementClass::Typing => self.executable,
+            StatementClass::Format => false,
+            StatementClass::Executable => false,
         }
     }
 }

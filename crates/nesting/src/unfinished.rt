@@ -1,9 +1,18 @@
 //! A program unit as far as it was read, and what may stand behind it.
 
 ghost use Rattle.std.specs.Prelude.{◌≡◌, nat_le, length, IfOk};
-ghost use Rattle.meaning.specs.Nesting.{levels, innermost, is_stray as stray, is_named as named_by, is_hidden as hidden_by, is_end_in_range as ends_in_range, is_crossing, is_too_deep, breaks_nesting, is_ended as ended_by, add as added, next_arm as next_arm_of, close_block as close_block_of, close_range as close_range_of, is_label_named, is_stray_end_do, may_close, in_range, with_arm as with_arm_of, range, branch, past as past_of, ended, joined, effect_of};
+ghost use Rattle.meaning.specs.Nesting.{levels, innermost, is_stray as stray, is_named as named_by};
+ghost use Rattle.meaning.specs.Nesting.{is_hidden as hidden_by, is_end_in_range as ends_in_range};
+ghost use Rattle.meaning.specs.Nesting.{is_crossing, is_too_deep, breaks_nesting};
+ghost use Rattle.meaning.specs.Nesting.{is_ended as ended_by, add as added};
+ghost use Rattle.meaning.specs.Nesting.{next_arm as next_arm_of, close_block as close_block_of};
+ghost use Rattle.meaning.specs.Nesting.{close_range as close_range_of, is_label_named};
+ghost use Rattle.meaning.specs.Nesting.{is_stray_end_do, may_close, in_range};
+ghost use Rattle.meaning.specs.Nesting.{with_arm as with_arm_of, range, branch, past as past_of};
+ghost use Rattle.meaning.specs.Nesting.{ended, joined, effect_of};
 ghost use Rattle.meaning.specs.LabelRules.{is_label_at};
-ghost use Rattle.meaning.specs.Trees.{item_tree, member_before, members_tree, arms_tree, none, plain, loop, block, no_arms};
+ghost use Rattle.meaning.specs.Trees.{item_tree, member_before, members_tree, arms_tree, none};
+ghost use Rattle.meaning.specs.Trees.{plain, loop, block, no_arms};
 ghost use Rattle.nesting.specs.Open.{unfinished, effect};
 
 use crate::effect::{
@@ -20,16 +29,16 @@ pub enum Open {
     Ended(Vec<Member>),
     /// No range and no block IF is open.
     Body(Vec<Member>),
-    /// The innermost thing that is open is a range: its DO statement, the label that it names and what stands in the range so
-    /// far.
+    /// The innermost thing that is open is a range: its DO statement, the label that it names and
+    /// what stands in the range so far.
     Range {
         head: Item,
         label: Option<u64>,
         members: Vec<Member>,
         around: Box<Open>,
     },
-    /// The innermost thing that is open is a block IF: its earlier arms, the statement of the arm that is read, and what stands
-    /// in this so far.
+    /// The innermost thing that is open is a block IF: its earlier arms, the statement of the arm
+    /// that is read, and what stands in this so far.
     Branch {
         arms: Vec<Arm>,
         head: Item,
@@ -86,7 +95,8 @@ fn is_named(so_far: &Open, label: Option<u64>) -> bool
     }
 }
 
-/// Whether an open DO statement names the label, behind which one that names another, or a block IF, is open.
+/// Whether an open DO statement names the label, behind which one that names another, or a block
+/// IF, is open.
 fn is_hidden(so_far: &Open, label: Option<u64>) -> bool
     ensures { result ≡ hidden_by label (levels (unfinished so_far.now)) }
 {
@@ -121,7 +131,8 @@ fn holds(so_far: &Open, count: u32) -> bool
     }
 }
 
-/// Whether ELSE IF, ELSE or END IF stands out of place, or END in a block IF (ANSI X3.9-1978, 11.6 to 11.9).
+/// Whether ELSE IF, ELSE or END IF stands out of place, or END in a block IF (ANSI X3.9-1978, 11.6
+/// to 11.9).
 fn is_stray(so_far: &Open, done: Effect) -> bool
     ensures { result ≡ stray (effect done) (levels (unfinished so_far.now)) }
 {
@@ -156,7 +167,8 @@ fn ends_unit_in_range(so_far: &Open, done: Effect) -> bool
     }
 }
 
-/// Whether END DO with a label is where it ends no range, or another open DO statement names its label.
+/// Whether END DO with a label is where it ends no range, or another open DO statement names its
+/// label.
 fn is_stray_end(so_far: &Open, label: Option<u64>, done: Effect) -> bool
     ensures { result ≡ is_stray_end_do label (effect done) (levels (unfinished so_far.now)) }
 {
@@ -188,7 +200,8 @@ fn may_close_range(label: Option<u64>, other: Option<u64>) -> bool
     }
 }
 
-/// Whether a range would cross another or a block IF with the statement, or end with one that may not end it, or hold END.
+/// Whether a range would cross another or a block IF with the statement, or end with one that may
+/// not end it, or hold END.
 fn crosses(so_far: &Open, label: Option<u64>, done: Effect) -> bool
     ensures { result ≡ is_crossing (levels (unfinished so_far.now)) label (effect done) }
 {
@@ -218,7 +231,9 @@ pub fn is_ended(so_far: &Open) -> bool
 
 /// The least of N3, N4 and N5 that a statement breaks there, if it breaks one.
 pub fn broken_nesting(so_far: &Open, item: &Item) -> Option<Rule>
-    ensures { result ≡ breaks_nesting (levels (unfinished so_far.now)) (item_tree item.now).label (effect_of (item_tree item.now).shape) }
+    ensures { result
+        ≡ breaks_nesting (levels (unfinished so_far.now)) (item_tree item.now).label
+        (effect_of (item_tree item.now).shape) }
 {
     let done = effect_of_item(item);
     if is_stray(so_far, done) {
@@ -266,7 +281,9 @@ pub fn into_innermost(so_far: Open) -> Vec<Member>
 
 /// A list with one member more at its end.
 fn with_last(members: Vec<Member>, member: Member) -> Result<Vec<Member>, AllocError>
-    ensures { IfOk result (λ z. members_tree z.items ≡ joined (members_tree members.items) (member_before member none)) }
+    ensures { IfOk
+        result (λ z. members_tree z.items
+        ≡ joined (members_tree members.items) (member_before member none)) }
 {
     let mut longer = members;
     match longer.push(member) {
@@ -293,7 +310,11 @@ fn branch_with(
     around: Box<Open>,
     member: Member,
 ) -> Result<Open, AllocError>
-    ensures { IfOk result (λ z. unfinished z ≡ branch (arms_tree arms.items) (item_tree head) (joined (members_tree members.items) (member_before member none)) (unfinished around.value)) }
+    ensures { IfOk
+        result (λ z. unfinished z
+        ≡ branch (arms_tree arms.items) (item_tree head)
+        (joined (members_tree members.items) (member_before member none))
+        (unfinished around.value)) }
 {
     match with_last(members, member) {
         Ok(members) => Ok(Open::Branch {
@@ -311,9 +332,11 @@ fn branch_with(
     }
 }
 
-/// One member more in the innermost list; its last statement's label ends the innermost ranges that name it.
+/// One member more in the innermost list; its last statement's label ends the innermost ranges that
+/// name it.
 fn with_member(so_far: Open, label: Option<u64>, member: Member) -> Result<Open, AllocError>
-    ensures { IfOk result (λ z. unfinished z ≡ added label (member_before member none) (unfinished so_far)) }
+    ensures { IfOk
+        result (λ z. unfinished z ≡ added label (member_before member none) (unfinished so_far)) }
 {
     match so_far {
         Open::Ended(members) => Ok(Open::Ended(with_last(members, member)?)),
@@ -353,7 +376,9 @@ fn with_member(so_far: Open, label: Option<u64>, member: Member) -> Result<Open,
 
 /// The arms of a block IF with the one that was read.
 fn with_arm(arms: Vec<Arm>, head: Item, body: Vec<Member>) -> Result<Vec<Arm>, AllocError>
-    ensures { IfOk result (λ z. arms_tree z.items ≡ with_arm_of (arms_tree arms.items) (item_tree head) (members_tree body.items)) }
+    ensures { IfOk
+        result (λ z. arms_tree z.items
+        ≡ with_arm_of (arms_tree arms.items) (item_tree head) (members_tree body.items)) }
 {
     let mut longer = arms;
     match longer.push(Arm { head, body }) {
@@ -404,7 +429,8 @@ fn whole_block(arms: Vec<Arm>, end: Item) -> Member
 
 /// The innermost block IF as a member of the list that holds it, behind END IF.
 fn close_block(so_far: Open, item: Item) -> Result<Open, AllocError>
-    ensures { IfOk result (λ z. unfinished z ≡ close_block_of (item_tree item) (unfinished so_far)) }
+    ensures { IfOk
+        result (λ z. unfinished z ≡ close_block_of (item_tree item) (unfinished so_far)) }
 {
     match so_far {
         Open::Branch {
@@ -432,7 +458,8 @@ fn close_block(so_far: Open, item: Item) -> Result<Open, AllocError>
 
 /// The innermost range as a member of the list that holds it, behind END DO.
 fn close_range(so_far: Open, item: Item) -> Result<Open, AllocError>
-    ensures { IfOk result (λ z. unfinished z ≡ close_range_of (item_tree item) (unfinished so_far)) }
+    ensures { IfOk
+        result (λ z. unfinished z ≡ close_range_of (item_tree item) (unfinished so_far)) }
 {
     match so_far {
         Open::Range {
@@ -457,7 +484,9 @@ fn close_range(so_far: Open, item: Item) -> Result<Open, AllocError>
 
 /// The program unit behind END.
 fn close_unit(so_far: Open, item: Item) -> Result<Open, AllocError>
-    ensures { IfOk result (λ z. unfinished z ≡ ended (joined (innermost (unfinished so_far)) (plain (item_tree item) none))) }
+    ensures { IfOk
+        result (λ z. unfinished z
+        ≡ ended (joined (innermost (unfinished so_far)) (plain (item_tree item) none))) }
 {
     let members = into_innermost(so_far);
     Ok(Open::Ended(with_last(members, Member::Plain(item))?))
@@ -470,7 +499,8 @@ fn open_range(
     head: Item,
     label: Option<u64>,
 ) -> Result<Open, AllocError>
-    ensures { IfOk result (λ z. unfinished z ≡ range (item_tree head) label none (unfinished so_far)) }
+    ensures { IfOk
+        result (λ z. unfinished z ≡ range (item_tree head) label none (unfinished so_far)) }
 {
     match Box::new(alloc, so_far) {
         Ok(around) => Ok(Open::Range {
@@ -488,7 +518,8 @@ fn open_range(
 
 /// The block IF of an IF THEN statement is open.
 fn open_block(alloc: Global, so_far: Open, head: Item) -> Result<Open, AllocError>
-    ensures { IfOk result (λ z. unfinished z ≡ branch no_arms (item_tree head) none (unfinished so_far)) }
+    ensures { IfOk
+        result (λ z. unfinished z ≡ branch no_arms (item_tree head) none (unfinished so_far)) }
 {
     match Box::new(alloc, so_far) {
         Ok(around) => Ok(Open::Branch {

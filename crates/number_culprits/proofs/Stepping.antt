@@ -9,7 +9,7 @@ use Rattle.meaning.specs.Scopes.{with_constant}
 use Rattle.meaning.specs.Syntax.{ExprTree, bounds_tree, constant_tree, declarator_tree}
 use Rattle.meaning.specs.Types.{Types}
 use Rattle.meaning.specs.Values.{Known}
-use Rattle.roles.proofs.Passes.{map_left}
+use Rattle.symbols.proofs.Passes.{map_left}
 use Rattle.declarations.specs.Bounded.{exprs_of}
 use Rattle.number_culprits.specs.Numbers.{bad_bound, bad_constant, bounds_of, first_none, none_in}
 use Rattle.number_culprits.specs.Told.{Told, faulty, unbounded}

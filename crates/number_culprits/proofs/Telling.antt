@@ -7,7 +7,7 @@ use Rattle.meaning.specs.NumberRules.{has_bad_bound, has_bad_number, has_too_gre
 use Rattle.meaning.specs.Scopes.{constant_value, constants_in, declarators_in, with_constant}
 use Rattle.meaning.specs.Syntax.{ConstantTree, DeclaratorTree, ExprTree, ItemTree}
 use Rattle.meaning.specs.Types.{Types}
-use Rattle.meaning.specs.Uses.{Roles, uses_in}
+use Rattle.meaning.specs.Uses.{Symbols, uses_in}
 use Rattle.meaning.specs.Values.{Known}
 use Rattle.rule_passes.proofs.Missing.{any_both}
 use Rattle.finding.specs.Answers.{IsAnswer}
@@ -16,7 +16,7 @@ use Rattle.number_culprits.specs.Numbers.{bad_bound, bad_constant, bad_in, bound
 use Rattle.number_culprits.specs.Told.{Told, great, faulty, unbounded}
 use Rattle.number_culprits.specs.Witness.{IsBoundBy, IsBy, IsConstantBy, IsGreatBy, IsNoneAmong, IsNoneBy}
 
-great_answer : (r : Roles) (x : ItemTree) → IsAnswer (IsGreatBy r x) (has_too_great r x.shape) (great_in r x.shape)
+great_answer : (r : Symbols) (x : ItemTree) → IsAnswer (IsGreatBy r x) (has_too_great r x.shape) (great_in r x.shape)
 great_answer r x = find_answer (IsGreatBy r x) great is_too_great (numbers_of r x.shape) (λ n at. (n, at.stands, at.passes, refl))
 
 -- either of two, whose witnesses are apart
@@ -48,7 +48,7 @@ module _ (types : Types) where
       let test = is_no_constant types known in
       same_answer (IsBoundBy types known (d ∷ ds)) (list_any test (bounds_of d) || has_bad_bound types known ds) (has_bad_bound types known (d ∷ ds)) (bad_bound types known (d ∷ ds)) (sym (any_both test (bounds_of d) (flat_map bounds_of ds))) (either_answer (IsNoneAmong types known (unbounded d.name) (bounds_of d)) (IsBoundBy types known ds) (list_any test (bounds_of d)) (has_bad_bound types known ds) (first_none types known (unbounded d.name) (bounds_of d)) (bad_bound types known ds) (among_answer known (unbounded d.name) (bounds_of d)) (bound_answer known ds))
 
-pub numbers_told : (r : Roles) (before : List ItemTree) (x : ItemTree) → IsAnswer (IsBy r before x) (has_bad_number r before x) (bad_in r before x)
+pub numbers_told : (r : Symbols) (before : List ItemTree) (x : ItemTree) → IsAnswer (IsBy r before x) (has_bad_number r before x) (bad_in r before x)
 numbers_told r before x =
     let types = r.names.types in
     let known = known_behind_all r before in

@@ -5,7 +5,7 @@ use Rattle.meaning.specs.declared.syntax.Declarator.{Declarator}
 use Rattle.meaning.specs.declared.syntax.NamedConstant.{NamedConstant}
 use Rattle.meaning.specs.Scopes.{constants_in, declarators_in}
 use Rattle.meaning.specs.Syntax.{ExprTree, ItemTree, ShapeTree, constant_tree, declarator_tree}
-use Rattle.roles.specs.declared.names.Roles.{Roles as Kept}
+use Rattle.symbols.specs.declared.names.Symbols.{Symbols as Kept}
 use Rattle.declarations.specs.declared.known.Scope.{Scope}
 use Rattle.declarations.specs.declared.known.Table.{Table}
 use Rattle.declarations.specs.Tables.{IsBehind, known_at, scope_known, scope_types, types_in}
@@ -28,9 +28,10 @@ abbrev pub bad_bound_at : Scope → List Declarator → Option Told
 bad_bound_at s ds = bad_bound (scope_types s) (scope_known s) (map declarator_tree ds)
 
 abbrev pub bad_constants_at : Table → ShapeTree → Option Told
-bad_constants_at t s = option_or (defined_at t s) (bad_bound (types_in t) (known_at t) (declarators_in s))
+bad_constants_at t s =
+    option_or (defined_at t s) (bad_bound (types_in t) (known_at t) (declarators_in s))
 
 -- the table is that behind statements
 pub record IsTableBehind (r : Kept) (before : List ItemTree) (t : Table) : Type 0 where
-  pub same : t.roles.now ≡ r
+  pub same : t.symbols.now ≡ r
   pub behind : IsBehind t before

@@ -3,7 +3,8 @@ use Rattle.std.specs.Prelude.{ℕ, List, Option, option_map}
 use Rattle.number_culprits.specs.declared.culprit.NumberCulprit.{NumberCulprit}
 use Rattle.number_culprits.specs.declared.culprit.NumberCulprit.TheVariants as culprits
 
--- the digits of a constant; a name in an expression, without or with parentheses; the name of a constant or an array whose expression faults
+-- the digits of a constant; a name in an expression, without or with parentheses; the name of a
+-- constant or an array whose expression faults
 pub data Told : Type 0 where
   great : List ℕ → Told
   unknown : List ℕ → Told

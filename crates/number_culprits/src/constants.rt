@@ -4,12 +4,13 @@ ghost use Rattle.std.specs.Prelude.{◌≡◌, IfOk};
 ghost use Rattle.meaning.specs.NumberRules.{is_unknown};
 ghost use Rattle.meaning.specs.Syntax.{expr_tree, shape_tree};
 ghost use Rattle.meaning.specs.Trees.{item_tree};
-ghost use Rattle.roles.specs.Listed.{trees_at};
-ghost use Rattle.roles.specs.RolesAt.{roles_at};
+ghost use Rattle.symbols.specs.Listed.{trees_at};
+ghost use Rattle.symbols.specs.SymbolsAt.{symbols_at};
 ghost use Rattle.name_uses.specs.UsesAt.{use_at};
 ghost use Rattle.declarations.specs.Bounded.{exprs_in_bounds, exprs_in_declarator};
 ghost use Rattle.declarations.specs.Tables.{scope_known, scope_types};
-ghost use Rattle.number_culprits.specs.Known.{IsTableBehind, bad_bound_at, bad_constant_at, bad_constants_at, defined_at, first_none_at, none_at};
+ghost use Rattle.number_culprits.specs.Known.{IsTableBehind, bad_bound_at, bad_constant_at};
+ghost use Rattle.number_culprits.specs.Known.{bad_constants_at, defined_at, first_none_at, none_at};
 ghost use Rattle.number_culprits.specs.Numbers.{bad_in, unknown_told, valueless_in};
 ghost use Rattle.number_culprits.specs.Told.{tell, told_at, unbounded};
 
@@ -20,8 +21,8 @@ use expressions::Constants;
 use finding::first_passing;
 use meaning::syntax::{Bounds, Declarator, Expr, Item, NamedConstant, Shape};
 use name_uses::{NameUse, Sought, add_uses, is_bare};
-use roles::{Roles, declarators_in};
 use std::alloc::{AllocError, Global};
+use symbols::{Symbols, declarators_in};
 
 /// A name that is no constant's, or stands with parentheses.
 #[derive(Clone, Copy)]
@@ -54,7 +55,9 @@ fn valueless<'a>(
     faulty: NumberCulprit<'a>,
     expression: &Expr,
 ) -> Option<NumberCulprit<'a>>
-    ensures { tell result ≡ valueless_in (scope_types scope.now) (scope_known scope.now) (told_at faulty.entry) (expr_tree expression.now) }
+    ensures { tell result
+        ≡ valueless_in (scope_types scope.now) (scope_known scope.now) (told_at faulty.entry)
+        (expr_tree expression.now) }
 {
     if value_of(scope, expression).is_none() {
         Some(faulty)
@@ -70,7 +73,8 @@ fn none_of<'a>(
     faulty: NumberCulprit<'a>,
     expression: &'a Expr,
 ) -> Result<Option<NumberCulprit<'a>>, AllocError>
-    ensures { IfOk result (λ c. tell c ≡ none_at scope.now (told_at faulty.entry) (expr_tree expression.now)) }
+    ensures { IfOk
+        result (λ c. tell c ≡ none_at scope.now (told_at faulty.entry) (expr_tree expression.now)) }
 {
     let mut uses = Vec::new(alloc);
     add_uses(&mut uses, expression)?;
@@ -129,7 +133,9 @@ fn open_bound<'a>(
     faulty: NumberCulprit<'a>,
     bounds: &'a Bounds,
 ) -> Result<Option<NumberCulprit<'a>>, AllocError>
-    ensures { IfOk result (λ c. tell c ≡ first_none_at scope.now (told_at faulty.entry) (exprs_in_bounds bounds.now)) }
+    ensures { IfOk
+        result (λ c. tell c
+        ≡ first_none_at scope.now (told_at faulty.entry) (exprs_in_bounds bounds.now)) }
 {
     match &bounds.lower {
         Some(lower) => match none_of(alloc, scope, faulty, lower)? {
@@ -150,7 +156,10 @@ fn open_array<'a>(
     scope: &Scope,
     declarator: &'a Declarator,
 ) -> Result<Option<NumberCulprit<'a>>, AllocError>
-    ensures { IfOk result (λ c. tell c ≡ first_none_at scope.now (unbounded declarator.now.name.items) (exprs_in_declarator declarator.now)) }
+    ensures { IfOk
+        result (λ c. tell c
+        ≡ first_none_at scope.now (unbounded declarator.now.name.items)
+        (exprs_in_declarator declarator.now)) }
 {
     let faulty = NumberCulprit::Unbounded {
         name: declarator.name.as_slice(),
@@ -201,32 +210,35 @@ fn bad_constants<'a>(
 /// The constants behind statements. The `AllocError` comes where a growth was refused.
 pub fn table_behind<'a>(
     alloc: Global,
-    roles: &'a Roles<'a>,
+    symbols: &'a Symbols<'a>,
     before: &[&Item],
 ) -> Result<Table<'a>, AllocError>
-    ensures { IfOk result (IsTableBehind roles.now (trees_at before.now)) }
+    ensures { IfOk result (IsTableBehind symbols.now (trees_at before.now)) }
 {
-    let mut table = table_of(alloc, roles);
+    let mut table = table_of(alloc, symbols);
     for item in before {
         pass_constants(&mut table, alloc, item)?;
     }
     Ok(table)
 }
 
-/// K6: the first integer constant of a statement behind others that is too great, or what makes a constant expression of it none.
+/// K6: the first integer constant of a statement behind others that is too great, or what makes a
+/// constant expression of it none.
 pub fn bad_number<'a>(
     alloc: Global,
-    roles: &Roles,
+    symbols: &Symbols,
     before: &[&Item],
     item: &'a Item,
 ) -> Result<Option<NumberCulprit<'a>>, AllocError>
-    ensures { IfOk result (λ c. tell c ≡ bad_in (roles_at roles.now) (trees_at before.now) (item_tree item.now)) }
+    ensures { IfOk
+        result (λ c. tell c
+        ≡ bad_in (symbols_at symbols.now) (trees_at before.now) (item_tree item.now)) }
 {
     let shape = &*item.form.shape;
-    match great_number(alloc, roles, shape)? {
+    match great_number(alloc, symbols, shape)? {
         Some(culprit) => Ok(Some(culprit)),
         None => {
-            let table = table_behind(alloc, roles, before)?;
+            let table = table_behind(alloc, symbols, before)?;
             bad_constants(alloc, &table, shape)
         }
     }

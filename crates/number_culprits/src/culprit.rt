@@ -2,7 +2,8 @@
 
 ghost use Rattle.std.specs.Prelude.{◌≡◌};
 
-/// What breaks the rule on integer constants and constant expressions at a statement (ANSI X3.9-1978, 4.3, 5.1.1 and 8.6).
+/// What breaks the rule on integer constants and constant expressions at a statement (ANSI
+/// X3.9-1978, 4.3, 5.1.1 and 8.6).
 #[derive(Clone, Copy)]
 pub enum NumberCulprit<'a> {
     /// An integer constant that is more than 2147483647.

@@ -2,10 +2,12 @@
 
 ghost use Rattle.std.specs.Prelude.{◌≡◌, ◌++◌, ◌∷◌, [], flat_map, map, option_map, IfOk, OnOk};
 ghost use Rattle.std.specs.List.{find};
-ghost use Rattle.meaning.specs.NumberRules.{data_numbers, in_data_constant, in_data_value, in_repeat, is_too_great, numbers_in, numbers_in_all};
-ghost use Rattle.meaning.specs.Syntax.{data_constant_tree, data_set_tree, data_value_tree, expr_tree, exprs_tree, repeat_tree, shape_tree};
+ghost use Rattle.meaning.specs.NumberRules.{data_numbers, in_data_constant, in_data_value};
+ghost use Rattle.meaning.specs.NumberRules.{in_repeat, is_too_great, numbers_in, numbers_in_all};
+ghost use Rattle.meaning.specs.Syntax.{data_constant_tree, data_set_tree, data_value_tree};
+ghost use Rattle.meaning.specs.Syntax.{expr_tree, exprs_tree, repeat_tree, shape_tree};
 ghost use Rattle.meaning.specs.Typing.{option_list};
-ghost use Rattle.roles.specs.RolesAt.{roles_at};
+ghost use Rattle.symbols.specs.SymbolsAt.{symbols_at};
 ghost use Rattle.name_uses.specs.Held.{names_at};
 ghost use Rattle.expectations.specs.Expected.{expected_list};
 ghost use Rattle.finding.specs.Finding.{name_if};
@@ -16,8 +18,8 @@ use crate::culprit::NumberCulprit;
 use expectations::{Expectation, expectations_of};
 use meaning::number::number;
 use meaning::syntax::{DataConstant, DataSet, DataValue, Expr, Exprs, RepeatCount, Shape};
-use roles::Roles;
 use std::alloc::{AllocError, Global};
+use symbols::Symbols;
 
 /// Puts digits behind those that are there.
 fn add_digits<'a>(found: &mut Vec<&'a [u8]>, digits: &'a [u8]) -> Result<(), AllocError>
@@ -29,9 +31,11 @@ fn add_digits<'a>(found: &mut Vec<&'a [u8]>, digits: &'a [u8]) -> Result<(), All
 
 /// Puts the digits of the constants in an expression behind those that are there.
 #[cycle(numbers)]
-#[tactic(auto, using(roles::proofs::Passes::appended, roles::proofs::Passes::nothing_more))]
+#[tactic(auto, using(symbols::proofs::Passes::appended, symbols::proofs::Passes::nothing_more))]
 fn add_numbers<'a>(found: &mut Vec<&'a [u8]>, expression: &'a Expr) -> Result<(), AllocError>
-    ensures { OnOk result (names_at found.new.items ≡ names_at found.old.items ++ numbers_in (expr_tree expression.now)) }
+    ensures { OnOk result
+        (names_at found.new.items ≡ names_at found.old.items
+        ++ numbers_in (expr_tree expression.now)) }
 {
     match expression {
         Expr::Number(digits) => add_digits(found, digits),
@@ -51,9 +55,11 @@ fn add_numbers<'a>(found: &mut Vec<&'a [u8]>, expression: &'a Expr) -> Result<()
 
 /// Puts those of the constants in a list behind those that are there.
 #[cycle(numbers)]
-#[tactic(auto, using(roles::proofs::Passes::appended, roles::proofs::Passes::nothing_more))]
+#[tactic(auto, using(symbols::proofs::Passes::appended, symbols::proofs::Passes::nothing_more))]
 fn add_all_numbers<'a>(found: &mut Vec<&'a [u8]>, expressions: &'a Exprs) -> Result<(), AllocError>
-    ensures { OnOk result (names_at found.new.items ≡ names_at found.old.items ++ numbers_in_all (exprs_tree expressions.now)) }
+    ensures { OnOk result
+        (names_at found.new.items ≡ names_at found.old.items
+        ++ numbers_in_all (exprs_tree expressions.now)) }
 {
     match expressions {
         Exprs::Empty => Ok(()),
@@ -69,7 +75,9 @@ fn add_expected<'a>(
     found: &mut Vec<&'a [u8]>,
     expected: &[Expectation<'a>],
 ) -> Result<(), AllocError>
-    ensures { OnOk result (names_at found.new.items ≡ names_at found.old.items ++ flat_map (λ x. numbers_in x.expr) (expected_list expected.now)) }
+    ensures { OnOk result
+        (names_at found.new.items ≡ names_at found.old.items
+        ++ flat_map (λ x. numbers_in x.expr) (expected_list expected.now)) }
 {
     for one in expected {
         add_numbers(found, one.expression)?;
@@ -78,12 +86,14 @@ fn add_expected<'a>(
 }
 
 /// Puts the digits of a repeat count behind those that are there.
-#[tactic(auto, using(roles::proofs::Passes::nothing_more))]
+#[tactic(auto, using(symbols::proofs::Passes::nothing_more))]
 fn add_count<'a>(
     found: &mut Vec<&'a [u8]>,
     count: &'a Option<RepeatCount>,
 ) -> Result<(), AllocError>
-    ensures { OnOk result (names_at found.new.items ≡ names_at found.old.items ++ flat_map in_repeat (option_list (option_map repeat_tree count.now))) }
+    ensures { OnOk result
+        (names_at found.new.items ≡ names_at found.old.items
+        ++ flat_map in_repeat (option_list (option_map repeat_tree count.now))) }
 {
     match count {
         Some(RepeatCount::Number(digits)) => add_digits(found, digits),
@@ -93,12 +103,14 @@ fn add_count<'a>(
 }
 
 /// Puts the digits of a constant of a DATA statement behind those that are there.
-#[tactic(auto, using(roles::proofs::Passes::nothing_more))]
+#[tactic(auto, using(symbols::proofs::Passes::nothing_more))]
 fn add_data_constant<'a>(
     found: &mut Vec<&'a [u8]>,
     constant: &'a DataConstant,
 ) -> Result<(), AllocError>
-    ensures { OnOk result (names_at found.new.items ≡ names_at found.old.items ++ in_data_constant (data_constant_tree constant.now)) }
+    ensures { OnOk result
+        (names_at found.new.items ≡ names_at found.old.items
+        ++ in_data_constant (data_constant_tree constant.now)) }
 {
     match constant {
         DataConstant::Number(_, digits) => add_digits(found, digits),
@@ -108,9 +120,11 @@ fn add_data_constant<'a>(
 }
 
 /// Puts the digits of a value of a DATA statement behind those that are there.
-#[tactic(auto, using(roles::proofs::Passes::appended, roles::proofs::Passes::nothing_more))]
+#[tactic(auto, using(symbols::proofs::Passes::appended, symbols::proofs::Passes::nothing_more))]
 fn add_value<'a>(found: &mut Vec<&'a [u8]>, value: &'a DataValue) -> Result<(), AllocError>
-    ensures { OnOk result (names_at found.new.items ≡ names_at found.old.items ++ in_data_value (data_value_tree value.now)) }
+    ensures { OnOk result
+        (names_at found.new.items ≡ names_at found.old.items
+        ++ in_data_value (data_value_tree value.now)) }
 {
     add_count(found, &value.repeat_count)?;
     add_data_constant(found, &value.constant)
@@ -118,7 +132,9 @@ fn add_value<'a>(found: &mut Vec<&'a [u8]>, value: &'a DataValue) -> Result<(), 
 
 /// Puts the digits of values behind those that are there.
 fn add_values<'a>(found: &mut Vec<&'a [u8]>, values: &'a [DataValue]) -> Result<(), AllocError>
-    ensures { OnOk result (names_at found.new.items ≡ names_at found.old.items ++ flat_map in_data_value (map data_value_tree values.now)) }
+    ensures { OnOk result
+        (names_at found.new.items ≡ names_at found.old.items
+        ++ flat_map in_data_value (map data_value_tree values.now)) }
 {
     for value in values {
         add_value(found, value)?;
@@ -128,7 +144,9 @@ fn add_values<'a>(found: &mut Vec<&'a [u8]>, values: &'a [DataValue]) -> Result<
 
 /// Puts the digits of the values of sets behind those that are there.
 fn add_sets<'a>(found: &mut Vec<&'a [u8]>, sets: &'a [DataSet]) -> Result<(), AllocError>
-    ensures { OnOk result (names_at found.new.items ≡ names_at found.old.items ++ flat_map (λ s. flat_map in_data_value s.values) (map data_set_tree sets.now)) }
+    ensures { OnOk result
+        (names_at found.new.items ≡ names_at found.old.items
+        ++ flat_map (λ s. flat_map in_data_value s.values) (map data_set_tree sets.now)) }
 {
     for set in sets {
         add_values(found, &set.values)?;
@@ -137,9 +155,11 @@ fn add_sets<'a>(found: &mut Vec<&'a [u8]>, sets: &'a [DataSet]) -> Result<(), Al
 }
 
 /// Puts the digits of the values of a DATA statement behind those that are there.
-#[tactic(auto, using(roles::proofs::Passes::nothing_more))]
+#[tactic(auto, using(symbols::proofs::Passes::nothing_more))]
 fn add_data<'a>(found: &mut Vec<&'a [u8]>, shape: &'a Shape) -> Result<(), AllocError>
-    ensures { OnOk result (names_at found.new.items ≡ names_at found.old.items ++ data_numbers (shape_tree shape.now)) }
+    ensures { OnOk result
+        (names_at found.new.items ≡ names_at found.old.items
+        ++ data_numbers (shape_tree shape.now)) }
 {
     match shape {
         Shape::Data(sets) => add_sets(found, sets),
@@ -148,15 +168,17 @@ fn add_data<'a>(found: &mut Vec<&'a [u8]>, shape: &'a Shape) -> Result<(), Alloc
 }
 
 /// The digits of all integer constants in a statement.
-#[tactic(auto, using(roles::proofs::Passes::appended))]
+#[tactic(auto, using(symbols::proofs::Passes::appended))]
 fn digits_of<'a>(
     alloc: Global,
-    roles: &Roles,
+    symbols: &Symbols,
     shape: &'a Shape,
 ) -> Result<Vec<&'a [u8]>, AllocError>
-    ensures { IfOk result (λ v. names_at v.items ≡ numbers_of (roles_at roles.now) (shape_tree shape.now)) }
+    ensures { IfOk
+        result (λ v. names_at v.items
+        ≡ numbers_of (symbols_at symbols.now) (shape_tree shape.now)) }
 {
-    let expected = expectations_of(alloc, roles, shape)?;
+    let expected = expectations_of(alloc, symbols, shape)?;
     let mut found = Vec::new(alloc);
     add_expected(&mut found, &expected)?;
     add_data(&mut found, shape)?;
@@ -178,12 +200,12 @@ fn first_great<'a>(numbers: &[&'a [u8]]) -> Option<&'a [u8]>
 /// The first integer constant of a statement that is too great.
 pub fn great_number<'a>(
     alloc: Global,
-    roles: &Roles,
+    symbols: &Symbols,
     shape: &'a Shape,
 ) -> Result<Option<NumberCulprit<'a>>, AllocError>
-    ensures { IfOk result (λ c. tell c ≡ great_in (roles_at roles.now) (shape_tree shape.now)) }
+    ensures { IfOk result (λ c. tell c ≡ great_in (symbols_at symbols.now) (shape_tree shape.now)) }
 {
-    let numbers = digits_of(alloc, roles, shape)?;
+    let numbers = digits_of(alloc, symbols, shape)?;
     match first_great(&numbers) {
         None => Ok(None),
         Some(digits) => Ok(Some(NumberCulprit::Great { digits })),

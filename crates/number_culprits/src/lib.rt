@@ -1,5 +1,5 @@
-//! What breaks the rule on integer constants and constant expressions (ANSI X3.9-1978, 4.3, 5.1.1 and 8.6), for whoever tells people
-//! of it.
+//! What breaks the rule on integer constants and constant expressions (ANSI X3.9-1978, 4.3, 5.1.1
+//! and 8.6), for whoever tells people of it.
 #![tactic(auto)]
 
 mod constants;

@@ -1,4 +1,5 @@
-//! What breaks the rule on integer constants and constant expressions, as text: `2147483648 is more than 2147483647`.
+//! What breaks the rule on integer constants and constant expressions, as text: `2147483648 is more
+//! than 2147483647`.
 
 ghost use Rattle.std.specs.Prelude.{◌≡◌, ◌++◌, OnOk};
 ghost use Rattle.number_culprits.specs.Told.{told_at};
@@ -20,8 +21,9 @@ fn said(culprit: NumberCulprit) -> &'static str
     }
 }
 
-/// Puts what breaks the rule on integer constants and constant expressions behind a text, in the words of a message. The `AllocError`
-/// comes only where a growth was refused, and leaves a part of it there.
+/// Puts what breaks the rule on integer constants and constant expressions behind a text, in the
+/// words of a message. The `AllocError` comes only where a growth was refused, and leaves a part of
+/// it there.
 pub fn add_number_text(bytes: &mut Vec<u8>, culprit: NumberCulprit) -> Result<(), AllocError>
     ensures { OnOk result (bytes.new.items ≡ bytes.old.items ++ told_text (told_at culprit.entry)) }
 {

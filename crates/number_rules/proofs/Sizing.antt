@@ -8,9 +8,9 @@ use Rattle.meaning.specs.Syntax.{ItemTree, declarator_tree}
 use Rattle.meaning.specs.NumberRules.{elements_in, elements_of, have_too_large, is_too_large, known_behind_all}
 use Rattle.meaning.specs.Scopes.{declarators_in}
 use Rattle.meaning.specs.Types.{Types}
-use Rattle.meaning.specs.Uses.{Roles}
+use Rattle.meaning.specs.Uses.{Symbols}
 use Rattle.meaning.specs.Values.{Known}
-use Rattle.roles.proofs.Passes.{map_more, map_left}
+use Rattle.symbols.proofs.Passes.{map_more, map_left}
 use Rattle.expressions.specs.Places.{capped}
 use Rattle.number_rules.proofs.CappedBy.{capped_add}
 
@@ -60,7 +60,7 @@ module _ (types : Types) (known : Known) where
 
 -- ---- statements
 
-module _ (r : Roles) where
+module _ (r : Symbols) where
   -- the elements of the arrays that a statement declares behind others
   abbrev pub elements_at : List ItemTree → ItemTree → ℕ
   elements_at before x = sum_by (elements_of r.names.types (known_behind_all r before)) (declarators_in x.shape)

@@ -11,8 +11,10 @@ use Rattle.meaning.specs.declared.syntax.RepeatCount.{RepeatCount}
 use Rattle.meaning.specs.declared.syntax.Shape.{Shape}
 use Rattle.meaning.specs.NumberRules.{in_data_value, in_repeat, is_too_great, numbers_in}
 use Rattle.meaning.specs.Scopes.{listed}
-use Rattle.meaning.specs.Syntax.{constant_tree, data_set_tree, data_value_tree, declarator_tree, expr_tree, exprs_tree, repeat_tree, shape_tree}
-use Rattle.meaning.specs.Typing.{Expected, Names, SomeType, expected, expected_in, in_bounds, in_items, integer_type, option_list}
+use Rattle.meaning.specs.Syntax.{constant_tree, data_set_tree, data_value_tree, declarator_tree}
+use Rattle.meaning.specs.Syntax.{expr_tree, exprs_tree, repeat_tree, shape_tree}
+use Rattle.meaning.specs.Typing.{Expected, Names, SomeType, expected, expected_in, in_bounds}
+use Rattle.meaning.specs.Typing.{in_items, integer_type, option_list}
 
 -- one of those in an expression is too great
 abbrev pub has_great : Expected → Bool

@@ -1,11 +1,19 @@
 //! Integer constants outside the range of INTEGER (ANSI X3.9-1978, 4.3).
 
 ghost use Rattle.std.specs.Prelude.{◌≡◌};
-ghost use Rattle.meaning.specs.NumberRules.{data_numbers, has_too_great as has_great_number, in_data_constant, is_too_great, numbers_in, numbers_in_all};
-ghost use Rattle.meaning.specs.Syntax.{bounds_tree, data_constant_tree, expr_tree, exprs_tree, limits_tree, list_items_tree, shape_tree, unit_tree};
-ghost use Rattle.meaning.specs.Typing.{Names, SomeType, in_bounds as bounds_within, in_item as item_within, in_items as items_within, in_limits as limits_within, in_unit as unit_within};
-ghost use Rattle.meaning.specs.Uses.{Roles};
-ghost use Rattle.number_rules.specs.GreatNumbers.{any_great, any_too_great, of_constants, of_count, of_declarator, of_declarators, of_lists, of_option, of_sets, of_shape, of_subscripts, of_values};
+ghost use Rattle.meaning.specs.NumberRules.{data_numbers, has_too_great as has_great_number};
+ghost use Rattle.meaning.specs.NumberRules.{in_data_constant, is_too_great, numbers_in};
+ghost use Rattle.meaning.specs.NumberRules.{numbers_in_all};
+ghost use Rattle.meaning.specs.Syntax.{bounds_tree, data_constant_tree, expr_tree, exprs_tree};
+ghost use Rattle.meaning.specs.Syntax.{limits_tree, list_items_tree, shape_tree, unit_tree};
+ghost use Rattle.meaning.specs.Typing.{Names, SomeType, in_bounds as bounds_within};
+ghost use Rattle.meaning.specs.Typing.{in_item as item_within, in_items as items_within};
+ghost use Rattle.meaning.specs.Typing.{in_limits as limits_within, in_unit as unit_within};
+ghost use Rattle.meaning.specs.Uses.{Symbols};
+ghost use Rattle.number_rules.specs.GreatNumbers.{any_great, any_too_great, of_constants, of_count};
+ghost use Rattle.number_rules.specs.GreatNumbers.{of_declarator, of_declarators, of_lists};
+ghost use Rattle.number_rules.specs.GreatNumbers.{of_option, of_sets, of_shape, of_subscripts};
+ghost use Rattle.number_rules.specs.GreatNumbers.{of_values};
 
 use meaning::number::number;
 use meaning::syntax::{
@@ -125,7 +133,8 @@ fn in_item(of_data: bool, value: &Expr) -> bool
     }
 }
 
-/// Whether a constant of a list is too great, in an implied DO or outside; the list is one of DATA or of output.
+/// Whether a constant of a list is too great, in an implied DO or outside; the list is one of DATA
+/// or of output.
 #[tactic(auto, using(rule_passes::proofs::Missing::any_both))]
 fn in_items(of_data: bool, items: &ListItems) -> bool
     ensures { result ≡ any_great (items_within of_data (list_items_tree items.now)) }
@@ -278,7 +287,7 @@ fn in_data(shape: &Shape) -> bool
 
 /// Whether an integer constant of a statement is too great.
 pub fn has_too_great(shape: &Shape) -> bool
-    ensures { (roles : Roles) → result ≡ has_great_number roles (shape_tree shape.now) }
+    ensures { (symbols : Symbols) → result ≡ has_great_number symbols (shape_tree shape.now) }
 {
     in_expressions(shape) || in_data(shape)
 }

@@ -4,10 +4,11 @@ ghost use Rattle.std.specs.Prelude.{◌≡◌, IfOk, OnOk};
 ghost use Rattle.std.specs.List.{list_any};
 ghost use Rattle.meaning.specs.NumberRules.{has_bad_number};
 ghost use Rattle.rule_passes.specs.Telling.{AddsTold};
-ghost use Rattle.number_rules.specs.BadNumbers.{are_bad_at, defines_bad_at, have_bad_bound_at, is_bad_at};
+ghost use Rattle.number_rules.specs.BadNumbers.{are_bad_at, defines_bad_at, have_bad_bound_at};
+ghost use Rattle.number_rules.specs.BadNumbers.{is_bad_at};
 ghost use Rattle.declarations.specs.Bounded.{exprs_in_bounds, exprs_in_declarator};
 ghost use Rattle.declarations.specs.Tables.{IsBehind};
-ghost use Rattle.roles.specs.RolesAt.{roles_at};
+ghost use Rattle.symbols.specs.SymbolsAt.{symbols_at};
 
 use crate::great::has_too_great;
 use declarations::{
@@ -15,9 +16,9 @@ use declarations::{
 };
 use meaning::refusal::{Broken, Rule};
 use meaning::syntax::{Bounds, Declarator, Item, NamedConstant, Shape};
-use roles::{Roles, declarators_in};
 use rule_passes::{Behind, add_told};
 use std::alloc::{AllocError, Global};
+use symbols::{Symbols, declarators_in};
 
 /// Whether one of the constants of a PARAMETER statement is none, each with those before it.
 fn are_bad<'a>(scope: &mut Scope<'a>, constants: &'a [NamedConstant]) -> Result<bool, AllocError>
@@ -94,7 +95,7 @@ struct BadNumbers<'a> {
 }
 
 impl Behind for BadNumbers<'_> {
-    ghost breaks = { λ s before x. has_bad_number (roles_at s.table.roles.now) before x };
+    ghost breaks = { λ s before x. has_bad_number (symbols_at s.table.symbols.now) before x };
 
     ghost knows = { λ s before. IsBehind s.table before };
 
@@ -109,19 +110,21 @@ impl Behind for BadNumbers<'_> {
     }
 }
 
-/// K6: adds the pair of each line at which a constant is too great, or no constant stands where one has to.
+/// K6: adds the pair of each line at which a constant is too great, or no constant stands where one
+/// has to.
 pub fn add_bad_constants(
     pairs: &mut Vec<Broken>,
     alloc: Global,
-    roles: &Roles,
+    symbols: &Symbols,
     items: &[&Item],
 ) -> Result<(), AllocError>
     ensures { OnOk result
-        (AddsTold (has_bad_number (roles_at roles.now)) Rule.K6 items.now pairs.old.items pairs.new.items) }
+        (AddsTold (has_bad_number (symbols_at symbols.now)) Rule.K6 items.now pairs.old.items
+        pairs.new.items) }
 {
     let mut bad = BadNumbers {
         alloc,
-        table: table_of(alloc, roles),
+        table: table_of(alloc, symbols),
     };
     add_told(pairs, &mut bad, Rule::K6, items)
 }

@@ -7,15 +7,16 @@ ghost use Rattle.meaning.specs.NumberRules.{has_large_array, is_reversed as is_r
 ghost use Rattle.rule_passes.specs.Telling.{AddsTold, Finds};
 ghost use Rattle.declarations.specs.Dimensioned.{dimension_at, dimensions_at};
 ghost use Rattle.number_rules.specs.CappedSizes.{IsCapped};
-ghost use Rattle.number_rules.specs.Sized.{AreBehind, capped_with, elements_at, has_too_many_at, have_too_large_at, is_too_large_at};
-ghost use Rattle.roles.specs.RolesAt.{roles_at};
+ghost use Rattle.number_rules.specs.Sized.{AreBehind, capped_with, elements_at, has_too_many_at};
+ghost use Rattle.number_rules.specs.Sized.{have_too_large_at, is_too_large_at};
+ghost use Rattle.symbols.specs.SymbolsAt.{symbols_at};
 
 use declarations::{Table, dimension_of, lacks_bound, pass_constants, table_of};
 use meaning::refusal::{Broken, Rule};
 use meaning::syntax::{Bounds, Declarator, Item};
-use roles::{Roles, declarators_in};
 use rule_passes::{Behind, add_told};
 use std::alloc::{AllocError, Global};
+use symbols::{Symbols, declarators_in};
 
 /// The most elements that the arrays of a program may have.
 const MOST: u64 = 16_777_216;
@@ -31,7 +32,8 @@ fn size_of(table: &Table, bounds: &[Bounds]) -> u64
     found
 }
 
-/// How many elements a declarator gives, or 2^64-1 where there are more; none where a bound has no value.
+/// How many elements a declarator gives, or 2^64-1 where there are more; none where a bound has no
+/// value.
 fn elements_of(table: &Table, declarator: &Declarator) -> u64
     ensures { IsCapped result (elements_at table.now declarator.now) }
 {
@@ -69,8 +71,9 @@ fn has_too_many(table: &Table, before: u64, declarator: &Declarator) -> bool
     before.saturating_add(elements_of(table, declarator)) > MOST
 }
 
-/// Whether a declarator has too many dimensions, a lower bound above the upper one, or too many elements with those
-/// that stand before it. Where a bound has no value, the number of dimensions alone counts.
+/// Whether a declarator has too many dimensions, a lower bound above the upper one, or too many
+/// elements with those that stand before it. Where a bound has no value, the number of dimensions
+/// alone counts.
 fn is_too_large(table: &Table, before: u64, declarator: &Declarator) -> bool
     ensures { Finds (IsCapped before) (is_too_large_at table.now declarator.now) result }
 {
@@ -116,7 +119,7 @@ struct LargeArrays<'a> {
 }
 
 impl Behind for LargeArrays<'_> {
-    ghost breaks = { λ s before x. has_large_array (roles_at s.table.roles.now) before x };
+    ghost breaks = { λ s before x. has_large_array (symbols_at s.table.symbols.now) before x };
 
     ghost knows = { λ s before. AreBehind s.table s.elements before };
 
@@ -139,15 +142,16 @@ impl Behind for LargeArrays<'_> {
 pub fn add_large_arrays(
     pairs: &mut Vec<Broken>,
     alloc: Global,
-    roles: &Roles,
+    symbols: &Symbols,
     items: &[&Item],
 ) -> Result<(), AllocError>
     ensures { OnOk result
-        (AddsTold (has_large_array (roles_at roles.now)) Rule.K7 items.now pairs.old.items pairs.new.items) }
+        (AddsTold (has_large_array (symbols_at symbols.now)) Rule.K7 items.now pairs.old.items
+        pairs.new.items) }
 {
     let mut large = LargeArrays {
         alloc,
-        table: table_of(alloc, roles),
+        table: table_of(alloc, symbols),
         elements: 0,
     };
     add_told(pairs, &mut large, Rule::K7, items)

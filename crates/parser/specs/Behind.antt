@@ -1,10 +1,15 @@
--- What stands behind a part that is read already: the readers of several parts, from the second part on. Each is what its
--- definition says behind the first part, so that the code can read the rest before it puts the parts together.
+-- What stands behind a part that is read already: the readers of several parts, from the second
+-- part on. Each is what its definition says behind the first part, so that the code can read the
+-- rest before it puts the parts together.
 use Rattle.std.specs.Prelude.{suc, Bool, List, [], ◌∷◌, length, Option, Some, None, codes}
 use Rattle.meaning.specs.declared.syntax.ControlOrder.{ControlOrder}
 use Rattle.meaning.specs.declared.syntax.ControlOrder.TheVariants.{UnitFirst}
-use Rattle.meaning.specs.Syntax.{ExprTree, ExprsTree, LimitsTree, ListItemTree, loop_item, ListItemsTree, UnitTree, FormatTree, ControlTree, DataValueTree, DataSetTree, ShapeTree, assignment, writing, arithmetic_if}
-use Rattle.meaning.specs.Reading.{Text, Reader, ◌>>=◌, either, after, at_end, name_at, label_at, whole_expression_at, value_of, limits_at, source_at, list_of, separated_at, data_value_at}
+use Rattle.meaning.specs.Syntax.{ExprTree, ExprsTree, LimitsTree, ListItemTree, loop_item}
+use Rattle.meaning.specs.Syntax.{ListItemsTree, UnitTree, FormatTree, ControlTree, DataValueTree}
+use Rattle.meaning.specs.Syntax.{DataSetTree, ShapeTree, assignment, writing, arithmetic_if}
+use Rattle.meaning.specs.Reading.{Text, Reader, ◌>>=◌, either, after, at_end, name_at, label_at}
+use Rattle.meaning.specs.Reading.{whole_expression_at, value_of, limits_at, source_at, list_of}
+use Rattle.meaning.specs.Reading.{separated_at, data_value_at}
 
 -- limits by their parts
 abbrev pub limits_with : ExprTree → ExprTree → Option ExprTree → LimitsTree
@@ -22,7 +27,9 @@ set_with comma list values = record { comma = comma; list = list; values = value
 unfoldable pub step_behind : ExprTree → ExprTree → Reader LimitsTree
 unfolding ◌>>=◌ either
 step_behind a b t =
-    either (after (44 ∷ []) t) (Some (limits_with a b None, t)) (λ rest. whole_expression_at rest >>= λ e. Some (limits_with a b (Some e.0), e.1))
+    either (after (44 ∷ []) t)
+    (Some (limits_with a b None, t)) (λ rest. whole_expression_at rest >>=
+    λ e. Some (limits_with a b (Some e.0), e.1))
 
 -- behind the first limit
 unfoldable pub limits_behind : ExprTree → Reader LimitsTree

@@ -4,7 +4,9 @@ ghost use Rattle.std.specs.Prelude.{◌≡◌, ◌+◌, ◌∷◌, length, map};
 ghost use Rattle.meaning.specs.Characters.{is_label};
 ghost use Rattle.meaning.specs.Spelling.{is_stop_number as stop_number};
 ghost use Rattle.meaning.specs.Syntax.{ExprTree, arithmetic_if, expr_tree, stop_tree, shape_tree};
-ghost use Rattle.meaning.specs.Reading.{Text, separated_at, label_at, going_of, computed_going_of, condition_at, arithmetic_if_of, block_if_of, else_if_of, quoted_at, stop_of, stopping_of};
+ghost use Rattle.meaning.specs.Reading.{Text, separated_at, label_at, going_of, computed_going_of};
+ghost use Rattle.meaning.specs.Reading.{condition_at, arithmetic_if_of, block_if_of, else_if_of};
+ghost use Rattle.meaning.specs.Reading.{quoted_at, stop_of, stopping_of};
 ghost use Rattle.parser.specs.Behind.{branches_behind, last_label_behind};
 ghost use Rattle.parser.specs.Reports.{Agrees};
 
@@ -27,7 +29,8 @@ pub fn read_go_to(alloc: Global, text: &[u8]) -> Result<Shape, ReadError>
 
 /// Labels with commas between, one at least.
 fn read_labels(alloc: Global, text: &[u8]) -> Result<(Vec<Vec<u8>>, &[u8]), ReadError>
-    ensures { Agrees (λ x. (map (λ l. l.items) x.0.items, x.1.now)) result (separated_at label_at (length text.now + 1) text.now) }
+    ensures { Agrees (λ x. (map (λ l. l.items) x.0.items, x.1.now)) result
+        (separated_at label_at (length text.now + 1) text.now) }
 {
     let mut list = Vec::new(alloc);
     let mut rest = text;
@@ -59,7 +62,8 @@ pub fn read_computed_go_to(alloc: Global, text: &[u8]) -> Result<Shape, ReadErro
     })
 }
 
-/// An expression behind a keyword and an opening parenthesis, and what stands behind the closing one.
+/// An expression behind a keyword and an opening parenthesis, and what stands behind the closing
+/// one.
 #[tactic(auto, unfolding(meaning::specs::Reading::condition_at))]
 pub fn read_condition<'t>(
     alloc: Global,
@@ -90,7 +94,8 @@ struct Branches {
 /// The last label of an arithmetic IF statement, up to the end.
 #[tactic(auto, unfolding(crate::specs::Behind::last_label_behind))]
 fn read_last_label(alloc: Global, text: &[u8]) -> Result<Vec<u8>, ReadError>
-    ensures { (e : ExprTree) (n z : Text) → Agrees (λ x. arithmetic_if e n z x.items) result (last_label_behind e n z text.now) }
+    ensures { (e : ExprTree) (n z : Text) →
+        Agrees (λ x. arithmetic_if e n z x.items) result (last_label_behind e n z text.now) }
 {
     let (label, rest) = read_label(alloc, text)?;
     if !rest.is_empty() {
@@ -102,7 +107,9 @@ fn read_last_label(alloc: Global, text: &[u8]) -> Result<Vec<u8>, ReadError>
 /// The labels of an arithmetic IF statement, up to the end.
 #[tactic(auto, unfolding(crate::specs::Behind::branches_behind))]
 fn read_branches(alloc: Global, text: &[u8]) -> Result<Branches, ReadError>
-    ensures { (e : ExprTree) → Agrees (λ x. arithmetic_if e x.negative.items x.zero.items x.positive.items) result (branches_behind e text.now) }
+    ensures { (e : ExprTree) →
+        Agrees (λ x. arithmetic_if e x.negative.items x.zero.items x.positive.items) result
+        (branches_behind e text.now) }
 {
     let (negative, rest) = read_label(alloc, text)?;
     let rest = expect(b",", rest)?;
@@ -172,8 +179,9 @@ pub fn read_else_if(alloc: Global, text: &[u8]) -> Result<Shape, ReadError>
     }
 }
 
-/// The text of a character constant behind its first apostrophe, up to its last one, and what stands behind (ANSI
-/// X3.9-1978, 4.8); so many characters at most. What was read of it stands before.
+/// The text of a character constant behind its first apostrophe, up to its last one, and what
+/// stands behind (ANSI X3.9-1978, 4.8); so many characters at most. What was read of it stands
+/// before.
 #[cycle(quoted)]
 #[tactic(auto, unfolding(meaning::specs::Reading::quoted_at, meaning::specs::Reading::either))]
 pub fn read_quoted(read: Vec<u8>, most: usize, text: &[u8]) -> Result<(Vec<u8>, &[u8]), ReadError>

@@ -4,7 +4,9 @@ ghost use Rattle.std.specs.Prelude.{◌+◌, length, map};
 ghost use Rattle.std.specs.Prelude.{◌≡◌};
 ghost use Rattle.std.specs.List.{list_all};
 ghost use Rattle.meaning.specs.Syntax.{bounds_tree, declarator_tree, shape_tree};
-ghost use Rattle.meaning.specs.Reading.{bounds_at, separated_at, dimensions_at, declarator_at, declarators_of, typing_of, logical_typing_of, has_bounds, dimensioning_of};
+ghost use Rattle.meaning.specs.Reading.{bounds_at, separated_at, dimensions_at, declarator_at};
+ghost use Rattle.meaning.specs.Reading.{declarators_of, typing_of, logical_typing_of, has_bounds};
+ghost use Rattle.meaning.specs.Reading.{dimensioning_of};
 ghost use Rattle.parser.specs.Reports.{Agrees};
 
 use crate::expression::read_whole_expression;
@@ -45,7 +47,8 @@ fn read_bounds(alloc: Global, text: &[u8]) -> Result<(Bounds, &[u8]), ReadError>
 
 /// Bounds with commas between, one at least.
 fn read_bounds_list(alloc: Global, text: &[u8]) -> Result<(Vec<Bounds>, &[u8]), ReadError>
-    ensures { Agrees (λ x. (map bounds_tree x.0.items, x.1.now)) result (separated_at bounds_at (length text.now + 1) text.now) }
+    ensures { Agrees (λ x. (map bounds_tree x.0.items, x.1.now)) result
+        (separated_at bounds_at (length text.now + 1) text.now) }
 {
     let mut list = Vec::new(alloc);
     let mut rest = text;
@@ -86,7 +89,8 @@ fn read_declarator(alloc: Global, text: &[u8]) -> Result<(Declarator, &[u8]), Re
 
 /// Names and arrays with commas between, one at least.
 fn read_declarators(alloc: Global, text: &[u8]) -> Result<(Vec<Declarator>, &[u8]), ReadError>
-    ensures { Agrees (λ x. (map declarator_tree x.0.items, x.1.now)) result (separated_at declarator_at (length text.now + 1) text.now) }
+    ensures { Agrees (λ x. (map declarator_tree x.0.items, x.1.now)) result
+        (separated_at declarator_at (length text.now + 1) text.now) }
 {
     let mut list = Vec::new(alloc);
     let mut rest = text;

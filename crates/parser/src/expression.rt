@@ -3,7 +3,10 @@
 ghost use Rattle.std.specs.Prelude.{◌≡◌, ◌+◌, length, IfOk};
 ghost use Rattle.meaning.specs.Spelling.{level, left_least, right_least, level_of};
 ghost use Rattle.meaning.specs.Syntax.{binary, exprs, expr_tree, exprs_tree};
-ghost use Rattle.meaning.specs.Reading.{paren_at, exprs_at, subscripts_at, named_by, name_or_element_at, primary_at, negation_at, front_at, may_follow, operations_at, expression_at, expression_from, whole_expression_at};
+ghost use Rattle.meaning.specs.Reading.{paren_at, exprs_at, subscripts_at, named_by};
+ghost use Rattle.meaning.specs.Reading.{name_or_element_at, primary_at, negation_at, front_at};
+ghost use Rattle.meaning.specs.Reading.{may_follow, operations_at, expression_at, expression_from};
+ghost use Rattle.meaning.specs.Reading.{whole_expression_at};
 ghost use Rattle.parser.specs.Reports.{Agrees};
 
 use crate::read_error::ReadError;
@@ -72,8 +75,8 @@ fn level_of_expression(expression: &Expr) -> u8
     }
 }
 
-/// The least level of what stands on the left of an operator of a level: relations don't chain, and `**` groups from
-/// the right.
+/// The least level of what stands on the left of an operator of a level: relations don't chain, and
+/// `**` groups from the right.
 fn least_on_left(level: u8) -> u8
     ensures { result ≡ left_least level }
 {
@@ -86,7 +89,8 @@ fn least_on_left(level: u8) -> u8
     }
 }
 
-/// The least level of what stands on the right of an operator: `**` groups from the right, the others from the left.
+/// The least level of what stands on the right of an operator: `**` groups from the right, the
+/// others from the left.
 fn least_on_right(operator: Operator) -> u8
     ensures { result ≡ right_least (level operator) }
 {
@@ -151,7 +155,8 @@ fn name_with(alloc: Global, name: Vec<u8>, subscripts: Exprs) -> Result<Expr, Al
 #[cycle(expression)]
 #[tactic(auto, unfolding(meaning::specs::Reading::paren_at))]
 fn read_parenthesis(alloc: Global, depth: usize, text: &[u8]) -> Result<(Expr, &[u8]), ReadError>
-    ensures { Agrees (λ x. (expr_tree x.0, x.1.now)) result (paren_at (expression_at depth) text.now) }
+    ensures { Agrees (λ x. (expr_tree x.0, x.1.now)) result
+        (paren_at (expression_at depth) text.now) }
 {
     let (inner, rest) = read_expression(alloc, depth, WEAKEST, text)?;
     match behind(b")", rest) {
@@ -172,7 +177,8 @@ fn read_inner_expressions(
     most: usize,
     text: &[u8],
 ) -> Result<(Exprs, &[u8]), ReadError>
-    ensures { Agrees (λ x. (exprs_tree x.0, x.1.now)) result (exprs_at (expression_at depth) most text.now) }
+    ensures { Agrees (λ x. (exprs_tree x.0, x.1.now)) result
+        (exprs_at (expression_at depth) most text.now) }
 {
     if most == 0 {
         return Err(ReadError::NoReading);
@@ -198,7 +204,8 @@ fn read_inner_subscripts(
     depth: usize,
     text: &[u8],
 ) -> Result<(Exprs, &[u8]), ReadError>
-    ensures { Agrees (λ x. (exprs_tree x.0, x.1.now)) result (subscripts_at (expression_at depth) text.now) }
+    ensures { Agrees (λ x. (exprs_tree x.0, x.1.now)) result
+        (subscripts_at (expression_at depth) text.now) }
 {
     match behind(b"(", text) {
         None => Ok((Exprs::Empty, text)),
@@ -223,7 +230,8 @@ fn read_name_or_element(
     depth: usize,
     text: &[u8],
 ) -> Result<(Expr, &[u8]), ReadError>
-    ensures { Agrees (λ x. (expr_tree x.0, x.1.now)) result (name_or_element_at (expression_at depth) text.now) }
+    ensures { Agrees (λ x. (expr_tree x.0, x.1.now)) result
+        (name_or_element_at (expression_at depth) text.now) }
 {
     let (name, rest) = read_name(alloc, text)?;
     match behind(b"()", rest) {
@@ -235,11 +243,13 @@ fn read_name_or_element(
     }
 }
 
-/// Digits, an expression in parentheses, a logical constant, a name, an element or a function reference.
+/// Digits, an expression in parentheses, a logical constant, a name, an element or a function
+/// reference.
 #[cycle(expression)]
 #[tactic(auto, unfolding(meaning::specs::Reading::primary_at))]
 fn read_primary(alloc: Global, depth: usize, text: &[u8]) -> Result<(Expr, &[u8]), ReadError>
-    ensures { Agrees (λ x. (expr_tree x.0, x.1.now)) result (primary_at (expression_at depth) text.now) }
+    ensures { Agrees (λ x. (expr_tree x.0, x.1.now)) result
+        (primary_at (expression_at depth) text.now) }
 {
     let (first, behind) = text.split_first().ok_or(ReadError::NoReading)?;
     if first.is_ascii_digit() {
@@ -265,7 +275,8 @@ fn read_negation(
     least: u8,
     text: &[u8],
 ) -> Result<(Expr, &[u8]), ReadError>
-    ensures { Agrees (λ x. (expr_tree x.0, x.1.now)) result (negation_at (expression_at depth) least text.now) }
+    ensures { Agrees (λ x. (expr_tree x.0, x.1.now)) result
+        (negation_at (expression_at depth) least text.now) }
 {
     match behind(b".NOT.", text) {
         None => read_primary(alloc, depth, text),
@@ -279,8 +290,8 @@ fn read_negation(
     }
 }
 
-/// What an expression of a level begins with: a sign and one term, where the level lets a sign stand, `.NOT.` and its
-/// operand, or a primary.
+/// What an expression of a level begins with: a sign and one term, where the level lets a sign
+/// stand, `.NOT.` and its operand, or a primary.
 #[cycle(expression)]
 #[tactic(auto, unfolding(meaning::specs::Reading::front_at, meaning::specs::Reading::either, meaning::specs::Reading::when))]
 fn read_front(
@@ -289,7 +300,8 @@ fn read_front(
     least: u8,
     text: &[u8],
 ) -> Result<(Expr, &[u8]), ReadError>
-    ensures { Agrees (λ x. (expr_tree x.0, x.1.now)) result (front_at (expression_at depth) least text.now) }
+    ensures { Agrees (λ x. (expr_tree x.0, x.1.now)) result
+        (front_at (expression_at depth) least text.now) }
 {
     match read_sign(text) {
         None => read_negation(alloc, depth, least, text),
@@ -303,7 +315,8 @@ fn read_front(
     }
 }
 
-/// What begins with an operand: operators that bind this strongly, each with an operand that binds strongly enough.
+/// What begins with an operand: operators that bind this strongly, each with an operand that binds
+/// strongly enough.
 #[cycle(expression)]
 #[tactic(auto, unfolding(meaning::specs::Reading::operations_at, meaning::specs::Reading::either))]
 fn read_operations(
@@ -313,7 +326,8 @@ fn read_operations(
     first: Expr,
     text: &[u8],
 ) -> Result<(Expr, &[u8]), ReadError>
-    ensures { Agrees (λ x. (expr_tree x.0, x.1.now)) result (operations_at (expression_at depth) (length text.now) least (expr_tree first) text.now) }
+    ensures { Agrees (λ x. (expr_tree x.0, x.1.now)) result
+        (operations_at (expression_at depth) (length text.now) least (expr_tree first) text.now) }
 {
     let mut left = first;
     let mut rest = text;

@@ -1,9 +1,16 @@
 //! DATA statements.
 
 ghost use Rattle.std.specs.Prelude.{◌≡◌, ◌+◌, Bool, length, map};
-ghost use Rattle.meaning.specs.Syntax.{ListItemsTree, expr_tree, list_item_tree, list_items_tree, data_constant_tree, repeat_tree, data_value_tree, data_set_tree, shape_tree};
-ghost use Rattle.meaning.specs.Spelling.{is_data_value as data_value, is_data_item as data_item, are_data_items as data_items, begins_without_comma as uncommaed};
-ghost use Rattle.meaning.specs.Reading.{number_behind_sign, unsigned_at, data_constant_at, begins_repeat as repeat_first, repeat_of, repeated_value_at, data_value_at, separated_at, data_list_at, data_set_at, data_sets_of, initializing_of};
+ghost use Rattle.meaning.specs.Syntax.{ListItemsTree, expr_tree, list_item_tree, list_items_tree};
+ghost use Rattle.meaning.specs.Syntax.{data_constant_tree, repeat_tree, data_value_tree};
+ghost use Rattle.meaning.specs.Syntax.{data_set_tree, shape_tree};
+ghost use Rattle.meaning.specs.Spelling.{is_data_value as data_value, is_data_item as data_item};
+ghost use Rattle.meaning.specs.Spelling.{are_data_items as data_items};
+ghost use Rattle.meaning.specs.Spelling.{begins_without_comma as uncommaed};
+ghost use Rattle.meaning.specs.Reading.{number_behind_sign, unsigned_at, data_constant_at};
+ghost use Rattle.meaning.specs.Reading.{begins_repeat as repeat_first, repeat_of};
+ghost use Rattle.meaning.specs.Reading.{repeated_value_at, data_value_at, separated_at};
+ghost use Rattle.meaning.specs.Reading.{data_list_at, data_set_at, data_sets_of, initializing_of};
 ghost use Rattle.parser.specs.Behind.{set_with, data_list_behind};
 ghost use Rattle.parser.specs.Reports.{Agrees};
 
@@ -29,7 +36,8 @@ fn read_number(
     sign: Option<Sign>,
     text: &[u8],
 ) -> Result<(DataConstant, &[u8]), ReadError>
-    ensures { Agrees (λ x. (data_constant_tree x.0, x.1.now)) result (number_behind_sign sign text.now) }
+    ensures { Agrees (λ x. (data_constant_tree x.0, x.1.now)) result
+        (number_behind_sign sign text.now) }
 {
     let (digits, rest) = split_digits(text);
     if !is_number(digits) {
@@ -56,7 +64,8 @@ fn read_unsigned(alloc: Global, text: &[u8]) -> Result<(DataConstant, &[u8]), Re
     Ok((DataConstant::Name(name), rest))
 }
 
-/// A constant: an integer constant with a sign or without one, a logical constant, or a name (ANSI X3.9-1978, 9.1).
+/// A constant: an integer constant with a sign or without one, a logical constant, or a name (ANSI
+/// X3.9-1978, 9.1).
 #[tactic(auto, unfolding(meaning::specs::Reading::data_constant_at, meaning::specs::Reading::either))]
 fn read_constant(alloc: Global, text: &[u8]) -> Result<(DataConstant, &[u8]), ReadError>
     ensures { Agrees (λ x. (data_constant_tree x.0, x.1.now)) result (data_constant_at text.now) }
@@ -128,7 +137,8 @@ fn read_data_value(alloc: Global, text: &[u8]) -> Result<(DataValue, &[u8]), Rea
 
 /// Constants with commas between, one at least.
 fn read_data_values(alloc: Global, text: &[u8]) -> Result<(Vec<DataValue>, &[u8]), ReadError>
-    ensures { Agrees (λ x. (map data_value_tree x.0.items, x.1.now)) result (separated_at data_value_at (length text.now + 1) text.now) }
+    ensures { Agrees (λ x. (map data_value_tree x.0.items, x.1.now)) result
+        (separated_at data_value_at (length text.now + 1) text.now) }
 {
     let mut list = Vec::new(alloc);
     let mut rest = text;
@@ -203,7 +213,9 @@ fn read_data_list(alloc: Global, text: &[u8]) -> Result<(ListItems, &[u8]), Read
 /// Constants between slashes, behind their list.
 #[tactic(auto, unfolding(crate::specs::Behind::data_list_behind))]
 fn read_set_values(alloc: Global, text: &[u8]) -> Result<(Vec<DataValue>, &[u8]), ReadError>
-    ensures { (comma : Bool) (xs : ListItemsTree) → Agrees (λ x. (set_with comma xs (map data_value_tree x.0.items), x.1.now)) result (data_list_behind comma xs text.now) }
+    ensures { (comma : Bool) (xs : ListItemsTree) →
+        Agrees (λ x. (set_with comma xs (map data_value_tree x.0.items), x.1.now)) result
+        (data_list_behind comma xs text.now) }
 {
     let rest = expect(b"/", text)?;
     let (values, rest) = read_data_values(alloc, rest)?;
@@ -241,7 +253,8 @@ fn read_data_set(alloc: Global, text: &[u8]) -> Result<(DataSet, &[u8]), ReadErr
 
 /// The rest of a text: lists with their constants.
 fn read_data_sets(alloc: Global, text: &[u8]) -> Result<Vec<DataSet>, ReadError>
-    ensures { Agrees (λ x. map data_set_tree x.items) result (data_sets_of (length text.now + 1) text.now) }
+    ensures { Agrees (λ x. map data_set_tree x.items) result
+        (data_sets_of (length text.now + 1) text.now) }
 {
     let mut sets = Vec::new(alloc);
     let mut rest = text;

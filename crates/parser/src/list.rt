@@ -1,8 +1,11 @@
 //! The lists of WRITE, PRINT and DATA statements.
 
 ghost use Rattle.std.specs.Prelude.{◌≡◌, IfOk, map};
-ghost use Rattle.meaning.specs.Syntax.{ListItemsTree, loop_item, no_items, more_items, limits_tree, list_item_tree, list_items_tree};
-ghost use Rattle.meaning.specs.Reading.{begins_control as control_first, ends_list as list_end, value_item_at, loop_item_at, item_at, items_at, list_of, list_behind_comma};
+ghost use Rattle.meaning.specs.Syntax.{ListItemsTree, loop_item, no_items, more_items, limits_tree};
+ghost use Rattle.meaning.specs.Syntax.{list_item_tree, list_items_tree};
+ghost use Rattle.meaning.specs.Reading.{begins_control as control_first, ends_list as list_end};
+ghost use Rattle.meaning.specs.Reading.{value_item_at, loop_item_at, item_at, items_at, list_of};
+ghost use Rattle.meaning.specs.Reading.{list_behind_comma};
 ghost use Rattle.parser.specs.Behind.{loop_behind};
 ghost use Rattle.parser.specs.Reports.{Agrees};
 ghost use Rattle.parser.specs.Rows.{items_before};
@@ -37,7 +40,9 @@ fn ends_list(text: &[u8]) -> bool
 
 /// An item before others.
 fn items_with(alloc: Global, first: ListItem, others: ListItems) -> Result<ListItems, AllocError>
-    ensures { IfOk result (λ xs. list_items_tree xs ≡ more_items (list_item_tree first) (list_items_tree others)) }
+    ensures { IfOk
+        result (λ xs. list_items_tree xs
+        ≡ more_items (list_item_tree first) (list_items_tree others)) }
 {
     match Box::new(alloc, others) {
         Err(refused) => {
@@ -50,7 +55,8 @@ fn items_with(alloc: Global, first: ListItem, others: ListItems) -> Result<ListI
 
 /// The items of a row, put together from the last one to the first.
 fn items_of(alloc: Global, row: Vec<ListItem>) -> Result<ListItems, AllocError>
-    ensures { IfOk result (λ xs. list_items_tree xs ≡ items_before (map list_item_tree row.items) no_items) }
+    ensures { IfOk
+        result (λ xs. list_items_tree xs ≡ items_before (map list_item_tree row.items) no_items) }
 {
     let mut row = row;
     let mut items = ListItems::Empty;
@@ -69,10 +75,13 @@ fn read_value_item(alloc: Global, least: u8, text: &[u8]) -> Result<(ListItem, &
     Ok((ListItem::Value(value), rest))
 }
 
-/// What controls an implied DO, behind its items: a comma, a name, an equals sign, limits and the closing parenthesis.
+/// What controls an implied DO, behind its items: a comma, a name, an equals sign, limits and the
+/// closing parenthesis.
 #[tactic(auto, unfolding(crate::specs::Behind::loop_behind))]
 fn read_loop_control(alloc: Global, text: &[u8]) -> Result<(Vec<u8>, Limits, &[u8]), ReadError>
-    ensures { (xs : ListItemsTree) → Agrees (λ x. (loop_item xs x.0.items (limits_tree x.1), x.2.now)) result (loop_behind xs text.now) }
+    ensures { (xs : ListItemsTree) →
+        Agrees (λ x. (loop_item xs x.0.items (limits_tree x.1), x.2.now)) result
+        (loop_behind xs text.now) }
 {
     let rest = expect(b",", text)?;
     let (variable, rest) = read_name(alloc, rest)?;
@@ -94,7 +103,9 @@ fn loop_with(
     variable: Vec<u8>,
     limits: Limits,
 ) -> Result<ListItem, AllocError>
-    ensures { IfOk result (λ x. list_item_tree x ≡ loop_item (list_items_tree items) variable.items (limits_tree limits)) }
+    ensures { IfOk
+        result (λ x. list_item_tree x
+        ≡ loop_item (list_items_tree items) variable.items (limits_tree limits)) }
 {
     match Box::new(alloc, items) {
         Err(refused) => {
@@ -118,7 +129,8 @@ fn read_loop_item(
     least: u8,
     text: &[u8],
 ) -> Result<(ListItem, &[u8]), ReadError>
-    ensures { Agrees (λ x. (list_item_tree x.0, x.1.now)) result (loop_item_at (items_at least most) text.now) }
+    ensures { Agrees (λ x. (list_item_tree x.0, x.1.now)) result
+        (loop_item_at (items_at least most) text.now) }
 {
     let (items, rest) = read_items(alloc, most, least, text)?;
     match read_loop_control(alloc, rest) {
@@ -130,7 +142,8 @@ fn read_loop_item(
     }
 }
 
-/// An expression, or an implied DO: its parenthesis has an equals sign before the one that closes it.
+/// An expression, or an implied DO: its parenthesis has an equals sign before the one that closes
+/// it.
 #[cycle(items)]
 #[tactic(auto, unfolding(meaning::specs::Reading::item_at, meaning::specs::Reading::either))]
 fn read_item(
@@ -139,7 +152,8 @@ fn read_item(
     least: u8,
     text: &[u8],
 ) -> Result<(ListItem, &[u8]), ReadError>
-    ensures { Agrees (λ x. (list_item_tree x.0, x.1.now)) result (item_at least (items_at least most) text.now) }
+    ensures { Agrees (λ x. (list_item_tree x.0, x.1.now)) result
+        (item_at least (items_at least most) text.now) }
 {
     if let Some(rest) = behind(b"(", text) {
         if has_equals_sign(rest) {
@@ -149,7 +163,8 @@ fn read_item(
     read_value_item(alloc, least, text)
 }
 
-/// Items with commas between, one at least and so many at most: read into a row, so that none takes a stack frame of its own.
+/// Items with commas between, one at least and so many at most: read into a row, so that none takes
+/// a stack frame of its own.
 #[cycle(items)]
 pub fn read_items(
     alloc: Global,

@@ -1,7 +1,9 @@
 //! WRITE and PRINT statements.
 
-ghost use Rattle.meaning.specs.Syntax.{UnitTree, ControlTree, writing, unit_tree, format_tree, control_tree, list_items_tree, shape_tree};
-ghost use Rattle.meaning.specs.Reading.{unit_at, source_at, format_first_at, unit_first_at, behind_unit_at, control_at, writing_of, printing_of};
+ghost use Rattle.meaning.specs.Syntax.{UnitTree, ControlTree, writing, unit_tree, format_tree};
+ghost use Rattle.meaning.specs.Syntax.{control_tree, list_items_tree, shape_tree};
+ghost use Rattle.meaning.specs.Reading.{unit_at, source_at, format_first_at, unit_first_at};
+ghost use Rattle.meaning.specs.Reading.{behind_unit_at, control_at, writing_of, printing_of};
 ghost use Rattle.parser.specs.Behind.{control_with, unit_behind, control_behind};
 ghost use Rattle.parser.specs.Reports.{Agrees};
 
@@ -65,7 +67,9 @@ fn read_format_first(alloc: Global, text: &[u8]) -> Result<(Control, &[u8]), Rea
 /// A format behind `,FMT=`.
 #[tactic(auto, unfolding(crate::specs::Behind::unit_behind))]
 fn read_format_keyword(alloc: Global, text: &[u8]) -> Result<(FormatSource, &[u8]), ReadError>
-    ensures { (u : UnitTree) → Agrees (λ x. (control_with ControlOrder.UnitFirst u (format_tree x.0), x.1.now)) result (unit_behind u text.now) }
+    ensures { (u : UnitTree) →
+        Agrees (λ x. (control_with ControlOrder.UnitFirst u (format_tree x.0), x.1.now)) result
+        (unit_behind u text.now) }
 {
     let rest = expect(b",FMT=", text)?;
     read_source(alloc, rest)
@@ -102,7 +106,9 @@ fn read_format_behind(
     alloc: Global,
     text: &[u8],
 ) -> Result<(ControlOrder, FormatSource, &[u8]), ReadError>
-    ensures { (u : UnitTree) → Agrees (λ x. (control_with x.0 u (format_tree x.1), x.2.now)) result (behind_unit_at u text.now) }
+    ensures { (u : UnitTree) →
+        Agrees (λ x. (control_with x.0 u (format_tree x.1), x.2.now)) result
+        (behind_unit_at u text.now) }
 {
     if let Some(rest) = behind(b",FMT=", text) {
         let (format, rest) = read_source(alloc, rest)?;
@@ -115,7 +121,8 @@ fn read_format_behind(
 
 /// A format behind a unit that has no keyword.
 fn read_behind_unit(alloc: Global, unit: Unit, text: &[u8]) -> Result<(Control, &[u8]), ReadError>
-    ensures { Agrees (λ x. (control_tree x.0, x.1.now)) result (behind_unit_at (unit_tree unit) text.now) }
+    ensures { Agrees (λ x. (control_tree x.0, x.1.now)) result
+        (behind_unit_at (unit_tree unit) text.now) }
 {
     match read_format_behind(alloc, text) {
         Err(error) => {
@@ -151,7 +158,8 @@ fn read_control(alloc: Global, text: &[u8]) -> Result<(Control, &[u8]), ReadErro
 /// What stands behind the control of a WRITE statement: the closing parenthesis, and the list.
 #[tactic(auto, unfolding(crate::specs::Behind::control_behind))]
 fn read_written(alloc: Global, text: &[u8]) -> Result<ListItems, ReadError>
-    ensures { (c : ControlTree) → Agrees (λ x. writing c (list_items_tree x)) result (control_behind c text.now) }
+    ensures { (c : ControlTree) →
+        Agrees (λ x. writing c (list_items_tree x)) result (control_behind c text.now) }
 {
     let rest = expect(b")", text)?;
     read_list(alloc, rest)

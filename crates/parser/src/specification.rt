@@ -2,7 +2,8 @@
 
 ghost use Rattle.std.specs.Prelude.{◌≡◌, ◌+◌, length, map, option_map};
 ghost use Rattle.meaning.specs.Syntax.{letters_tree, implicit_tree, constant_tree, shape_tree};
-ghost use Rattle.meaning.specs.Reading.{separated_at, naming_of, letter_at, letters_at, type_at, implicit_at, implying_of, constant_at, parameter_of};
+ghost use Rattle.meaning.specs.Reading.{separated_at, naming_of, letter_at, letters_at, type_at};
+ghost use Rattle.meaning.specs.Reading.{implicit_at, implying_of, constant_at, parameter_of};
 ghost use Rattle.parser.specs.Reports.{Agrees};
 
 use crate::expression::read_whole_expression;
@@ -57,7 +58,8 @@ fn read_letters(_alloc: Global, text: &[u8]) -> Result<(Letters, &[u8]), ReadErr
 
 /// Letters with commas between, one at least.
 fn read_letters_list(alloc: Global, text: &[u8]) -> Result<(Vec<Letters>, &[u8]), ReadError>
-    ensures { Agrees (λ x. (map letters_tree x.0.items, x.1.now)) result (separated_at letters_at (length text.now + 1) text.now) }
+    ensures { Agrees (λ x. (map letters_tree x.0.items, x.1.now)) result
+        (separated_at letters_at (length text.now + 1) text.now) }
 {
     let mut list = Vec::new(alloc);
     let mut rest = text;
@@ -100,7 +102,8 @@ fn read_implicit_part(alloc: Global, text: &[u8]) -> Result<(ImplicitPart, &[u8]
 
 /// Data types with their letters, one at least.
 fn read_implicit_parts(alloc: Global, text: &[u8]) -> Result<(Vec<ImplicitPart>, &[u8]), ReadError>
-    ensures { Agrees (λ x. (map implicit_tree x.0.items, x.1.now)) result (separated_at implicit_at (length text.now + 1) text.now) }
+    ensures { Agrees (λ x. (map implicit_tree x.0.items, x.1.now)) result
+        (separated_at implicit_at (length text.now + 1) text.now) }
 {
     let mut list = Vec::new(alloc);
     let mut rest = text;
@@ -138,7 +141,8 @@ fn read_constant(alloc: Global, text: &[u8]) -> Result<(NamedConstant, &[u8]), R
 
 /// Constants with commas between, one at least.
 fn read_constants(alloc: Global, text: &[u8]) -> Result<(Vec<NamedConstant>, &[u8]), ReadError>
-    ensures { Agrees (λ x. (map constant_tree x.0.items, x.1.now)) result (separated_at constant_at (length text.now + 1) text.now) }
+    ensures { Agrees (λ x. (map constant_tree x.0.items, x.1.now)) result
+        (separated_at constant_at (length text.now + 1) text.now) }
 {
     let mut list = Vec::new(alloc);
     let mut rest = text;

@@ -2,8 +2,13 @@
 
 ghost use Rattle.std.specs.Prelude.{◌≡◌, ◌<◌, false, option_map};
 ghost use Rattle.meaning.specs.Kinds.{kind_of};
-ghost use Rattle.meaning.specs.Syntax.{ExprTree, ExprsTree, assignment, expr_tree, exprs_tree, limits_tree, shape_tree};
-ghost use Rattle.meaning.specs.Reading.{Text, at_end as ends, whole_expression_at, exprs_at, subscripts_at, value_of, target_of, assignment_of, format_of, alone_of, limits_at, comma_at, range_label_at, doing_of, doing_while_of, simple_by, logical_if_of, shape_by, shape_of, most_open, read_shape};
+ghost use Rattle.meaning.specs.Syntax.{ExprTree, ExprsTree, assignment, expr_tree, exprs_tree};
+ghost use Rattle.meaning.specs.Syntax.{limits_tree, shape_tree};
+ghost use Rattle.meaning.specs.Reading.{Text, at_end as ends, whole_expression_at, exprs_at};
+ghost use Rattle.meaning.specs.Reading.{subscripts_at, value_of, target_of, assignment_of};
+ghost use Rattle.meaning.specs.Reading.{format_of, alone_of, limits_at, comma_at, range_label_at};
+ghost use Rattle.meaning.specs.Reading.{doing_of, doing_while_of, simple_by, logical_if_of};
+ghost use Rattle.meaning.specs.Reading.{shape_by, shape_of, most_open, read_shape};
 ghost use Rattle.meaning.specs.Answers.{at_line};
 ghost use Rattle.meaning.specs.Reports.{Gives};
 ghost use Rattle.parser.specs.Behind.{limits_with, target_behind, step_behind, limits_behind};
@@ -30,7 +35,8 @@ use std::alloc::Global;
 /// Expressions with commas between, one at least.
 #[tactic(auto, unfolding(meaning::specs::Reading::exprs_at, meaning::specs::Reading::either))]
 fn read_expressions(alloc: Global, most: usize, text: &[u8]) -> Result<(Exprs, &[u8]), ReadError>
-    ensures { Agrees (λ x. (exprs_tree x.0, x.1.now)) result (exprs_at (λ _ t. whole_expression_at t) most text.now) }
+    ensures { Agrees (λ x. (exprs_tree x.0, x.1.now)) result
+        (exprs_at (λ _ t. whole_expression_at t) most text.now) }
 {
     if most == 0 {
         return Err(ReadError::NoReading);
@@ -62,7 +68,8 @@ pub fn at_end(shape: Shape, rest: &[u8]) -> Result<Shape, ReadError>
 /// Subscripts in parentheses (ANSI X3.9-1978, 5.4), or none.
 #[tactic(auto, unfolding(meaning::specs::Reading::subscripts_at, meaning::specs::Reading::either))]
 fn read_subscripts(alloc: Global, text: &[u8]) -> Result<(Exprs, &[u8]), ReadError>
-    ensures { Agrees (λ x. (exprs_tree x.0, x.1.now)) result (subscripts_at (λ _ t. whole_expression_at t) text.now) }
+    ensures { Agrees (λ x. (exprs_tree x.0, x.1.now)) result
+        (subscripts_at (λ _ t. whole_expression_at t) text.now) }
 {
     match behind(b"(", text) {
         None => Ok((Exprs::Empty, text)),
@@ -95,7 +102,8 @@ pub fn read_value(alloc: Global, text: &[u8]) -> Result<Expr, ReadError>
 /// What stands on the right of an assignment, behind its equals sign.
 #[tactic(auto, unfolding(crate::specs::Behind::target_behind))]
 fn read_assigned(alloc: Global, text: &[u8]) -> Result<Expr, ReadError>
-    ensures { (name : Text) (es : ExprsTree) → Agrees (λ x. assignment name es (expr_tree x)) result (target_behind name es text.now) }
+    ensures { (name : Text) (es : ExprsTree) →
+        Agrees (λ x. assignment name es (expr_tree x)) result (target_behind name es text.now) }
 {
     let rest = expect(b"=", text)?;
     read_value(alloc, rest)
@@ -165,7 +173,9 @@ fn read_alone(word: &[u8], shape: Shape, text: &[u8]) -> Result<Shape, ReadError
 /// A comma and an expression, or nothing.
 #[tactic(auto, unfolding(crate::specs::Behind::step_behind, meaning::specs::Reading::either))]
 fn read_step(alloc: Global, text: &[u8]) -> Result<(Option<Expr>, &[u8]), ReadError>
-    ensures { (a b : ExprTree) → Agrees (λ x. (limits_with a b (option_map expr_tree x.0), x.1.now)) result (step_behind a b text.now) }
+    ensures { (a b : ExprTree) →
+        Agrees (λ x. (limits_with a b (option_map expr_tree x.0), x.1.now)) result
+        (step_behind a b text.now) }
 {
     match behind(b",", text) {
         None => Ok((None, text)),
@@ -179,7 +189,9 @@ fn read_step(alloc: Global, text: &[u8]) -> Result<(Option<Expr>, &[u8]), ReadEr
 /// The limits behind the first: a comma and an expression, and a step or none.
 #[tactic(auto, unfolding(crate::specs::Behind::limits_behind))]
 fn read_last_limits(alloc: Global, text: &[u8]) -> Result<(Expr, Option<Expr>, &[u8]), ReadError>
-    ensures { (a : ExprTree) → Agrees (λ x. (limits_with a (expr_tree x.0) (option_map expr_tree x.1), x.2.now)) result (limits_behind a text.now) }
+    ensures { (a : ExprTree) →
+        Agrees (λ x. (limits_with a (expr_tree x.0) (option_map expr_tree x.1), x.2.now)) result
+        (limits_behind a text.now) }
 {
     let rest = expect(b",", text)?;
     let (last, rest) = read_whole_expression(alloc, rest)?;
@@ -192,7 +204,8 @@ fn read_last_limits(alloc: Global, text: &[u8]) -> Result<(Expr, Option<Expr>, &
     }
 }
 
-/// The limits of a DO statement (ANSI X3.9-1978, 11.10): two expressions or three, with commas between.
+/// The limits of a DO statement (ANSI X3.9-1978, 11.10): two expressions or three, with commas
+/// between.
 #[tactic(auto, unfolding(meaning::specs::Reading::limits_at, crate::specs::Behind::limits_behind, crate::specs::Behind::step_behind))]
 pub fn read_limits(alloc: Global, text: &[u8]) -> Result<(Limits, &[u8]), ReadError>
     ensures { Agrees (λ x. (limits_tree x.0, x.1.now)) result (limits_at text.now) }
@@ -221,7 +234,8 @@ pub fn split_comma(text: &[u8]) -> (bool, &[u8])
 /// The label of a DO or DO WHILE statement and whether a comma stands behind it, or no label.
 #[tactic(auto, unfolding(meaning::specs::Reading::range_label_at))]
 fn read_range_label(alloc: Global, text: &[u8]) -> Result<(Option<Vec<u8>>, bool, &[u8]), ReadError>
-    ensures { Agrees (λ x. ((option_map (λ l. l.items) x.0, x.1), x.2.now)) result (range_label_at text.now) }
+    ensures { Agrees (λ x. ((option_map (λ l. l.items) x.0, x.1), x.2.now)) result
+        (range_label_at text.now) }
 {
     if !begins_with_digit(text) {
         return Ok((None, false, text));
@@ -383,13 +397,16 @@ fn boxed_shape_of(alloc: Global, bare: &Bare) -> Result<Box<Shape>, ReadError>
     Ok(Box::new(alloc, shape)?)
 }
 
-/// The form that a bare text reads as. More than 64 parentheses open at once break G3, and no growth is made before that is
-/// known, so that want of memory is never answered then. Where there is no reading, the text breaks G2 if it begins as a
-/// statement that is left out, and else G1. Fails too if memory is refused.
+/// The form that a bare text reads as. More than 64 parentheses open at once break G3, and no
+/// growth is made before that is known, so that want of memory is never answered then. Where there
+/// is no reading, the text breaks G2 if it begins as a statement that is left out, and else G1.
+/// Fails too if memory is refused.
 #[tactic(auto, unfolding(meaning::specs::Reading::read_shape, meaning::specs::Reading::either))]
 pub fn form(alloc: Global, bare: &Bare) -> Result<Form, Refusal>
-    ensures exact { Gives (λ f. shape_tree f.shape.value) result (at_line bare.now.line (read_shape bare.now.text.items)) }
-    ensures deep { 64 < most_open 0 false bare.now.text.items → result ≡ Err (Refusal.Rule Rule.G3 bare.now.line) }
+    ensures exact { Gives (λ f. shape_tree f.shape.value) result
+        (at_line bare.now.line (read_shape bare.now.text.items)) }
+    ensures deep { 64 < most_open 0 false bare.now.text.items → result
+        ≡ Err (Refusal.Rule Rule.G3 bare.now.line) }
 {
     let line = bare.line;
     if is_too_deep(&bare.text) {

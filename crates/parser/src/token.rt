@@ -2,8 +2,11 @@
 
 ghost use Rattle.std.specs.Prelude.{◌≡◌, option_map, nat_lt};
 ghost use Rattle.std.specs.List.{list_all, list_any, prefix_len};
-ghost use Rattle.meaning.specs.Characters.{is_digit as digit_test, is_alphanumeric as alphanumeric_test, is_number as number_test, is_label, number_of};
-ghost use Rattle.meaning.specs.Reading.{after, before_last_parenthesis, run, name_at, label_at, sign_at, first_operator_at, operator_at, truth_at};
+ghost use Rattle.meaning.specs.Characters.{is_digit as digit_test};
+ghost use Rattle.meaning.specs.Characters.{is_alphanumeric as alphanumeric_test};
+ghost use Rattle.meaning.specs.Characters.{is_number as number_test, is_label, number_of};
+ghost use Rattle.meaning.specs.Reading.{after, before_last_parenthesis, run, name_at, label_at};
+ghost use Rattle.meaning.specs.Reading.{sign_at, first_operator_at, operator_at, truth_at};
 ghost use Rattle.meaning.specs.Spelling.{operator_text};
 ghost use Rattle.parser.specs.Reports.{Agrees};
 

@@ -1,5 +1,6 @@
 -- The cells of the first page, at hand without a look-up (own).
-use Rattle.std.specs.Prelude.{◌≡◌, ◌<◌, ◌==◌, ◌&&◌, ◌⊎◌, zero, suc, pos, nat_lt, slice_index_or, if◌then◌else◌, Some, None, is_some, Bool, true, List, ℕ, ℤ}
+use Rattle.std.specs.Prelude.{◌≡◌, ◌<◌, ◌==◌, ◌&&◌, ◌⊎◌, zero, suc, pos, nat_lt, slice_index_or}
+use Rattle.std.specs.Prelude.{if◌then◌else◌, Some, None, is_some, Bool, true, List, ℕ, ℤ}
 use Rattle.std.specs.Int.{bit_at}
 use Rattle.std.specs.FinMap as map
 use Rattle.meaning.specs.Stores.{World}
@@ -35,14 +36,17 @@ world_with_first mask values w = record w {
   written = λ c. if is_first mask c then Some (slice_index_or values c (pos 0)) else w.written c;
 }
 
--- what is at hand of the first 64 cells beside a store: which may be shown, which were written, and the value of each
+-- what is at hand of the first 64 cells beside a store: which may be shown, which were written, and
+-- the value of each
 pub record IsFront (shown : List ℕ) (written : ℕ) (values : List ℤ) (w : World) : Type 0 where
   -- those that were written
   pub own : (b : ℕ) → b < 64 → is_some (w.written b) ≡ (bit_at written b == 1)
   -- each other one has the value that the store stands on
-  pub based : (b : ℕ) → b < 64 → b < w.cells → w.written b ≡ None → w.base b ≡ slice_index_or values b (pos 0)
+  pub based : (b : ℕ) → b < 64 → b < w.cells → w.written b ≡ None → w.base b
+      ≡ slice_index_or values b (pos 0)
   -- to show one marks nothing that isn't marked
-  pub marked : (b : ℕ) → b < 64 → slice_index_or shown b 0 ≡ b → w.written b ≡ None → (w.exposed b ≡ true) ⊎ (w.lost ≡ true)
+  pub marked : (b : ℕ) → b < 64 → slice_index_or shown b 0 ≡ b → w.written b ≡ None →
+      (w.exposed b ≡ true) ⊎ (w.lost ≡ true)
   -- what was written may be shown
   pub both : (b : ℕ) → b < 64 → bit_at written b ≡ 1 → slice_index_or shown b 0 ≡ b
   pub first : AreFirst shown

@@ -1,5 +1,7 @@
 -- What a view of a whole store is among stores (own).
-use Rattle.std.specs.Prelude.{◌≡◌, true, pos, Some, map as list_map, slice_get, slice_index_or, ◌*◌, ◌/◌, ◌%◌, ◌+◌, ◌-◌, min, ℕ, ℤ, ◌<◌, ◌==◌, ◌&&◌, if◌then◌else◌, Bool, false, List, length, IsSome, refl}
+use Rattle.std.specs.Prelude.{◌≡◌, true, pos, Some, map as list_map, slice_get, slice_index_or, ◌*◌}
+use Rattle.std.specs.Prelude.{◌/◌, ◌%◌, ◌+◌, ◌-◌, min, ℕ, ℤ, ◌<◌, ◌==◌, ◌&&◌, if◌then◌else◌, Bool}
+use Rattle.std.specs.Prelude.{false, List, length, IsSome, refl}
 use Rattle.std.specs.Ordering.{nat_cmp}
 use Rattle.std.specs.FinSet as set
 use Rattle.std.specs.FinMap as map
@@ -65,19 +67,23 @@ pub record IsCopied (slots numbers : List ℕ) (k : ℕ) : Type 0 where
 
 -- each of the pages that were copied has its place noted
 abbrev pub ArePlaced : List ℕ → List ℕ → Type 0
-ArePlaced slots numbers = (i : ℕ) → i < length numbers → slot_at slots (slice_index_or numbers i 0) ≡ i
+ArePlaced slots numbers =
+    (i : ℕ) → i < length numbers → slot_at slots (slice_index_or numbers i 0) ≡ i
 
 -- each cell that was written is in a page that was copied; 64 values for each page
-pub record ArePaged (cells : ℕ) (marks : set.FinSet nat_cmp) (slots numbers : List ℕ) (values : List ℤ) : Type 0 where
+pub record ArePaged (cells : ℕ) (marks : set.FinSet nat_cmp) (slots numbers : List ℕ)
+    (values : List ℤ) : Type 0 where
   pub within : (c : ℕ) → set.contains marks c ≡ true → c < cells
   pub copied : (c : ℕ) → set.contains marks c ≡ true → IsCopied slots numbers (c / 64)
   pub placed : ArePlaced slots numbers
   pub long : length values ≡ 64 * length numbers
 
 -- and each other cell of these pages has the base's value
-pub record IsKept (base : List ℤ) (marks : set.FinSet nat_cmp) (slots numbers : List ℕ) (values : List ℤ) : Type 0 where
+pub record IsKept (base : List ℤ) (marks : set.FinSet nat_cmp) (slots numbers : List ℕ)
+    (values : List ℤ) : Type 0 where
   pub paged : ArePaged (length base) marks slots numbers values
-  pub based : (c : ℕ) → c < length base → IsCopied slots numbers (c / 64) → set.contains marks c ≡ false → Some (value_at slots values c) ≡ slice_get base c
+  pub based : (c : ℕ) → c < length base → IsCopied slots numbers (c / 64) → set.contains marks c
+      ≡ false → Some (value_at slots values c) ≡ slice_get base c
 
 -- a cell of a page was written
 abbrev pub WroteIn : Seen → ℕ → Type 0
@@ -85,7 +91,9 @@ WroteIn s k = (b : ℕ) × ((b < 64) × IsSome (map.get s.written (64 * k + b)))
 
 -- the values of a page's cells, fewer in the last page
 abbrev pub ShowsPage : Seen → ℕ → List ℤ → Type 0
-ShowsPage s k p = (length p ≡ min 64 (length s.base - 64 * k)) × ((b : ℕ) → b < length p → slice_get p b ≡ Some (known (world_seen s) (64 * k + b)))
+ShowsPage s k p =
+    (length p ≡ min 64 (length s.base - 64 * k))
+    × ((b : ℕ) → b < length p → slice_get p b ≡ Some (known (world_seen s) (64 * k + b)))
 
 -- a cell of a page is marked
 abbrev pub HasSome : List ℕ → ℕ → Type 0
@@ -116,7 +124,8 @@ Parts = List ℤ × (set.FinSet nat_cmp × (Written × Bool))
 
 abbrev pub coded_parts : Coded Parts
 coded_parts =
-    coded× (coded_list coded_ℤ) (coded× (set.code coded_ℕ) (coded× (map.code coded_ℕ coded_ℤ) coded_bool))
+    coded× (coded_list coded_ℤ)
+    (coded× (set.code coded_ℕ) (coded× (map.code coded_ℕ coded_ℤ) coded_bool))
 
 abbrev pub parts_of : Seen → Parts
 parts_of s = (s.base, (s.exposed, (s.written, s.lost)))
@@ -128,4 +137,7 @@ abbrev pub coded_seen : Coded Seen
 coded_seen = code_by Parts coded_parts parts_of of_parts (λ _. refl)
 
 abbrev pub coded_wrote : Coded Wrote
-coded_wrote = code_by (ℕ × Written) (coded× coded_ℕ (map.code coded_ℕ coded_ℤ)) (λ w. (w.cells, w.written)) (λ p. record { cells = p.0; written = p.1 }) (λ _. refl)
+coded_wrote =
+    code_by (ℕ × Written)
+    (coded× coded_ℕ (map.code coded_ℕ coded_ℤ)) (λ w. (w.cells, w.written)) (λ p.
+    record { cells = p.0; written = p.1 }) (λ _. refl)

@@ -1,18 +1,21 @@
 //! The values of the first cells, at hand.
 
-ghost use Rattle.std.specs.Prelude.{◌≡◌, ◌≢◌, ◌<◌, ◌≤◌, ℕ, ℤ, pos, true, false, Some, List, IfSome, IsTrue, is_some, length, slice_get, slice_index_or, slice_set};
+ghost use Rattle.std.specs.Prelude.{◌≡◌, ◌≢◌, ◌<◌, ◌≤◌, ℕ, ℤ, pos, true, false, Some, List, IfSome};
+ghost use Rattle.std.specs.Prelude.{IsTrue, is_some, length, slice_get, slice_index_or, slice_set};
 ghost use Rattle.meaning.specs.Stores.{World, LeavesRead, after_write};
-ghost use Rattle.private_view.specs.Fronts.{AreFirst, IsFront, is_first, is_shown, world_with_first};
+ghost use Rattle.private_view.specs.Fronts.{AreFirst, IsFront, is_first, is_shown};
+ghost use Rattle.private_view.specs.Fronts.{world_with_first};
 ghost use Rattle.private_view.specs.Views.{new_view, world_seen};
 
 use array_store::Whole;
 use marks::{has_bit, with_bit};
 
-/// The first 64 cells, which variables have before all others: the value of each, which of them were written, and which may be
-/// shown without a mark.
+/// The first 64 cells, which variables have before all others: the value of each, which of them
+/// were written, and which may be shown without a mark.
 #[derive(Clone, Copy)]
-pub(crate) struct Front {
-    // In the place of each cell itself where it may be shown, else another one: so one comparison tells whether a cell is one of these.
+pub(crate) struct FirstCells {
+    // In the place of each cell itself where it may be shown, else another one: so one comparison
+    // tells whether a cell is one of these.
     pub shown: [u32; 64],
     pub written: u64,
     pub values: [i32; 64],
@@ -40,14 +43,15 @@ fn none_shown() -> [u32; 64]
     shown
 }
 
-impl Front {
+impl FirstCells {
     /// Nothing was written or shown.
     #[inline(always)]
-    pub fn new(base: &Whole) -> Front
+    pub fn new(base: &Whole) -> FirstCells
         ensures none { result.written ≡ 0 }
-        ensures front { IsFront result.shown result.written result.values (world_seen (new_view base.now)) }
+        ensures front { IsFront result.shown result.written result.values
+            (world_seen (new_view base.now)) }
     {
-        Front {
+        FirstCells {
             shown: none_shown(),
             written: 0,
             values: first_values(base),

@@ -1,6 +1,9 @@
 //! A view of a whole store by its pages.
 
-ghost use Rattle.std.specs.Prelude.{◌≢◌, ◌||◌, true, None, ◌-◌, min, ◌↔◌, IsTrue, OnErr, [], ◌∷◌, ◌⊎◌, vec_len, vec_capacity, slice_set, slice_get, ◌≡◌, ◌<◌, ◌≤◌, ◌+◌, ◌*◌, ◌/◌, ◌%◌, ◌++◌, ◌^◌, ℕ, ℤ, pos, Some, length, is_some, IfOk, IfSome, OnOk, IsSome, slice_index_or};
+ghost use Rattle.std.specs.Prelude.{◌≢◌, ◌||◌, true, None, ◌-◌, min, ◌↔◌, IsTrue, OnErr, [], ◌∷◌};
+ghost use Rattle.std.specs.Prelude.{◌⊎◌, vec_len, vec_capacity, slice_set, slice_get, ◌≡◌, ◌<◌};
+ghost use Rattle.std.specs.Prelude.{◌≤◌, ◌+◌, ◌*◌, ◌/◌, ◌%◌, ◌++◌, ◌^◌, ℕ, ℤ, pos, Some, length};
+ghost use Rattle.std.specs.Prelude.{is_some, IfOk, IfSome, OnOk, IsSome, slice_index_or};
 ghost use Rattle.std.specs.FinSet as set;
 ghost use Rattle.std.specs.FinMap as map;
 ghost use Rattle.marks.specs.Words.{tells, word_at};
@@ -8,7 +11,10 @@ ghost use Rattle.std.specs.Int.{bit_at};
 ghost use Rattle.meaning.specs.Stores.{after_write, known, overlay, LeavesRead};
 ghost use Rattle.array_store.specs.Whole.{world_of};
 ghost use Rattle.private_view.specs.Fronts.{with_first};
-ghost use Rattle.private_view.specs.Views.{ArePaged, ArePlaced, HasSome, TakesAll, TakesPage, Wrote, coded_wrote, is_in, of_page, IsCopied, IsKept, Seen, ShowsPage, WroteIn, coded_seen, new_view, slot_at, value_at, world_seen, written_by};
+ghost use Rattle.private_view.specs.Views.{ArePaged, ArePlaced, HasSome, TakesAll, TakesPage};
+ghost use Rattle.private_view.specs.Views.{Wrote, coded_wrote, is_in, of_page, IsCopied, IsKept};
+ghost use Rattle.private_view.specs.Views.{Seen, ShowsPage, WroteIn, coded_seen, new_view, slot_at};
+ghost use Rattle.private_view.specs.Views.{value_at, world_seen, written_by};
 
 use array_store::{Store, Whole};
 use marks::{Marks, lowest_bit, without_bit};
@@ -16,8 +22,8 @@ use meaning::cell::Cell;
 use std::alloc::{AllocError, Global};
 use std::marker::Model;
 
-/// What was written over a whole store, and which of its cells were read before they were written. The whole
-/// store itself stays as it is.
+/// What was written over a whole store, and which of its cells were read before they were written.
+/// The whole store itself stays as it is.
 #[derive(Drop)]
 pub(crate) struct Paged<'a> {
     base: &'a Whole,
@@ -43,12 +49,14 @@ impl<'a> Model for Paged<'a> {
       lost = v.lost;
     } };
 
-    ghost invariant = { λ v. IsKept v.base.now v.written v.slots.items v.numbers.items v.values.items };
+    ghost invariant = { λ v.
+        IsKept v.base.now v.written v.slots.items v.numbers.items v.values.items };
 }
 
-/// What a view wrote, without the loan of the whole store that it stood on. Another view can be kept in its place.
+/// What a view wrote, without the loan of the whole store that it stood on. Another view can be
+/// kept in its place.
 #[derive(Drop)]
-pub struct Changes {
+pub struct WriteSet {
     cells: usize,
     written: Marks,
     exposed: Marks,
@@ -57,7 +65,7 @@ pub struct Changes {
     values: Vec<i32>,
 }
 
-impl Model for Changes {
+impl Model for WriteSet {
     ghost Value = { Wrote };
 
     ghost coded = { coded_wrote };
@@ -67,7 +75,8 @@ impl Model for Changes {
       written = written_by h.written (value_at h.slots.items h.values.items);
     } };
 
-    ghost invariant = { λ h. ArePaged h.cells h.written h.slots.items h.numbers.items h.values.items };
+    ghost invariant = { λ h.
+        ArePaged h.cells h.written h.slots.items h.numbers.items h.values.items };
 }
 
 impl<'a> Paged<'a> {
@@ -88,8 +97,9 @@ impl<'a> Paged<'a> {
         )
     }
 
-    /// A view in which nothing was read or written, kept where another one was. It takes no memory, and no time for each cell.
-    pub(crate) fn again(changes: Changes, base: &'a Whole) -> Paged<'a>
+    /// A view in which nothing was read or written, kept where another one was. It takes no memory,
+    /// and no time for each cell.
+    pub(crate) fn again(changes: WriteSet, base: &'a Whole) -> Paged<'a>
         ensures { result ≡ new_view base.entry.now }
     {
         let mut written = changes.written;
@@ -117,8 +127,8 @@ impl<'a> Paged<'a> {
         &self.written
     }
 
-    /// The values of the cells from 64 times the page's number on, fewer in the last page, exactly where one of these cells was
-    /// written. It takes no memory.
+    /// The values of the cells from 64 times the page's number on, fewer in the last page, exactly
+    /// where one of these cells was written. It takes no memory.
     pub(crate) fn page(&self, page: usize) -> Option<&[i32]>
         ensures some { IsTrue (is_some result) ↔ WroteIn self.now page }
         ensures values { IfSome result (λ p. ShowsPage self.now page p.now) }
@@ -137,7 +147,8 @@ impl<'a> Paged<'a> {
         self.lost
     }
 
-    // Reads a cell that wasn't written, and marks it. It stands by itself, so that a cell that is marked is read quickly.
+    // Reads a cell that wasn't written, and marks it. It stands by itself, so that a cell that is
+    // marked is read quickly.
     #[inline(never)]
     fn read_new(&mut self, cell: Cell) -> i32
         requires inside { cell.0 < length self.old.base }
@@ -172,11 +183,13 @@ impl<'a> Paged<'a> {
         }
     }
 
-    // Writes a cell for the first time, which may take memory. It stands by itself, so that a cell that was written is written quickly.
+    // Writes a cell for the first time, which may take memory. It stands by itself, so that a cell
+    // that was written is written quickly.
     #[inline(never)]
     fn write_new(&mut self, cell: Cell, value: i32) -> Result<(), AllocError>
         requires { cell.0 < length self.old.base }
-        ensures ok { OnOk result (world_seen self.new ≡ after_write cell.0 value (world_seen self.old)) }
+        ensures ok { OnOk result
+            (world_seen self.new ≡ after_write cell.0 value (world_seen self.old)) }
         ensures err { OnErr result (world_seen self.new ≡ world_seen self.old) }
         ensures base { self.new.base ≡ self.old.base }
     {
@@ -192,7 +205,8 @@ impl<'a> Paged<'a> {
     #[inline(never)]
     fn write_first(&mut self, cell: Cell, value: i32) -> Result<(), AllocError>
         requires { cell.0 < length self.old.base }
-        ensures ok { OnOk result (world_seen self.new ≡ after_write cell.0 value (world_seen self.old)) }
+        ensures ok { OnOk result
+            (world_seen self.new ≡ after_write cell.0 value (world_seen self.old)) }
         ensures err { OnErr result (world_seen self.new ≡ world_seen self.old) }
         ensures base { self.new.base ≡ self.old.base }
     {
@@ -216,7 +230,8 @@ impl<'a> Paged<'a> {
         put_value(&self.slots, &self.numbers, &mut self.values, cell, value);
     }
 
-    /// Gives those of the first 64 cells that a mask has, which were written, other values. It takes no memory.
+    /// Gives those of the first 64 cells that a mask has, which were written, other values. It
+    /// takes no memory.
     pub(crate) fn put_first(&mut self, mask: u64, values: &[i32; 64])
         requires { (b : ℕ) → b < 64 → bit_at mask b ≡ 1 → IsSome (map.get self.old.written b) }
         ensures { self.new ≡ with_first mask values.now self.old }
@@ -230,10 +245,10 @@ impl<'a> Paged<'a> {
     }
 
     /// Lets the whole store go, and keeps what was written. It takes no memory.
-    pub(crate) fn into_changes(self) -> Changes
+    pub(crate) fn into_changes(self) -> WriteSet
         ensures { result ≡ record { cells = length self.entry.base; written = self.entry.written } }
     {
-        Changes {
+        WriteSet {
             cells: self.base.cells().len(),
             written: self.written,
             exposed: self.exposed,
@@ -244,7 +259,7 @@ impl<'a> Paged<'a> {
     }
 }
 
-impl Changes {
+impl WriteSet {
     /// Puts what was written into a whole store of as many cells. It takes no memory.
     pub fn apply_to(&self, target: &mut Whole)
         requires { length target.old ≡ self.now.cells }
@@ -426,8 +441,12 @@ fn grow_to(slots: &mut Vec<usize>, page: usize) -> Result<(), AllocError>
 fn add_page(values: &mut Vec<i32>, part: &[i32]) -> Result<(), AllocError>
     requires { length part.now ≤ 64 }
     ensures len { OnOk result (length values.new.items ≡ length values.old.items + 64) }
-    ensures before { (i : ℕ) → i < length values.old.items → slice_index_or values.new.items i (pos 0) ≡ slice_index_or values.old.items i (pos 0) }
-    ensures there { OnOk result ((i : ℕ) → i < length part.now → slice_index_or values.new.items (length values.old.items + i) (pos 0) ≡ slice_index_or part.now i (pos 0)) }
+    ensures before { (i : ℕ) → i < length values.old.items →
+        slice_index_or values.new.items i (pos 0) ≡ slice_index_or values.old.items i (pos 0) }
+    ensures there { OnOk result
+        ((i : ℕ) → i < length part.now →
+        slice_index_or values.new.items (length values.old.items + i) (pos 0)
+        ≡ slice_index_or part.now i (pos 0)) }
     ensures err { OnErr result (values.new.items ≡ values.old.items) }
 {
     let start = values.len();
@@ -459,7 +478,8 @@ fn add_number(slots: &mut Vec<usize>, numbers: &mut Vec<usize>, page: usize)
 fn put_value(slots: &[usize], numbers: &[usize], values: &mut Vec<i32>, cell: usize, value: i32)
     requires copied { IsCopied slots.now numbers.now (cell / 64) }
     requires long { length values.old.items ≡ 64 * length numbers.now }
-    ensures { values.new.items ≡ slice_set values.old.items (64 * slot_at slots.now (cell / 64) + cell % 64) value }
+    ensures { values.new.items
+        ≡ slice_set values.old.items (64 * slot_at slots.now (cell / 64) + cell % 64) value }
 {
     match slots.get(cell / 64) {
         Some(slot) => values[*slot * 64 + cell % 64] = value,
@@ -479,7 +499,8 @@ fn page_len(cells: usize, page: usize) -> usize
 fn page_of(base: &Whole, page: usize) -> &[i32]
     requires { 64 * page < length base.now }
     ensures len { length result.now ≡ min 64 (length base.now - 64 * page) }
-    ensures is { (i : ℕ) → i < length result.now → slice_index_or result.now i (pos 0) ≡ slice_index_or base.now (64 * page + i) (pos 0) }
+    ensures is { (i : ℕ) → i < length result.now → slice_index_or result.now i (pos 0)
+        ≡ slice_index_or base.now (64 * page + i) (pos 0) }
     ensures small { page < 2 ^ 58 }
 {
     let cells = base.cells();
@@ -501,9 +522,14 @@ fn hold(
     requires long { length values.old.items ≡ 64 * length numbers.old.items }
     ensures placed { ArePlaced slots.new.items numbers.new.items }
     ensures copied { OnOk result (IsCopied slots.new.items numbers.new.items page) }
-    ensures kept { (k : ℕ) → IsCopied slots.old.items numbers.old.items k → IsCopied slots.new.items numbers.new.items k }
-    ensures same { (c : ℕ) → IsCopied slots.old.items numbers.old.items (c / 64) → value_at slots.new.items values.new.items c ≡ value_at slots.old.items values.old.items c }
-    ensures based { (c : ℕ) → c < length base.now → IsCopied slots.new.items numbers.new.items (c / 64) → IsCopied slots.old.items numbers.old.items (c / 64) ⊎ (Some (value_at slots.new.items values.new.items c) ≡ slice_get base.now c) }
+    ensures kept { (k : ℕ) → IsCopied slots.old.items numbers.old.items k →
+        IsCopied slots.new.items numbers.new.items k }
+    ensures same { (c : ℕ) → IsCopied slots.old.items numbers.old.items (c / 64) →
+        value_at slots.new.items values.new.items c ≡ value_at slots.old.items values.old.items c }
+    ensures based { (c : ℕ) → c < length base.now →
+        IsCopied slots.new.items numbers.new.items (c / 64) →
+        IsCopied slots.old.items numbers.old.items (c / 64)
+        ⊎ (Some (value_at slots.new.items values.new.items c) ≡ slice_get base.now c) }
     ensures long { length values.new.items ≡ 64 * length numbers.new.items }
 {
     if is_copied(slots, numbers, page) {

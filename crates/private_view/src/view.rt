@@ -6,23 +6,25 @@ ghost use Rattle.std.specs.FinMap as map;
 ghost use Rattle.meaning.specs.Stores.{known, overlay, after_write, LeavesRead};
 ghost use Rattle.array_store.specs.Whole.{world_of};
 ghost use Rattle.private_view.specs.Fronts.{IsFront, with_first};
-ghost use Rattle.private_view.specs.Views.{Seen, ShowsPage, WroteIn, coded_seen, new_view, world_seen};
+ghost use Rattle.private_view.specs.Views.{Seen, ShowsPage, WroteIn, coded_seen, new_view};
+ghost use Rattle.private_view.specs.Views.{world_seen};
 
-use crate::front::Front;
-use crate::paged::{Changes, Paged};
+use crate::front::FirstCells;
+use crate::paged::{Paged, WriteSet};
 use array_store::{Store, Whole};
 use marks::Marks;
 use meaning::cell::Cell;
 use std::alloc::{AllocError, Global};
 use std::marker::Model;
 
-/// What was written over a whole store, and which of its cells were read before they were written. The whole
-/// store itself stays as it is.
+/// What was written over a whole store, and which of its cells were read before they were written.
+/// The whole store itself stays as it is.
 #[derive(Drop)]
 pub struct View<'a> {
     paged: Paged<'a>,
-    // The first cells, without a look-up: their newest values stand here alone until the view is let go.
-    front: Front,
+    // The first cells, without a look-up: their newest values stand here alone until the view is
+    // let go.
+    front: FirstCells,
 }
 
 impl<'a> Model for View<'a> {
@@ -32,7 +34,8 @@ impl<'a> Model for View<'a> {
 
     ghost view = { λ v. with_first v.front.written v.front.values v.paged };
 
-    ghost invariant = { λ v. IsFront v.front.shown v.front.written v.front.values (world_seen v.paged) };
+    ghost invariant = { λ v.
+        IsFront v.front.shown v.front.written v.front.values (world_seen v.paged) };
 }
 
 impl<'a> View<'a> {
@@ -42,17 +45,18 @@ impl<'a> View<'a> {
     {
         View {
             paged: Paged::new(alloc, base),
-            front: Front::new(base),
+            front: FirstCells::new(base),
         }
     }
 
-    /// A view in which nothing was read or written, kept where another one was. It takes no memory, and no time for each cell.
-    pub fn again(changes: Changes, base: &'a Whole) -> View<'a>
+    /// A view in which nothing was read or written, kept where another one was. It takes no memory,
+    /// and no time for each cell.
+    pub fn again(changes: WriteSet, base: &'a Whole) -> View<'a>
         ensures { result ≡ new_view base.entry.now }
     {
         View {
             paged: Paged::again(changes, base),
-            front: Front::new(base),
+            front: FirstCells::new(base),
         }
     }
 
@@ -70,8 +74,8 @@ impl<'a> View<'a> {
         self.paged.written()
     }
 
-    /// The values of the cells from 64 times the page's number on, fewer in the last page, exactly where one of these cells was
-    /// written. It takes no memory.
+    /// The values of the cells from 64 times the page's number on, fewer in the last page, exactly
+    /// where one of these cells was written. It takes no memory.
     pub fn page(&self, page: usize) -> Option<&[i32]>
         ensures some { IsTrue (is_some result) ↔ WroteIn self.now page }
         ensures values { IfSome result (λ p. ShowsPage self.now page p.now) }
@@ -90,8 +94,8 @@ impl<'a> View<'a> {
         self.paged.is_lost()
     }
 
-    // Reads a cell that isn't shown without a mark, or any other one. It stands by itself, so that one of the first cells is read where
-    // it is wanted.
+    // Reads a cell that isn't shown without a mark, or any other one. It stands by itself, so that
+    // one of the first cells is read where it is wanted.
     #[cold]
     #[inline(never)]
     fn read_behind(&mut self, cell: Cell) -> i32
@@ -130,7 +134,8 @@ impl<'a> View<'a> {
     #[inline(never)]
     fn write_first(&mut self, cell: Cell, value: i32) -> Result<(), AllocError>
         requires { cell.0 < length self.old.base }
-        ensures ok { OnOk result (world_seen self.new ≡ after_write cell.0 value (world_seen self.old)) }
+        ensures ok { OnOk result
+            (world_seen self.new ≡ after_write cell.0 value (world_seen self.old)) }
         ensures err { OnErr result (world_seen self.new ≡ world_seen self.old) }
         ensures cells { length self.new.base ≡ length self.old.base }
     {
@@ -143,7 +148,7 @@ impl<'a> View<'a> {
     }
 
     /// Lets the whole store go, and keeps what was written. It takes no memory.
-    pub fn into_changes(self) -> Changes
+    pub fn into_changes(self) -> WriteSet
         ensures { result ≡ record { cells = length self.entry.base; written = self.entry.written } }
     {
         let View { paged, front } = self;
@@ -152,7 +157,8 @@ impl<'a> View<'a> {
         paged.into_changes()
     }
 
-    /// Puts what was written into a whole store of as many cells, and lets the view go. It takes no memory.
+    /// Puts what was written into a whole store of as many cells, and lets the view go. It takes no
+    /// memory.
     pub fn apply(self, target: &mut Whole)
         requires { length target.old ≡ length self.base }
         ensures values { known (world_of target.new) ≡

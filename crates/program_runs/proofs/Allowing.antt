@@ -8,7 +8,7 @@ use Rattle.meaning.specs.declared.syntax.Tree.{Tree}
 use Rattle.meaning.specs.LoopLaws.{LeaveVariables, ArmsLeaveVariables}
 use Rattle.meaning.specs.Trees.{Members, none, member_before, members_tree, arms_tree}
 use Rattle.meaning.proofs.Ranges.{member_before-loop, member_before-block}
-use Rattle.landmarks.proofs.Keeping.{kept_at, kept_range, kept_quiet, kept_arms, kept_body}
+use Rattle.label_targets.proofs.Keeping.{kept_at, kept_range, kept_quiet, kept_arms, kept_body}
 use Rattle.evaluator.specs.Unset.{LeavesItsVariable}
 use Rattle.program_runs.specs.Allowed.{AreArmsAllowed, IsAllowed, IsPartAllowed}
 use Rattle.program_runs.specs.Quiet.{IsQuietUnlessLoud}

@@ -5,14 +5,14 @@ use Rattle.std.specs.Borrow.{Bor}
 use Rattle.std.proofs.lemmas.Bool.{false≢true}
 use Rattle.meaning.specs.declared.syntax.Tree.{Tree}
 use Rattle.meaning.specs.Syntax.{ExprTree, FormatTree, ListItemsTree, ShapeTree, logical_if}
-use Rattle.landmarks.specs.Quiet.{output_in}
+use Rattle.label_targets.specs.Quiet.{output_in}
 use Rattle.postfix.specs.declared.code.Code.{Code}
-use Rattle.programs.specs.declared.action.Action.{Action}
-use Rattle.programs.specs.declared.action.ListCodes.{ListCodes}
-use Rattle.programs.specs.Acts.{Acts}
-use Rattle.programs.specs.Asked.{ConditionalIs, is_logical_if}
-use Rattle.programs.specs.Codes.{IsCode}
-use Rattle.programs.specs.Items.{AreItems, AreItemsOf}
+use Rattle.program.specs.declared.action.Action.{Action}
+use Rattle.program.specs.declared.action.ListCodes.{ListCodes}
+use Rattle.program.specs.Acts.{Acts}
+use Rattle.program.specs.Asked.{ConditionalIs, is_logical_if}
+use Rattle.program.specs.Codes.{IsCode}
+use Rattle.program.specs.Items.{AreItems, AreItemsOf}
 use Rattle.program_runs.specs.Conditions.{AreSomeParts}
 
 -- of a statement that writes this list

@@ -2,7 +2,7 @@
 use Rattle.std.proofs.Common.{◌≡◌, ℕ, ℤ, List, ap, ◌∙◌}
 use mathlib.Core.Path.{fun_ext}
 use Rattle.meaning.specs.declared.syntax.Tree.{Tree}
-use Rattle.numbering.specs.Starts.{map_of, start_in}
+use Rattle.storage.specs.Starts.{map_of, start_in}
 
 -- cells that are what the program starts with stand for the start
 pub start_is : (t : Tree) (values cells : List ℤ) → cells ≡ values → ((n : List ℕ) (ss : List ℤ) → map_of t values n ss ≡ start_in t n ss) → map_of t cells ≡ start_in t

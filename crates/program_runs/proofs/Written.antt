@@ -19,8 +19,8 @@ use Rattle.meaning.specs.Execution.{Ran, more, failed, Ways, onward, turn, with_
 use Rattle.meaning.specs.Promise.{Told, Took, IsBroken}
 use Rattle.meaning.proofs.Running.{more-more}
 use Rattle.evaluator.specs.Listing.{Gives}
-use Rattle.landmarks.specs.Quiet.{output_in, is_writing}
-use Rattle.programs.specs.Asked.{is_logical_if}
+use Rattle.label_targets.specs.Quiet.{output_in, is_writing}
+use Rattle.program.specs.Asked.{is_logical_if}
 use Rattle.evaluator.specs.Statements.{Leaves, Moves, Comes}
 use Rattle.evaluator.proofs.Executed.{fault_at, one_less, turn_none, turn_some, turn_goes}
 use Rattle.program_runs.specs.Recorded.{AreEdited, AreRecorded, recorded_by, recorded}

@@ -1,9 +1,9 @@
--- Lists of statements of a program that breaks no rule: what is kept of them, and that no range sets the variable of its DO
--- statement (ANSI X3.9-1978, 11.10.5).
+-- Lists of statements of a program that breaks no rule: what is kept of them, and that no range
+-- sets the variable of its DO statement (ANSI X3.9-1978, 11.10.5).
 use Rattle.meaning.specs.declared.syntax.Tree.{Tree}
 use Rattle.meaning.specs.LoopLaws.{LeaveVariables, ArmsLeaveVariables}
 use Rattle.meaning.specs.Trees.{Members, Arms}
-use Rattle.landmarks.specs.Kept.{AreArmsKept, IsKept, IsPartKept}
+use Rattle.label_targets.specs.Kept.{AreArmsKept, IsKept, IsPartKept}
 
 -- a list
 pub record IsAllowed (t : Tree) (ms : Members) : Type 0 where

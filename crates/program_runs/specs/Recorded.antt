@@ -10,15 +10,19 @@ use Rattle.meaning.specs.Maps.{Map}
 use Rattle.meaning.specs.Records.{edited}
 use Rattle.meaning.specs.Execution.{parts_for}
 
--- the records of a list under a format, or the fault of either; and the map behind the list, or that its fault left
-abbrev pub recorded_by : (List Value → Result (List ℕ) FaultKind) → Listed → Result (List ℕ) FaultKind × Map
+-- the records of a list under a format, or the fault of either; and the map behind the list, or
+-- that its fault left
+abbrev pub recorded_by : (List Value → Result (List ℕ) FaultKind) → Listed →
+    Result (List ℕ) FaultKind × Map
 recorded_by edit (Ok l) = (edit l.values, l.map)
 recorded_by edit (Err f) = (Err f.kind, f.map)
 
 -- those of a WRITE or PRINT statement
-abbrev pub recorded : List ItemTree → FormatTree → ListItemsTree → Map → Result (List ℕ) FaultKind × Map
+abbrev pub recorded : List ItemTree → FormatTree → ListItemsTree → Map → Result (List ℕ) FaultKind
+    × Map
 recorded program source list m =
-    recorded_by (λ vs. edited (parts_for program source) vs) (listed (scope_of program) list m list_limit)
+    recorded_by (λ vs. edited (parts_for program source) vs)
+    (listed (scope_of program) list m list_limit)
 
 -- records or a fault are what the definition gives
 abbrev pub AreEdited : Result (Vec ℕ) FaultKind → Result (List ℕ) FaultKind → Type 0

@@ -11,7 +11,7 @@ use Rattle.meaning.specs.Execution.{Next, onward, at_label, Ran, more, Follow, W
 use Rattle.meaning.specs.Promise.{Told, Took, IsFront, IsBroken}
 use Rattle.program_runs.specs.declared.halt.Halt.{Halt}
 use Rattle.program_runs.specs.declared.halt.Halt.TheVariants as halts
-use Rattle.numbering.specs.Starts.{map_of}
+use Rattle.storage.specs.Starts.{map_of}
 use Rattle.evaluator.specs.declared.passed.Passed.{Passed}
 use Rattle.evaluator.specs.declared.passed.Passed.TheVariants.{Ended, Again}
 use Rattle.evaluator.specs.Statements.{outcome_of}
@@ -20,11 +20,12 @@ use Rattle.whole_runs.specs.declared.trips.Advance.{Advance}
 -- ---- a run by itself, from turns that are given
 
 -- it ended so, with this map and so many turns left, and wrote all its pieces
-pub record IsOver (r : Ran) (given : ℕ) (m : Map) (left : ℕ) (o : Outcome) (old new : Told) : Type 0 where
-  pub outcome : r.outcome ≡ outcome_of o
-  pub after : r.map ≡ m
-  pub turns : r.used + left ≡ given
-  pub bytes : Took old new (concat r.pieces)
+pub record IsOver (r : Ran) (given : ℕ) (m : Map) (left : ℕ) (o : Outcome) (old new : Told) : Type 0
+  where
+    pub outcome : r.outcome ≡ outcome_of o
+    pub after : r.map ≡ m
+    pub turns : r.used + left ≡ given
+    pub bytes : Took old new (concat r.pieces)
 
 -- it was cut short: memory between two pieces, a write anywhere
 abbrev pub Halts : List (List ℕ) → Halt → Told → Told → Type 0
@@ -38,7 +39,8 @@ Runs r given m left (Err h) old new = Halts r.pieces h old new
 -- ---- a statement, before whatever follows it
 
 -- it goes on there from this map and these turns
-pub record GoesOn (does : Ways → Ran) (given : ℕ) (next : Next) (m : Map) (left : ℕ) (old new : Told) : Type 0 where
+pub record GoesOn (does : Ways → Ran) (given : ℕ) (next : Next) (m : Map) (left : ℕ)
+    (old new : Told) : Type 0 where
   pub pieces : List (List ℕ)
   pub used : ℕ
   pub is : (go : Ways) → does go ≡ more pieces used (go next m left)
@@ -47,15 +49,19 @@ pub record GoesOn (does : Ways → Ran) (given : ℕ) (next : Next) (m : Map) (l
 
 abbrev pub Steps : (Ways → Ran) → ℕ → Map → ℕ → Result Outcome Halt → Told → Told → Type 0
 Steps does given m left (Ok outcomes.Normal) old new = GoesOn does given onward m left old new
-Steps does given m left (Ok (outcomes.Left s)) old new = GoesOn does given (at_label s) m left old new
-Steps does given m left (Ok (outcomes.Stopped line)) old new = (go : Ways) → IsOver (does go) given m left (outcomes.Stopped line) old new
-Steps does given m left (Ok (outcomes.Fault f)) old new = (go : Ways) → IsOver (does go) given m left (outcomes.Fault f) old new
+Steps does given m left (Ok (outcomes.Left s)) old new =
+    GoesOn does given (at_label s) m left old new
+Steps does given m left (Ok (outcomes.Stopped line)) old new =
+    (go : Ways) → IsOver (does go) given m left (outcomes.Stopped line) old new
+Steps does given m left (Ok (outcomes.Fault f)) old new =
+    (go : Ways) → IsOver (does go) given m left (outcomes.Fault f) old new
 Steps does given m left (Err h) old new = (go : Ways) → Halts (does go).pieces h old new
 
 -- ---- a member of a list, before whatever follows it
 
 -- the range of a DO WHILE ended normally: from this map and these turns it is executed again (own)
-pub record GoesAgain (does : Ways → Ran) (given : ℕ) (again : Follow) (m : Map) (left : ℕ) (old new : Told) : Type 0 where
+pub record GoesAgain (does : Ways → Ran) (given : ℕ) (again : Follow) (m : Map) (left : ℕ)
+    (old new : Told) : Type 0 where
   pub pieces : List (List ℕ)
   pub used : ℕ
   pub is : (go : Ways) → does go ≡ more pieces used (again m left)
@@ -69,10 +75,13 @@ Passes does given again m left (Err h) old new = (go : Ways) → Halts (does go)
 
 -- ---- of a program, from values of its cells to others
 
-abbrev pub RunsIn : Tree → List ℤ → List ℤ → (Map → ℕ → Ran) → ℕ → ℕ → Result Outcome Halt → Told → Told → Type 0
-RunsIn t cells new_cells does given left o old new = Runs (does (map_of t cells) given) given (map_of t new_cells) left o old new
+abbrev pub RunsIn : Tree → List ℤ → List ℤ → (Map → ℕ → Ran) → ℕ → ℕ → Result Outcome Halt → Told →
+    Told → Type 0
+RunsIn t cells new_cells does given left o old new =
+    Runs (does (map_of t cells) given) given (map_of t new_cells) left o old new
 
-abbrev pub StepsIn : Tree → List ℤ → List ℤ → (Map → ℕ → Ways → Ran) → ℕ → ℕ → Result Outcome Halt → Told → Told → Type 0
+abbrev pub StepsIn : Tree → List ℤ → List ℤ → (Map → ℕ → Ways → Ran) → ℕ → ℕ → Result Outcome Halt →
+    Told → Told → Type 0
 StepsIn t cells new_cells does given left o old new =
     Steps (λ go. does (map_of t cells) given go) given (map_of t new_cells) left o old new
 
@@ -81,14 +90,18 @@ abbrev pub Advances : (ℕ → Ran) → ℕ → Map → ℕ → Result Advance H
 Advances trips given m left (Ok a) old new = Runs (trips a.done) given m left (Ok a.outcome) old new
 Advances trips given m left (Err h) old new = Halts (trips 1).pieces h old new
 
-abbrev pub AdvancesIn : Tree → List ℤ → List ℤ → (ℕ → Map → ℕ → Ran) → ℕ → ℕ → Result Advance Halt → Told → Told → Type 0
+abbrev pub AdvancesIn : Tree → List ℤ → List ℤ → (ℕ → Map → ℕ → Ran) → ℕ → ℕ → Result Advance Halt →
+    Told → Told → Type 0
 AdvancesIn t cells new_cells trips given left r old new =
     Advances (λ n. trips n (map_of t cells) given) given (map_of t new_cells) left r old new
 
 -- whatever a DO WHILE that is executed again does
-abbrev pub PassesIn : Tree → List ℤ → List ℤ → (Follow → Map → ℕ → Ways → Ran) → ℕ → ℕ → Result Passed Halt → Told → Told → Type 0
+abbrev pub PassesIn : Tree → List ℤ → List ℤ → (Follow → Map → ℕ → Ways → Ran) → ℕ → ℕ →
+    Result Passed Halt → Told → Told → Type 0
 PassesIn t cells new_cells does given left p old new =
-    (again : Follow) → Passes (λ go. does again (map_of t cells) given go) given again (map_of t new_cells) left p old new
+    (again : Follow) →
+    Passes (λ go. does again (map_of t cells) given go) given again (map_of t new_cells) left p
+    old new
 
 -- a WRITE or PRINT statement
 abbrev pub output_as : List ItemTree → FormatTree → ListItemsTree → ℕ → Map → ℕ → Ways → Ran

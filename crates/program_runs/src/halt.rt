@@ -1,7 +1,8 @@
 //! Why a run stops short of its end.
 
 ghost use Rattle.std.specs.Prelude.{◌≡◌};
-ghost use Rattle.program_runs.specs.declared.halt.Halt.TheVariants.{Memory, WriteRefused as Refusal};
+ghost use Rattle.program_runs.specs.declared.halt.Halt.TheVariants.{Memory};
+ghost use Rattle.program_runs.specs.declared.halt.Halt.TheVariants.{WriteRefused as Refusal};
 
 use record_sinks::Refused;
 use std::alloc::{AllocError, AllocFailed};

@@ -1,16 +1,17 @@
-//! How DO statements without output are executed: one trip after another, or in any way that gives the same.
+//! How DO statements without output are executed: one trip after another, or in any way that gives
+//! the same.
 
 ghost use Rattle.std.specs.Prelude.{◌≡◌, ◌≢◌, ◌≤◌, ℤ, length, pos};
 ghost use Rattle.meaning.specs.declared.syntax.Loop.{out-Loop};
 ghost use Rattle.meaning.specs.Syntax.{shape_tree};
-ghost use Rattle.numbering.specs.Checked.{count_in};
-ghost use Rattle.programs.specs.Acts.{Repeats};
+ghost use Rattle.storage.specs.Checked.{count_in};
+ghost use Rattle.program.specs.Acts.{Repeats};
 ghost use Rattle.whole_runs.specs.Trips.{IsQuietLoop, LeavesIn, trips_in};
 
 use array_store::Whole;
 use meaning::ending::{Fault, Outcome};
 use meaning::syntax::Loop;
-use programs::{Program, Repeat};
+use program::{Program, Repeat};
 use whole_runs::{Advance, Remaining, trips_whole};
 
 /// Executes trips of DO statements without output.
@@ -18,10 +19,11 @@ pub trait QuietLoops {
     /// What it needs before it executes any.
     ghost ready: { Self → Type 0 };
 
-    /// Executes some of the trips that are left of a DO statement whose range writes nothing, from the next one on: all of them, a
-    /// part, or none. Its variable has its value in the next one. Answers how many they were, and how the last of them ended. Where
-    /// none was executed nothing is changed, and the caller executes the next one. It has no refusal: where a growth was refused, it
-    /// does the same without what it wanted memory for.
+    /// Executes some of the trips that are left of a DO statement whose range writes nothing, from
+    /// the next one on: all of them, a part, or none. Its variable has its value in the next one.
+    /// Answers how many they were, and how the last of them ended. Where none was executed nothing
+    /// is changed, and the caller executes the next one. It has no refusal: where a growth was
+    /// refused, it does the same without what it wanted memory for.
     fn run_trips(
         &self,
         program: &Program,
@@ -45,11 +47,12 @@ pub trait QuietLoops {
             (cells.new ≡ cells.old) × (turns.new ≡ turns.old) }
         ensures len { length cells.new ≡ length cells.old };
 
-    /// Takes note of a DO statement whose range writes nothing and that has no trips, where it is executed. It changes nothing.
+    /// Takes note of a DO statement whose range writes nothing and that has no trips, where it is
+    /// executed. It changes nothing.
     fn without_trips(&self, line: u32) {}
 
-    /// Takes note of a fault that ended the program. It is called once, behind the fault, with the cells as that left them, and changes
-    /// nothing: the run ends as it would without it.
+    /// Takes note of a fault that ended the program. It is called once, behind the fault, with the
+    /// cells as that left them, and changes nothing: the run ends as it would without it.
     fn faulted(&self, program: &Program, fault: Fault, cells: &Whole) {}
 }
 

@@ -1,9 +1,10 @@
-//! The run of a program in order, and in any way of executing DO statements without output that gives the same.
+//! The run of a program in order, and in any way of executing DO statements without output that
+//! gives the same.
 
 ghost use Rattle.std.specs.Prelude.{◌≡◌, ◌≢◌, ◌↔◌, Ok, false, true};
 ghost use Rattle.meaning.specs.Answers.{answer_of, ending_of};
 ghost use Rattle.meaning.specs.Promise.{Keeps};
-ghost use Rattle.numbering.specs.Checked.{items_in, tree_of};
+ghost use Rattle.storage.specs.Checked.{items_in, tree_of};
 ghost use Rattle.evaluator.specs.Statements.{outcome_of};
 ghost use Rattle.program_runs.specs.Reported.{IsReportOf};
 
@@ -11,11 +12,12 @@ use crate::halt::Halt;
 use crate::quiet_loops::QuietLoops;
 use crate::walk::execute;
 use meaning::ending::{Ending, Outcome, Report, Run};
-use programs::Program;
+use program::Program;
 use record_sinks::Sink;
 use std::alloc::Global;
 
-// How a run ends that its statements ended. What a STOP statement tells is moved out of the program: no memory is allocated.
+// How a run ends that its statements ended. What a STOP statement tells is moved out of the
+// program: no memory is allocated.
 fn ending_by(alloc: Global, program: Program, outcome: Outcome) -> Ending
     ensures told { result ≡ ending_of (items_in program) (outcome_of outcome) }
     ensures written { result ≢ Ending.WriteRefused }
@@ -49,8 +51,8 @@ fn report_of(alloc: Global, program: Program, run: Run) -> Report
     }
 }
 
-/// Runs a program, whose DO statements without output are executed as the caller wants it. Its promise is that of the main theorem for
-/// sources that spell the program. The program is used up.
+/// Runs a program, whose DO statements without output are executed as the caller wants it. Its
+/// promise is that of the main theorem for sources that spell the program. The program is used up.
 pub fn run_program<S: Sink, Q: QuietLoops>(
     alloc: Global,
     program: Program,

@@ -1,21 +1,23 @@
 //! Single statements (ANSI X3.9-1978, 10.1, 11.5, 11.11 and 12.8).
 
-ghost use Rattle.std.specs.Prelude.{◌≡◌, Some, false, not, length, unwrap_or, option_map, IfOk, IsTrue};
-ghost use Rattle.meaning.specs.Syntax.{ShapeTree, expr_tree, format_tree, list_items_tree, logical_if, shape_tree};
+ghost use Rattle.std.specs.Prelude.{◌≡◌, Some, false, not, length, unwrap_or, option_map, IfOk};
+ghost use Rattle.std.specs.Prelude.{IsTrue};
+ghost use Rattle.meaning.specs.Syntax.{ShapeTree, expr_tree, format_tree, list_items_tree};
+ghost use Rattle.meaning.specs.Syntax.{logical_if, shape_tree};
 ghost use Rattle.meaning.specs.Trees.{item_tree};
 ghost use Rattle.meaning.specs.Execution.{parts_for, step};
 ghost use Rattle.meaning.specs.Records.{edited};
 ghost use Rattle.meaning.specs.Formats.{format_in, no_parts, undoubled};
 ghost use Rattle.meaning.specs.Values.{value as value_of};
 ghost use Rattle.format_edit.specs.Formatted.{descriptors};
-ghost use Rattle.numbering.specs.Checked.{items_in, count_in};
-ghost use Rattle.numbering.specs.Starts.{map_of};
-ghost use Rattle.programs.specs.Programs.{IsStatement};
+ghost use Rattle.storage.specs.Checked.{items_in, count_in};
+ghost use Rattle.storage.specs.Starts.{map_of};
+ghost use Rattle.program.specs.Programs.{IsStatement};
 ghost use Rattle.values.specs.Programs.{scope_in};
-ghost use Rattle.landmarks.specs.Quiet.{output_in, output_tree};
-ghost use Rattle.programs.specs.Asked.{ListIs, is_logical_if};
-ghost use Rattle.programs.specs.Codes.{IsCode};
-ghost use Rattle.programs.specs.Items.{AreItems};
+ghost use Rattle.label_targets.specs.Quiet.{output_in, output_tree};
+ghost use Rattle.program.specs.Asked.{ListIs, is_logical_if};
+ghost use Rattle.program.specs.Codes.{IsCode};
+ghost use Rattle.program.specs.Items.{AreItems};
 ghost use Rattle.evaluator.specs.Statements.{Spends};
 ghost use Rattle.program_runs.specs.Walk.{StepsIn, output_as};
 ghost use Rattle.program_runs.specs.Conditions.{AreSomeParts};
@@ -26,11 +28,11 @@ use array_store::Whole;
 use evaluator::{logical_if_of, take_turn};
 use expressions::as_logical;
 use format_edit::{EditFault, Format, FormatFault, edit};
-use landmarks::output_of;
+use label_targets::output_of;
 use meaning::ending::{Fault, FaultKind, Outcome, Value};
 use meaning::syntax::{Expr, FormatSource, Item, ListItems, Shape};
 use postfix::Code;
-use programs::{Action, ListCodes, Program};
+use program::{Action, ListCodes, Program};
 use record_sinks::{Sink, put_all};
 use std::alloc::{AllocError, Global};
 use values::value;
@@ -95,7 +97,8 @@ fn blank(alloc: Global) -> Format
     }
 }
 
-// The records of values under the format that a WRITE or PRINT statement names or has, or the fault.
+// The records of values under the format that a WRITE or PRINT statement names or has, or the
+// fault.
 fn edited_list(
     alloc: Global,
     program: &Program,
@@ -204,8 +207,8 @@ fn condition_value(
     value(program, code, cells)
 }
 
-// Executes a logical IF over a WRITE or PRINT statement: it takes a turn, and the statement, where the condition is true,
-// another.
+// Executes a logical IF over a WRITE or PRINT statement: it takes a turn, and the statement, where
+// the condition is true, another.
 fn execute_if<S: Sink>(
     alloc: Global,
     program: &Program,
@@ -355,7 +358,8 @@ fn execute_alone<S: Sink>(
     }
 }
 
-/// Executes one statement that stands by itself, or passes over one that isn't executable. Answers how it ended.
+/// Executes one statement that stands by itself, or passes over one that isn't executable. Answers
+/// how it ended.
 pub fn execute_item<S: Sink>(
     alloc: Global,
     program: &Program,

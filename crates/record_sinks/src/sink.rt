@@ -15,8 +15,9 @@ pub trait Sink {
     /// The bytes that it has, where they are known, and whether it has refused.
     ghost told: { Self → Told };
 
-    /// Takes bytes from the front of a piece, and answers how many: one at least, unless the piece is empty. An `Err`
-    /// takes none, and the sink has refused from then on. Called only on a sink that hasn't refused.
+    /// Takes bytes from the front of a piece, and answers how many: one at least, unless the piece
+    /// is empty. An `Err` takes none, and the sink has refused from then on. Called only on a sink
+    /// that hasn't refused.
     fn put(&mut self, piece: &[u8]) -> Result<usize, Refused>
         requires { (told self.old).refused ≡ false }
         ensures ok { IfOk result (λ n. TakesFront piece.now n (told self.old) (told self.new)) }

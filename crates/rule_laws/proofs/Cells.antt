@@ -9,10 +9,10 @@ use Rattle.std.proofs.lemmas.Slice.Eq.{bytes_eq-Decides}
 use Rattle.meaning.specs.Arrays.{Dimension, above, cell_of, combined, extent, place, size, within}
 use Rattle.meaning.specs.Scopes.{arrays_of}
 use Rattle.meaning.specs.Syntax.{ItemTree}
-use Rattle.meaning.specs.Uses.{is_array, is_constant, is_other, roles_of}
+use Rattle.meaning.specs.Uses.{is_array, is_constant, is_other, symbols_of}
 use Rattle.meaning.specs.Values.{Arrays, dimensions_in}
 use Rattle.name_maps.proofs.NameSets.{any_with_names}
-use Rattle.numbering.specs.Numbered.{appearing_by, is_variable, named, named_of, names_from, variables_of, with_those}
+use Rattle.storage.specs.Numbered.{appearing_by, is_variable, named, named_of, names_from, variables_of, with_those}
 use Rattle.rule_laws.specs.Lawful.{EachBehind, IsLawful}
 use Rattle.rule_laws.specs.References.{HasCell, HasElement}
 use Rattle.rule_laws.proofs.Sizes.{HaveElements, arrays_sized}
@@ -60,15 +60,15 @@ kept test names more n passes there =
     any_with_names names (filter test more) n ∙ ap (λ b. list_any (bytes_eq n) names || b) (filtered test n more passes there)
     ∙ or_true (list_any (bytes_eq n) names)
 
-pub array_appears : (all : List ItemTree) (n : List ℕ) → is_array (roles_of all) n ≡ true → list_any (bytes_eq n) (names_from (roles_of all) [] all) ≡ true → list_any (bytes_eq n) (variables_of all) ≡ true
+pub array_appears : (all : List ItemTree) (n : List ℕ) → is_array (symbols_of all) n ≡ true → list_any (bytes_eq n) (names_from (symbols_of all) [] all) ≡ true → list_any (bytes_eq n) (variables_of all) ≡ true
 array_appears all n array there =
-    let r = roles_of all in
+    let r = symbols_of all in
     kept (is_array r) (with_those (is_other r) [] (appearing_by r all)) (appearing_by r all) n array
     (kept (is_variable r) [] (names_from r [] all) n (ap (λ b. b || is_other r n) array) there)
 
-pub variable_appears : (all : List ItemTree) (n : List ℕ) → is_other (roles_of all) n ≡ true → list_any (bytes_eq n) (names_from (roles_of all) [] all) ≡ true → list_any (bytes_eq n) (variables_of all) ≡ true
+pub variable_appears : (all : List ItemTree) (n : List ℕ) → is_other (symbols_of all) n ≡ true → list_any (bytes_eq n) (names_from (symbols_of all) [] all) ≡ true → list_any (bytes_eq n) (variables_of all) ≡ true
 variable_appears all n other there =
-    let r = roles_of all in
+    let r = symbols_of all in
     let front = with_those (is_other r) [] (appearing_by r all) in
     any_with_names front (filter (is_array r) (appearing_by r all)) n
     ∙ ap (λ b. b || list_any (bytes_eq n) (filter (is_array r) (appearing_by r all)))
@@ -98,7 +98,7 @@ module _ (arrays : Arrays) (n : List ℕ) (ss : List ℤ) (i : ℕ) (is : place 
           }
 
 -- an array has elements
-pub array_cell : (all : List ItemTree) → EachBehind (IsLawful (roles_of all) all) [] all → (n : List ℕ) (dims : List Dimension) → arrays_of all n ≡ Some dims → HasElement (cell_of (named_of all)) n
+pub array_cell : (all : List ItemTree) → EachBehind (IsLawful (symbols_of all) all) [] all → (n : List ℕ) (dims : List Dimension) → arrays_of all n ≡ Some dims → HasElement (cell_of (named_of all)) n
 array_cell all lawful n dims is =
     let sized = arrays_sized all lawful n dims is in
     record {
@@ -108,9 +108,9 @@ array_cell all lawful n dims is =
     }
 
 -- a name that is used as a variable is one's
-pub variable_cell : (all : List ItemTree) (n : List ℕ) → is_other (roles_of all) n ≡ true → list_any (bytes_eq n) (names_from (roles_of all) [] all) ≡ true → HasCell (cell_of (named_of all)) n []
+pub variable_cell : (all : List ItemTree) (n : List ℕ) → is_other (symbols_of all) n ≡ true → list_any (bytes_eq n) (names_from (symbols_of all) [] all) ≡ true → HasCell (cell_of (named_of all)) n []
 variable_cell all n other there =
-    cell_found (arrays_of all) n [] 0 (no_bounds (arrays_of all n) (plain (is_constant (roles_of all) n) (is_array (roles_of all) n) _ other)) (variables_of all) (variable_appears all n other there)
+    cell_found (arrays_of all) n [] 0 (no_bounds (arrays_of all n) (plain (is_constant (symbols_of all) n) (is_array (symbols_of all) n) _ other)) (variables_of all) (variable_appears all n other there)
   where
     plain : (a b c : Bool) → (not a && (not b && c)) ≡ true → b ≡ false
     plain a b c h = not_false b (and_true (not b) c (and_true (not a) (not b && c) h).1).0

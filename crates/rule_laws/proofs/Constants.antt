@@ -24,7 +24,7 @@ use Rattle.meaning.specs.Scopes.{constant_value, constants_alone, constants_in, 
 use Rattle.meaning.specs.Syntax.{ConstantTree, ExprTree, ItemTree, ShapeTree, parameter, number, truth, name, signed, negated, binary, paren, element, call}
 use Rattle.meaning.specs.Types.{Types}
 use Rattle.meaning.specs.Typing.{Names, SomeType, clash, dummies_if, expected, expected_in, integer_type, is_ill, is_mistyped, logical_type, result_type, type_of, within}
-use Rattle.meaning.specs.Uses.{Roles, Use, is_defining, uses_in}
+use Rattle.meaning.specs.Uses.{Symbols, Use, is_defining, uses_in}
 use Rattle.meaning.specs.Values.{Known, Valued, and_then, as_integer, as_logical, decided, integer, is_integer, logical, operated, or_known, raised, typed as typed_value, unless_decided, value}
 use Rattle.rule_laws.specs.Lawful.{IsLawful}
 use Rattle.rule_laws.proofs.Tests.{all_mapped, all_parts, none_any, or_parts}
@@ -184,7 +184,7 @@ statement_typed ns dummies known (parameter cs) typed real agrees good =
 statement_typed ns dummies known s typed real agrees good = typed
 
 -- the names that are known behind statements have types, behind one more too
-pub more_typed : (r : Roles) (all before : List ItemTree) (x : ItemTree) → IsLawful r all before x → AreTyped r.names.types (known_behind_all r before) → AreTyped r.names.types (known_behind_all r (before ++ x ∷ []))
+pub more_typed : (r : Symbols) (all before : List ItemTree) (x : ItemTree) → IsLawful r all before x → AreTyped r.names.types (known_behind_all r before) → AreTyped r.names.types (known_behind_all r (before ++ x ∷ []))
 more_typed r all before x lawful typed =
     let defines = is_defining r before x in
     let ns = within (dummies_if defines x.shape) r.names in

@@ -9,10 +9,10 @@ use Rattle.meaning.specs.Rules.{checked}
 use Rattle.meaning.specs.Scopes.{arrays_of, declarators_in}
 use Rattle.meaning.specs.Syntax.{ItemTree}
 use Rattle.meaning.specs.Trees.{Nested, flatten}
-use Rattle.meaning.specs.Uses.{Roles, is_array, is_defining, is_other, parts_of, roles_of, uses_at}
+use Rattle.meaning.specs.Uses.{Symbols, is_array, is_defining, is_other, parts_of, symbols_of, uses_at}
 use Rattle.meaning.specs.Values.{Arrays, dimensions_in}
 use Rattle.name_maps.specs.NameSets.{with_name, with_names}
-use Rattle.numbering.specs.Numbered.{appearing_by, is_variable, named, named_of, names_at, names_from, variables_of, with_those}
+use Rattle.storage.specs.Numbered.{appearing_by, is_variable, named, named_of, names_at, names_from, variables_of, with_those}
 use Rattle.rule_laws.specs.Read.{IsRead}
 use Rattle.rule_laws.specs.Units.{Ascend, lines_in, unit_of}
 use Rattle.rule_laws.proofs.Few.{declared_few, reads_few, what_is_set_few}
@@ -40,7 +40,7 @@ few_statements source t is =
 
 -- ---- how many names
 
-names_few : (r : Roles) (before : List ItemTree) (x : ItemTree) → IsRead x.shape → length (names_at r before x) ≤ 3960
+names_few : (r : Symbols) (before : List ItemTree) (x : ItemTree) → IsRead x.shape → length (names_at r before x) ≤ 3960
 names_few r before x read =
     let p = parts_of r (is_defining r before x) x.shape in
     let a = declared_few x.shape read.well in
@@ -53,7 +53,7 @@ names_few r before x read =
     let n = length-append (map (λ d. d.name) (declarators_in x.shape)) (map (λ u. u.name) (uses_at r before x)) in
     omega (arith, a, b, c, short, k, l, m, n)
 
-all_names_few : (r : Roles) (before xs : List ItemTree) → AllByRecursion (λ x. IsRead x.shape) xs → length (names_from r before xs) ≤ 3960 * length xs
+all_names_few : (r : Symbols) (before xs : List ItemTree) → AllByRecursion (λ x. IsRead x.shape) xs → length (names_from r before xs) ≤ 3960 * length xs
 unfolding names_from
 all_names_few r before [] h = omega arith
 all_names_few r before (x ∷ xs) h =
@@ -83,9 +83,9 @@ those_few : (test : List ℕ → Bool) (names more : List (List ℕ)) → length
 those_few test names more =
     let a = set_few names (filter test more) in let b = filtered_few test more in omega (arith, a, b)
 
-variables_few : (all : List ItemTree) → length (variables_of all) ≤ 2 * length (names_from (roles_of all) [] all)
+variables_few : (all : List ItemTree) → length (variables_of all) ≤ 2 * length (names_from (symbols_of all) [] all)
 variables_few all =
-    let r = roles_of all in
+    let r = symbols_of all in
     let a = those_few (is_variable r) [] (names_from r [] all) in
     let b = those_few (is_other r) [] (appearing_by r all) in
     let c = those_few (is_array r) (with_those (is_other r) [] (appearing_by r all)) (appearing_by r all) in
@@ -93,7 +93,7 @@ variables_few all =
 
 variables_distinct : (all : List ItemTree) → AreDistinct (variables_of all)
 variables_distinct all =
-    let r = roles_of all in
+    let r = symbols_of all in
     distinct_names (with_those (is_other r) [] (appearing_by r all)) (filter (is_array r) (appearing_by r all)) (distinct_names [] (filter (is_other r) (appearing_by r all)) tt)
 
 -- ---- how many cells
@@ -114,7 +114,7 @@ pub few_cells : (source : List ℕ) (t : Nested) → unit_of source ≡ Ok t →
 few_cells source t is accepted =
     let all = flatten t in
     let statements = few_statements source t is in
-    let names = all_names_few (roles_of all) [] all (unit_read source t is) in
+    let names = all_names_few (symbols_of all) [] all (unit_read source t is) in
     let variables = variables_few all in
     let elements = few_in_all all (all_lawful t accepted) (variables_of all) (variables_distinct all) in
     let cells = cells_few (arrays_of all) (variables_of all) in

@@ -11,9 +11,9 @@ use Rattle.meaning.specs.NumberRules.{known_behind_all, sizeless_in}
 use Rattle.meaning.specs.Scopes.{arrays_of}
 use Rattle.meaning.specs.Syntax.{ExprTree, name, element, ItemTree, ListItemsTree, no_items, more_items, value_item, loop_item, DataSetTree, ShapeTree, initializing}
 use Rattle.meaning.specs.Typing.{clash}
-use Rattle.meaning.specs.Uses.{Roles, Use, is_defining, parts_of, data_item_sets, given_uses, is_array, is_other, parts_at, roles_of}
+use Rattle.meaning.specs.Uses.{Symbols, Use, is_defining, parts_of, data_item_sets, given_uses, is_array, is_other, parts_at, symbols_of}
 use Rattle.meaning.specs.Values.{Known}
-use Rattle.numbering.specs.Numbered.{variables_of}
+use Rattle.storage.specs.Numbered.{variables_of}
 use Rattle.rule_laws.specs.Lawful.{EachBehind, IsLawful}
 use Rattle.rule_laws.proofs.Cells.{array_appears, variable_appears}
 use Rattle.rule_laws.proofs.Loops.{IsAmong, in_back, in_front, is_first}
@@ -40,7 +40,7 @@ also_there : {A B : Type 0} (P : A → Type 0) (o : Option B) (f : B → Option 
 also_there P None f h = tt
 also_there P (Some x) f h = h x refl
 
-module _ (r : Roles) (good : List ℕ → Type 0) (arrays_good : (n : List ℕ) → is_array r n ≡ true → good n) where
+module _ (r : Symbols) (good : List ℕ → Type 0) (arrays_good : (n : List ℕ) → is_array r n ≡ true → good n) where
   abbrev IsGood : Target → Type 0
   IsGood t = good t.name
 
@@ -137,23 +137,23 @@ module _ (r : Roles) (good : List ℕ → Type 0) (arrays_good : (n : List ℕ) 
 
 -- ---- in a program unit that keeps the rules
 
-pub starts_are_named : (all : List ItemTree) → EachBehind (IsLawful (roles_of all) all) [] all → AllByRecursion (λ s. list_any (bytes_eq s.target.name) (variables_of all) ≡ true) (starts_from (roles_of all) [] all)
+pub starts_are_named : (all : List ItemTree) → EachBehind (IsLawful (symbols_of all) all) [] all → AllByRecursion (λ s. list_any (bytes_eq s.target.name) (variables_of all) ≡ true) (starts_from (symbols_of all) [] all)
 starts_are_named all lawful =
-    let r = roles_of all in
+    let r = symbols_of all in
     let good : List ℕ → Type 0 = λ n. list_any (bytes_eq n) (variables_of all) ≡ true in
     let holds : List ℕ → Type 0 = λ n. is_other r n ≡ true → good n in
     starts_good r good array [] all (each [] all (each_named holds r [] all (λ n there other. variable_appears all n other there)))
   where
-    array : (n : List ℕ) → is_array (roles_of all) n ≡ true → list_any (bytes_eq n) (variables_of all) ≡ true
+    array : (n : List ℕ) → is_array (symbols_of all) n ≡ true → list_any (bytes_eq n) (variables_of all) ≡ true
     array n is = by (arrays_of all n) refl
       where
         by : (o : Option (List Dimension)) → arrays_of all n ≡ o → list_any (bytes_eq n) (variables_of all) ≡ true
         by None none = absurd (true≢false (sym is ∙ ap is_some none))
         by (Some dims) some = array_appears all n is (arrays_sized all lawful n dims some).named
 
-    each : (before xs : List ItemTree) → EachBehind (AreNamed (λ n. is_other (roles_of all) n ≡ true → list_any (bytes_eq n) (variables_of all) ≡ true) (roles_of all)) before xs
-        → EachBehind (λ b x. (n : List ℕ) → IsAmong (parts_at (roles_of all) b x).sets n → is_other (roles_of all) n ≡ true → list_any (bytes_eq n) (variables_of all) ≡ true) before xs
+    each : (before xs : List ItemTree) → EachBehind (AreNamed (λ n. is_other (symbols_of all) n ≡ true → list_any (bytes_eq n) (variables_of all) ≡ true) (symbols_of all)) before xs
+        → EachBehind (λ b x. (n : List ℕ) → IsAmong (parts_at (symbols_of all) b x).sets n → is_other (symbols_of all) n ≡ true → list_any (bytes_eq n) (variables_of all) ≡ true) before xs
     each before [] h = tt
     each before (x ∷ xs) h =
-        let p = parts_at (roles_of all) before x in
-        ((λ n among. used_named (λ m. is_other (roles_of all) m ≡ true → list_any (bytes_eq m) (variables_of all) ≡ true) (roles_of all) before x h.0 n (in_front p.sets p.reads n among)), each (before ++ x ∷ []) xs h.1)
+        let p = parts_at (symbols_of all) before x in
+        ((λ n among. used_named (λ m. is_other (symbols_of all) m ≡ true → list_any (bytes_eq m) (variables_of all) ≡ true) (symbols_of all) before x h.0 n (in_front p.sets p.reads n among)), each (before ++ x ∷ []) xs h.1)

@@ -8,10 +8,10 @@ use Rattle.meaning.specs.NameRules.{given_by, given_from, given_twice, has_two_r
 use Rattle.meaning.specs.Scopes.{Definition, defined_before, defined_by, definitions_of, is_specification}
 use Rattle.meaning.specs.Syntax.{ItemTree}
 use Rattle.meaning.specs.Typing.{option_list}
-use Rattle.meaning.specs.Uses.{Roles, dummies_named, is_before_executables, is_defining, is_one_of}
+use Rattle.meaning.specs.Uses.{Symbols, dummies_named, is_before_executables, is_defining, is_one_of}
 use Rattle.meaning.specs.Values.{Arrays}
 use Rattle.expressions.specs.Calls.{AreOthers}
-use Rattle.roles.proofs.Staging.{behind_one, stands_before}
+use Rattle.symbols.proofs.Staging.{behind_one, stands_before}
 use Rattle.rule_laws.specs.Lawful.{EachBehind, IsLawful}
 use Rattle.rule_laws.proofs.Tests.{and_true, or_parts, or_true}
 
@@ -57,7 +57,7 @@ first_is : (arrays : Arrays) (x : ItemTree) (xs : List ItemTree) → definitions
 unfolding definitions_of
 first_is arrays x xs = refl
 
-module _ (r : Roles) where
+module _ (r : Symbols) where
   abbrev definitions : List ItemTree → List Definition
   definitions xs = definitions_of r.names.arrays xs
 

@@ -10,7 +10,7 @@ use Rattle.meaning.specs.Scopes.{declarators_in, is_dummy, listed}
 use Rattle.meaning.specs.Spelling.{AreWellItems, AreWellSubscripts, IsWell, IsWellArray, IsWellBounds, IsWellConstant, IsWellDataConstant, IsWellDataSet, IsWellDataValue, IsWellDeclarator, IsWellExpr, IsWellLimits, IsWellRepeat, IsWellStep, IsWellUnit, joined, joined_more, operator_text, sign_byte, spell, spell_behind, spell_bounds, spell_comma, spell_constant, spell_control, spell_control_by, spell_data_constant, spell_data_set, spell_data_sets, spell_data_value, spell_declarator, spell_declarators, spell_dimensions, spell_expr, spell_exprs, spell_item, spell_items, spell_items_behind, spell_label, spell_limits, spell_lower, spell_more_bounds, spell_more_declarators, spell_range_label, spell_repeat, spell_source, spell_step, spell_subscripts, spell_unit}
 use Rattle.meaning.specs.Syntax.{ExprTree, number, truth, name, signed, negated, binary, paren, element, call, ExprsTree, no_exprs, exprs, BoundsTree, ConstantTree, DataConstantTree, data_number, data_truth, data_name, DataSetTree, DataValueTree, DeclaratorTree, FormatTree, LimitsTree, ListItemsTree, no_items, more_items, value_item, loop_item, RepeatTree, repeat_number, repeat_name, UnitTree, star, unit_number, ShapeTree, arithmetic_if, assignment, block_if, computed_going, definition, dimensioning, doing, doing_while, else_if, initializing, logical_if, logical_typing, parameter, printing, typing, writing}
 use Rattle.meaning.specs.Typing.{expected, in_bounds, integer_type, option_list}
-use Rattle.meaning.specs.Uses.{Roles, Use, bare_use, count, data_constant_uses, data_item_sets, data_item_uses, data_set_uses, data_value_uses, given_uses, is_array, is_variable_of, item_uses, limit_uses, parts_of, repeat_uses, subscript_uses, target_use, unit_uses, use_with, uses_in, uses_in_all, value_uses, without}
+use Rattle.meaning.specs.Uses.{Symbols, Use, bare_use, count, data_constant_uses, data_item_sets, data_item_uses, data_set_uses, data_value_uses, given_uses, is_array, is_variable_of, item_uses, limit_uses, parts_of, repeat_uses, subscript_uses, target_use, unit_uses, use_with, uses_in, uses_in_all, value_uses, without}
 
 abbrev pub Few : {A : Type 0} → List A → List ℕ → Type 0
 Few us text = length us ≤ length text
@@ -107,7 +107,7 @@ loop_few ys n l xs a b c d h one k rest =
     let w = length-append n (61 ∷ spell_limits l) in
     omega (arith, comma, h, one, k, rest, p, q, r, t, u, v, w)
 
-module _ (r : Roles) where
+module _ (r : Symbols) where
   name_few : (n : List ℕ) (b : Bool) → IsTrue (is_name n) → Few (if b then [] else bare_use n ∷ []) n
   name_few n true h = omega arith
   name_few n false h = some_name n h
@@ -250,7 +250,7 @@ sets_few : (ss : List DataSetTree) → AllByRecursion IsWellDataSet ss → Few (
 sets_few [] h = omega arith
 sets_few (s ∷ ss) h = few_both (data_set_uses s) (flat_map data_set_uses ss) (spell_data_set s) (spell_data_sets ss) (set_few s h.0) (sets_few ss h.1)
 
-module _ (r : Roles) where
+module _ (r : Symbols) where
   few_given : (e : ExprTree) → IsWellExpr e → Few (given_uses r e) (spell_expr e)
   few_given (name n) h = name_few r n (is_array r n) h
   few_given (element n es) h = few_front (use_with n (count es) ∷ []) n _ (some_name n h.0)

@@ -15,8 +15,8 @@ use Rattle.meaning.specs.Surroundings.{Around, controlled_by, in_arm, in_body, i
 use Rattle.meaning.specs.Syntax.{ItemTree, ListItemsTree, no_items, more_items, value_item, loop_item, ShapeTree, doing, logical_if, printing, writing}
 use Rattle.meaning.specs.Trees.{Arms, Members, Nested, arm, block, flat, flat_arms, flatten, loop, no_arms, none, plain}
 use Rattle.meaning.specs.Typing.{clash, logical_type}
-use Rattle.meaning.specs.Uses.{Parts, Roles, Use, bare_use, is_other, item_uses, limit_uses, parts_of, roles_of, unit_uses, uses_in, value_uses}
-use Rattle.numbering.proofs.Unbroken.{none_front, nothing_broken}
+use Rattle.meaning.specs.Uses.{Parts, Symbols, Use, bare_use, is_other, item_uses, limit_uses, parts_of, symbols_of, unit_uses, uses_in, value_uses}
+use Rattle.storage.proofs.Unbroken.{none_front, nothing_broken}
 use Rattle.rule_laws.proofs.Tests.{all_both, all_turned, and_true, none_any, not_true, or_parts, or_true}
 use Rattle.rule_laws.proofs.Unbroken.{none_behind, not_told}
 
@@ -61,17 +61,17 @@ module _ (breaks : Around → ItemTree → Bool) (rule : Rule) where
               (arms_unbroken a arms (none_behind (told_in breaks rule (in_arm a ms) ms) (told_in_arms breaks rule a arms) rest)),
         )
 
-pub loops_unbroken : (t : Nested) → checked t ≡ Ok t → AllByRecursion (IsUnbroken (breaks_loops (roles_of (flatten t)))) (flatten t)
+pub loops_unbroken : (t : Nested) → checked t ≡ Ok t → AllByRecursion (IsUnbroken (breaks_loops (symbols_of (flatten t)))) (flatten t)
 loops_unbroken t accepted =
-    let r = roles_of (flatten t) in
+    let r = symbols_of (flatten t) in
     let lists = none_behind (broken_items r (flatten t)) (broken_lists r t) (nothing_broken t accepted) in
     lists_unbroken (breaks_loops r) K9 (in_body t.body) t.body (none_behind (told_in (breaks_transfers r (flatten t)) K2 (in_body t.body) t.body) _ lists)
 
 -- a variable
-counter_other : (r : Roles) (n : List ℕ) → is_no_counter r n ≡ false → is_other r n ≡ true
+counter_other : (r : Symbols) (n : List ℕ) → is_no_counter r n ≡ false → is_other r n ≡ true
 counter_other r n h = (and_true (is_other r n) (clash logical_type (r.names.types n)) (not_true _ h)).0
 
-pub counters_are_others : (r : Roles) (x : ItemTree) → IsUnbroken (breaks_loops r) x → AllByRecursion (λ n. is_other r n ≡ true) (controlled_by x.shape)
+pub counters_are_others : (r : Symbols) (x : ItemTree) → IsUnbroken (breaks_loops r) x → AllByRecursion (λ n. is_other r n ≡ true) (controlled_by x.shape)
 counters_are_others r x u =
     all_turned (λ n. is_no_counter r n ≡ false) (λ n. is_other r n ≡ true) (counter_other r) (controlled_by x.shape)
     (none_any (is_no_counter r) (controlled_by x.shape) (or_parts (list_any (is_no_counter r) (controlled_by x.shape)) _ u.holds).0)
@@ -94,7 +94,7 @@ in_back a b n h = in_both a b n ∙ ap (λ c. list_any (bytes_eq n) (map (λ u. 
 pub is_first : (n : List ℕ) (us : List Use) → IsAmong (bare_use n ∷ us) n
 is_first n us = ap (λ b. b || list_any (bytes_eq n) (map (λ u. u.name) us)) ((bytes_eq-Decides n n).1 refl)
 
-module _ (r : Roles) where
+module _ (r : Symbols) where
   items_among : (list : ListItemsTree) → AllByRecursion (IsAmong (item_uses r list)) (loop_variables list)
   items_among no_items = tt
   items_among (more_items (value_item e) xs) =

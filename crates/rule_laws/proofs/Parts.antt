@@ -8,7 +8,7 @@ use Rattle.meaning.specs.NumberRules.{data_numbers, has_too_great, is_too_great,
 use Rattle.meaning.specs.Scopes.{Definition, defined_by, definition_if, is_dummy, listed}
 use Rattle.meaning.specs.Syntax.{ExprTree, name, ExprsTree, no_exprs, exprs, ListItemsTree, no_items, more_items, value_item, loop_item, LimitsTree, ShapeTree, arithmetic_if, assignment, block_if, computed_going, definition, doing, doing_while, else_if, logical_if, printing, writing}
 use Rattle.meaning.specs.Typing.{Expected, Names, expected, expected_in, in_target, in_unit, in_items as expected_items, in_limits as expected_limits, integer_type, option_list, SomeType}
-use Rattle.meaning.specs.Uses.{Roles, Use, bare_use, item_uses, limit_uses, parts_of, unit_uses, uses_in, uses_in_all, value_uses}
+use Rattle.meaning.specs.Uses.{Symbols, Use, bare_use, item_uses, limit_uses, parts_of, unit_uses, uses_in, uses_in_all, value_uses}
 use Rattle.rule_laws.specs.Evaluated.{evaluated, in_item, in_items, in_limits}
 use Rattle.rule_laws.proofs.Tests.{all_both, all_mapped, all_parts, all_turned, none_any}
 
@@ -32,7 +32,7 @@ module _ (P : Use → Type 0) where
       step_holds None k = tt
       step_holds (Some e) k = ((all_parts P (uses_in e) [] k).0, tt)
 
-  module _ (r : Roles) where
+  module _ (r : Symbols) where
     name_holds : (n : List ℕ) (b : Bool) → AllByRecursion P (if b then [] else bare_use n ∷ []) → AllByRecursion Holds (if b then [] else name n ∷ [])
     name_holds n true h = tt
     name_holds n false h = (h, tt)
@@ -190,7 +190,7 @@ in_range : (digits : List ℕ) → is_too_great digits ≡ false → IsInRange d
 in_range digits h =
     let le : number_of digits ≤ 2147483647 = ltb-false 2147483647 (number_of digits) h in omega (arith, le)
 
-pub constants_in_range : (r : Roles) (s : ShapeTree) → has_too_great r s ≡ false → AllByRecursion (λ x. AllByRecursion IsInRange (numbers_in x.expr)) (expected_in r.names s)
+pub constants_in_range : (r : Symbols) (s : ShapeTree) → has_too_great r s ≡ false → AllByRecursion (λ x. AllByRecursion IsInRange (numbers_in x.expr)) (expected_in r.names s)
 constants_in_range r s h =
     let all = none_any is_too_great (flat_map (λ x. numbers_in x.expr) (expected_in r.names s) ++ data_numbers s) h in
     let front = (all_parts (λ digits. is_too_great digits ≡ false) (flat_map (λ x. numbers_in x.expr) (expected_in r.names s)) (data_numbers s) all).0 in

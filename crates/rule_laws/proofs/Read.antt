@@ -17,7 +17,7 @@ use Rattle.meaning.specs.Statements.{Entry, Group, broken_alone, broken_in, brok
 use Rattle.meaning.specs.Syntax.{ItemTree, ShapeTree}
 use Rattle.meaning.specs.Trees.{Nested, flatten}
 use Rattle.form_laws.proofs.Sound.{shape_takes}
-use Rattle.numbering.proofs.Unbroken.{none_front}
+use Rattle.storage.proofs.Unbroken.{none_front}
 use Rattle.rule_laws.specs.Read.{IsRead}
 use Rattle.rule_laws.specs.Units.{unit_of}
 use Rattle.rule_laws.proofs.Lines.{entries_are, is_unit}

@@ -17,12 +17,12 @@ use Rattle.meaning.specs.Surroundings.{controlled_by}
 use Rattle.meaning.specs.Syntax.{ExprTree, no_exprs, exprs, ItemTree, ShapeTree, assignment, definition, logical_if}
 use Rattle.meaning.specs.Trees.{Nested, flatten}
 use Rattle.meaning.specs.Typing.{option_list}
-use Rattle.meaning.specs.Uses.{Parts, Roles, Use, count, dummies_named, is_array, is_constant, is_defining, is_function, is_one_of, is_other, parts_at, parts_of, roles_of, uses_at, uses_in}
+use Rattle.meaning.specs.Uses.{Parts, Symbols, Use, count, dummies_named, is_array, is_constant, is_defining, is_function, is_one_of, is_other, parts_at, parts_of, symbols_of, uses_at, uses_in}
 use Rattle.meaning.specs.Values.{Arrays}
 use Rattle.expressions.specs.Calls.{AreOthers}
 use Rattle.expressions.specs.Glossaries.{Glossary}
-use Rattle.numbering.specs.Checked.{glossary_of}
-use Rattle.numbering.specs.Numbered.{named_of, names_at, names_from}
+use Rattle.storage.specs.Checked.{glossary_of}
+use Rattle.storage.specs.Numbered.{named_of, names_at, names_from}
 use Rattle.rule_laws.specs.Evaluated.{IsFit, IsReady, IsReadyFunction, IsTarget, IsTargetAs, evaluated, targets_of}
 use Rattle.rule_laws.specs.Lawful.{EachBehind, IsLawful}
 use Rattle.rule_laws.specs.References.{HasCell, IsReference}
@@ -36,10 +36,10 @@ use Rattle.rule_laws.proofs.Uses.{IsSound, array_reference, reads_refer, reads_s
 
 -- ---- the names of a statement are among those of the program unit
 
-abbrev pub AreNamed : (List ℕ → Type 0) → Roles → List ItemTree → ItemTree → Type 0
+abbrev pub AreNamed : (List ℕ → Type 0) → Symbols → List ItemTree → ItemTree → Type 0
 AreNamed holds r before x = (n : List ℕ) → list_any (bytes_eq n) (names_at r before x) ≡ true → holds n
 
-pub each_named : (holds : List ℕ → Type 0) (r : Roles) (before xs : List ItemTree) → ((n : List ℕ) → list_any (bytes_eq n) (names_from r before xs) ≡ true → holds n) → EachBehind (AreNamed holds r) before xs
+pub each_named : (holds : List ℕ → Type 0) (r : Symbols) (before xs : List ItemTree) → ((n : List ℕ) → list_any (bytes_eq n) (names_from r before xs) ≡ true → holds n) → EachBehind (AreNamed holds r) before xs
 unfolding names_from
 each_named holds r before [] h = tt
 each_named holds r before (x ∷ xs) h =
@@ -50,7 +50,7 @@ each_named holds r before (x ∷ xs) h =
     )
 
 -- a name that a statement uses
-pub used_named : (holds : List ℕ → Type 0) (r : Roles) (before : List ItemTree) (x : ItemTree) → AreNamed holds r before x → (n : List ℕ) → IsAmong (uses_at r before x) n → holds n
+pub used_named : (holds : List ℕ → Type 0) (r : Symbols) (before : List ItemTree) (x : ItemTree) → AreNamed holds r before x → (n : List ℕ) → IsAmong (uses_at r before x) n → holds n
 used_named holds r before x named n among =
     let front = map (λ d. d.name) (declarators_in x.shape) in
     named n (list_any-append (bytes_eq n) front (map (λ u. u.name) (uses_at r before x)) ∙ ap (λ b. list_any (bytes_eq n) front || b) among ∙ or_true (list_any (bytes_eq n) front))
@@ -102,9 +102,9 @@ beside_none : (a b : Bool) → ((a && false) || (b && true)) ≡ false → b ≡
 beside_none true b h = beside_true b h
 beside_none false b h = beside_true b h
 
-module _ (all : List ItemTree) (lawful : EachBehind (IsLawful (roles_of all) all) [] all) where
-  abbrev r : Roles
-  r = roles_of all
+module _ (all : List ItemTree) (lawful : EachBehind (IsLawful (symbols_of all) all) [] all) where
+  abbrev r : Symbols
+  r = symbols_of all
 
   abbrev g : Glossary
   g = glossary_of all
@@ -118,16 +118,16 @@ module _ (all : List ItemTree) (lawful : EachBehind (IsLawful (roles_of all) all
 
   targets_fit : (s : ShapeTree) → AllByRecursion (λ u. is_against_role r u ≡ false) (parts_of r false s).sets → AllByRecursion (λ u. is_misused_array r u ≡ false) (parts_of r false s).sets → sets_constant r s ≡ false
       → ((n : List ℕ) → IsAmong (parts_of r false s).sets n → HasItsCell n) → AllByRecursion (IsTarget g.arrays numbers) (targets_of s)
-  targets_fit (assignment n no_exprs e) roles arrays variable cells =
-      (cells n (is_first n []) (all_other (is_constant r n) (is_array r n) (is_function r n) variable (no_array (arrays_of all n) arrays.0) (beside_none (is_constant r n) (is_function r n) roles.0)), tt)
-  targets_fit (assignment n (exprs e es) body) roles arrays variable cells = (by (arrays_of all n) refl, tt)
+  targets_fit (assignment n no_exprs e) symbols arrays variable cells =
+      (cells n (is_first n []) (all_other (is_constant r n) (is_array r n) (is_function r n) variable (no_array (arrays_of all n) arrays.0) (beside_none (is_constant r n) (is_function r n) symbols.0)), tt)
+  targets_fit (assignment n (exprs e es) body) symbols arrays variable cells = (by (arrays_of all n) refl, tt)
     where
       by : (o : Option (List Dimension)) → arrays_of all n ≡ o → IsTargetAs numbers n (suc (count es)) o
       by (Some dims) is =
           let found = array_reference all lawful n (suc (count es)) dims is arrays.0 in (found.1, found.2)
       by None is = tt
-  targets_fit (logical_if e s) roles arrays variable cells = targets_fit s roles arrays variable cells
-  targets_fit s roles arrays variable cells = tt
+  targets_fit (logical_if e s) symbols arrays variable cells = targets_fit s symbols arrays variable cells
+  targets_fit s symbols arrays variable cells = tt
 
   -- ---- statements
 
@@ -158,11 +158,11 @@ module _ (all : List ItemTree) (lawful : EachBehind (IsLawful (roles_of all) all
         let p = parts_of r false x.shape in
         let at : parts_at r before x ≡ p = ap (λ b. parts_of r b x.shape) other in
         let reads = subst (λ (q : Parts). AllByRecursion (IsReference g numbers callable) q.reads) at (reads_refer all lawful before x lawful_here) in
-        let roles = subst (λ (q : Parts). AllByRecursion (λ u. is_against_role r u ≡ false) (used r q)) at (uses_fit_roles r all before x lawful_here) in
+        let symbols = subst (λ (q : Parts). AllByRecursion (λ u. is_against_role r u ≡ false) (used r q)) at (uses_fit_roles r all before x lawful_here) in
         let arrays = subst (λ (q : Parts). AllByRecursion (λ u. is_misused_array r u ≡ false) (used r q)) at (uses_fit_arrays r all before x lawful_here) in
         let cells = subst (λ (q : Parts). (n : List ℕ) → IsAmong (used r q) n → HasItsCell n) at (used_named HasItsCell r before x named) in (
           fit_each Counts (Refers callable) callable (λ e h k. record { constants = h; references = k }) (evaluated g.arrays x.shape) range_here (reads_hold (IsReference g numbers callable) r x.shape reads),
-          targets_fit x.shape (all_parts (λ u. is_against_role r u ≡ false) p.sets p.reads roles).0 (all_parts (λ u. is_misused_array r u ≡ false) p.sets p.reads arrays).0 constants_safe (λ n h. cells n (in_front p.sets p.reads n h)),
+          targets_fit x.shape (all_parts (λ u. is_against_role r u ≡ false) p.sets p.reads symbols).0 (all_parts (λ u. is_misused_array r u ≡ false) p.sets p.reads arrays).0 constants_safe (λ n h. cells n (in_front p.sets p.reads n h)),
         )
 
     defining_ready : (o : Option Definition) → defined_by g.arrays x.shape ≡ o → is_some o ≡ true → AllByRecursion (IsFit g numbers callable) (evaluated g.arrays x.shape) × AllByRecursion (IsTarget g.arrays numbers) (targets_of x.shape)
@@ -256,7 +256,7 @@ module _ (all : List ItemTree) (lawful : EachBehind (IsLawful (roles_of all) all
 pub statements_ready : (t : Nested) → checked t ≡ Ok t → AllByRecursion (λ x. IsReady (glossary_of (flatten t)) (cell_of (named_of (flatten t))) x.shape) (flatten t)
 statements_ready t accepted =
     let all = flatten t in
-    let r = roles_of all in
+    let r = symbols_of all in
     let lawful = all_lawful t accepted in
     let holds : List ℕ → Type 0 = λ n. is_other r n ≡ true → HasCell (cell_of (named_of all)) n [] in
     let named = each_named holds r [] all (λ n there other. variable_cell all n other there) in

@@ -17,9 +17,9 @@ use Rattle.meaning.specs.Scopes.{arrays_from, constant_value, constants_in, decl
 use Rattle.meaning.specs.Syntax.{BoundsTree, DeclaratorTree, ExprTree, ItemTree, ShapeTree, dimensioning, logical_typing, typing}
 use Rattle.meaning.specs.Types.{Types, types_of}
 use Rattle.meaning.specs.Typing.{Names, clash, dummies_if, expected, expected_in, in_bounds, integer_type, is_ill, is_mistyped, option_list, type_of, within}
-use Rattle.meaning.specs.Uses.{Roles, is_defining, roles_of}
+use Rattle.meaning.specs.Uses.{Symbols, is_defining, symbols_of}
 use Rattle.meaning.specs.Values.{Known}
-use Rattle.numbering.specs.Numbered.{names_at, names_from}
+use Rattle.storage.specs.Numbered.{names_at, names_from}
 use Rattle.rule_laws.specs.Lawful.{EachBehind, IsLawful}
 use Rattle.rule_laws.specs.Sized.{AreDimensions}
 use Rattle.rule_laws.proofs.Constants.{AreTyped, constant_typed, more_typed}
@@ -170,12 +170,12 @@ bounds_in ns dummies known typed s agrees good = tt
 -- ---- the arrays of statements
 
 -- an array has dimensions, and some statement names it
-pub record IsSized (r : Roles) (before xs : List ItemTree) (n : List ℕ) (dims : List Dimension) : Type 0 where
+pub record IsSized (r : Symbols) (before xs : List ItemTree) (n : List ℕ) (dims : List Dimension) : Type 0 where
   pub dimensions : AreDimensions dims
   pub named : list_any (bytes_eq n) (names_from r before xs) ≡ true
 
 -- the bounds in a statement are INTEGER constants
-pub statement_bounds : (r : Roles) (all before : List ItemTree) (x : ItemTree) → IsLawful r all before x → AreTyped r.names.types (known_behind_all r before) → AllByRecursion (λ d. lacks_bound r.names.types (known_behind_all r before) d ≡ false) (declarators_in x.shape)
+pub statement_bounds : (r : Symbols) (all before : List ItemTree) (x : ItemTree) → IsLawful r all before x → AreTyped r.names.types (known_behind_all r before) → AllByRecursion (λ d. lacks_bound r.names.types (known_behind_all r before) d ≡ false) (declarators_in x.shape)
 statement_bounds r all before x lawful typed =
     let dummies = dummies_if (is_defining r before x) x.shape in
     let known = known_behind_all r before in
@@ -183,10 +183,10 @@ statement_bounds r all before x lawful typed =
     let good = (or_parts (is_bad_constant r.names.types known (constants_in x.shape)) _ (or_parts (has_too_great r x.shape) _ lawful.constant).1).1 in
     bounds_in r.names dummies known typed x.shape agrees good
 
-pub known_more : (r : Roles) (before : List ItemTree) (x : ItemTree) → known_behind_all r (before ++ x ∷ []) ≡ known_behind r.names.types (known_behind_all r before) x.shape
+pub known_more : (r : Symbols) (before : List ItemTree) (x : ItemTree) → known_behind_all r (before ++ x ∷ []) ≡ known_behind r.names.types (known_behind_all r before) x.shape
 known_more r before x = fold-append (λ k y. known_behind r.names.types k y.shape) nothing_known before (x ∷ [])
 
-module _ (r : Roles) (all : List ItemTree) (n : List ℕ) (dims : List Dimension) where
+module _ (r : Symbols) (all : List ItemTree) (n : List ℕ) (dims : List Dimension) where
   array_here : (before xs : List ItemTree) (x : ItemTree) → IsLawful r all before x → AreTyped r.names.types (known_behind_all r before) → dimensions_in r.names.types (known_behind_all r before) (declarators_in x.shape) n ≡ Some dims → IsSized r before (x ∷ xs) n dims
   unfolding names_from
   array_here before xs x lawful typed is =
@@ -227,5 +227,5 @@ module _ (r : Roles) (all : List ItemTree) (n : List ℕ) (dims : List Dimension
 pub nothing_typed : (types : Types) → AreTyped types nothing_known
 nothing_typed types n v h = absurd cc
 
-pub arrays_sized : (all : List ItemTree) → EachBehind (IsLawful (roles_of all) all) [] all → (n : List ℕ) (dims : List Dimension) → arrays_of all n ≡ Some dims → IsSized (roles_of all) [] all n dims
-arrays_sized all lawful n dims is = array_sized (roles_of all) all n dims [] all lawful (nothing_typed (types_of all)) is
+pub arrays_sized : (all : List ItemTree) → EachBehind (IsLawful (symbols_of all) all) [] all → (n : List ℕ) (dims : List Dimension) → arrays_of all n ≡ Some dims → IsSized (symbols_of all) [] all n dims
+arrays_sized all lawful n dims is = array_sized (symbols_of all) all n dims [] all lawful (nothing_typed (types_of all)) is

@@ -12,7 +12,7 @@ use Rattle.meaning.specs.NumberRules.{dimensions_by, elements_in, elements_of, h
 use Rattle.meaning.specs.Scopes.{arrays_from, arrays_of, declarators_in, dimension_of, dimensions_in, known_behind, or_dimensions}
 use Rattle.meaning.specs.Syntax.{DeclaratorTree, ItemTree}
 use Rattle.meaning.specs.Types.{Types, types_of}
-use Rattle.meaning.specs.Uses.{Roles, roles_of}
+use Rattle.meaning.specs.Uses.{Symbols, symbols_of}
 use Rattle.meaning.specs.Values.{Known}
 use Rattle.name_maps.specs.NameSets.{with_name, with_names}
 use Rattle.rule_laws.specs.Lawful.{EachBehind, IsLawful}
@@ -125,7 +125,7 @@ either_least : (o p : Option (List Dimension)) → elements_if (or_dimensions o 
 either_least None p = omega arith
 either_least (Some ds) p = omega arith
 
-module _ (r : Roles) (all : List ItemTree) (names : List (List ℕ)) (distinct : AreDistinct names) where
+module _ (r : Symbols) (all : List ItemTree) (names : List (List ℕ)) (distinct : AreDistinct names) where
   all_elements : (before xs : List ItemTree) → EachBehind (IsLawful r all) before xs → AreTyped r.names.types (known_behind_all r before) → sum_by (λ n. elements_if (arrays_from r.names.types (known_behind_all r before) xs n)) names ≤ elements_in r before xs
   unfolding arrays_from elements_in
   all_elements before [] lawful typed =
@@ -160,7 +160,7 @@ module _ (types : Types) (known : Known) where
       one : is_too_large types known so_far d ≡ false → so_far + elements_of types known d ≤ 16777216
       one h = by (nat_lt 7 (length d.bounds)) (nat_lt 0 (length d.bounds)) (lacks_bound types known d) (list_any is_reversed (dimensions_by types known d)) has.0 h
 
-elements_last : (r : Roles) (before xs : List ItemTree) (x : ItemTree) → elements_in r before (xs ++ x ∷ []) ≡ elements_in r before xs + sum_by (elements_of r.names.types (known_behind_all r (before ++ xs))) (declarators_in x.shape)
+elements_last : (r : Symbols) (before xs : List ItemTree) (x : ItemTree) → elements_in r before (xs ++ x ∷ []) ≡ elements_in r before xs + sum_by (elements_of r.names.types (known_behind_all r (before ++ xs))) (declarators_in x.shape)
 unfolding elements_in
 elements_last r before [] x =
     let here = ap (λ b. sum_by (elements_of r.names.types (known_behind_all r b)) (declarators_in x.shape)) (append-nil before) in omega (arith, here)
@@ -169,7 +169,7 @@ elements_last r before (y ∷ ys) x =
     let there = ap (λ b. sum_by (elements_of r.names.types (known_behind_all r b)) (declarators_in x.shape)) (append_assoc before (y ∷ []) ys) in
     omega (arith, rest, there)
 
-few_elements : (r : Roles) (all before xs : List ItemTree) → EachBehind (IsLawful r all) before xs → AreTyped r.names.types (known_behind_all r before) → elements_in r [] before ≤ 16777216 → elements_in r [] (before ++ xs) ≤ 16777216
+few_elements : (r : Symbols) (all before xs : List ItemTree) → EachBehind (IsLawful r all) before xs → AreTyped r.names.types (known_behind_all r before) → elements_in r [] before ≤ 16777216 → elements_in r [] (before ++ xs) ≤ 16777216
 few_elements r all before [] lawful typed few = subst (λ b. elements_in r [] b ≤ 16777216) (sym (append-nil before)) few
 few_elements r all before (x ∷ xs) lawful typed few =
     let here = few_here r.names.types (known_behind_all r before) (elements_in r [] before) (declarators_in x.shape) (statement_bounds r all before x lawful.0 typed) lawful.0.sized few in
@@ -177,13 +177,13 @@ few_elements r all before (x ∷ xs) lawful typed few =
     subst (λ b. elements_in r [] b ≤ 16777216) (append_assoc before (x ∷ []) xs)
     (few_elements r all (before ++ x ∷ []) xs lawful.1 (more_typed r all before x lawful.0 typed) (omega (arith, here, last)))
 
-no_elements : (r : Roles) → elements_in r [] [] ≤ 16777216
+no_elements : (r : Symbols) → elements_in r [] [] ≤ 16777216
 unfolding elements_in
 no_elements r = omega arith
 
-pub few_in_all : (all : List ItemTree) → EachBehind (IsLawful (roles_of all) all) [] all → (names : List (List ℕ)) → AreDistinct names → sum_by (λ n. elements_if (arrays_of all n)) names ≤ 16777216
+pub few_in_all : (all : List ItemTree) → EachBehind (IsLawful (symbols_of all) all) [] all → (names : List (List ℕ)) → AreDistinct names → sum_by (λ n. elements_if (arrays_of all n)) names ≤ 16777216
 few_in_all all lawful names distinct =
-    let r = roles_of all in
+    let r = symbols_of all in
     let most = few_elements r all [] all lawful (nothing_typed (types_of all)) (no_elements r) in
     let sum = all_elements r all names distinct [] all lawful (nothing_typed (types_of all)) in
     omega (arith, most, sum)

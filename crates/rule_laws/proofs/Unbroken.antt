@@ -10,8 +10,8 @@ use Rattle.meaning.specs.Rules.{broken_items, checked}
 use Rattle.meaning.specs.Statements.{broken_if}
 use Rattle.meaning.specs.Syntax.{ItemTree}
 use Rattle.meaning.specs.Trees.{Nested, flatten}
-use Rattle.meaning.specs.Uses.{Roles, roles_of}
-use Rattle.numbering.proofs.Unbroken.{none_front, nothing_broken}
+use Rattle.meaning.specs.Uses.{Symbols, symbols_of}
+use Rattle.storage.proofs.Unbroken.{none_front, nothing_broken}
 use Rattle.rule_laws.specs.Lawful.{EachBehind, IsLawful}
 
 pub none_behind : {A : Type 0} (xs ys : List A) → (xs ++ ys) ≡ [] → ys ≡ []
@@ -30,7 +30,7 @@ told_parts breaks rule before xs x none = (
 )
 
 -- none of these rules is told of statements behind others
-record AreUntold (r : Roles) (all before xs : List ItemTree) : Type 0 where
+record AreUntold (r : Symbols) (all before xs : List ItemTree) : Type 0 where
   k1 : told has_repeated_label K1 before xs ≡ []
   k3 : told (has_real_name r) K3 before xs ≡ []
   k4 : told (is_disputed r) K4 before xs ≡ []
@@ -43,7 +43,7 @@ record AreUntold (r : Roles) (all before xs : List ItemTree) : Type 0 where
   k10 : told (has_bad_data r) K10 before xs ≡ []
   k11 : told (has_bad_output r all) K11 before xs ≡ []
 
-each_lawful : (r : Roles) (all before xs : List ItemTree) → AreUntold r all before xs → EachBehind (IsLawful r all) before xs
+each_lawful : (r : Symbols) (all before xs : List ItemTree) → AreUntold r all before xs → EachBehind (IsLawful r all) before xs
 each_lawful r all before [] u = tt
 each_lawful r all before (x ∷ xs) u =
     let k1 = told_parts has_repeated_label K1 before xs x u.k1 in
@@ -61,7 +61,7 @@ each_lawful r all before (x ∷ xs) u =
       each_lawful r all (before ++ x ∷ []) xs (record { k1 = k1.1; k3 = k3.1; k4 = k4.1; k5 = k5.1; k8 = k8.1; k12 = k12.1; k13 = k13.1; k6 = k6.1; k7 = k7.1; k10 = k10.1; k11 = k11.1 }),
     )
 
-untold : (r : Roles) (all : List ItemTree) → broken_items r all ≡ [] → AreUntold r all [] all
+untold : (r : Symbols) (all : List ItemTree) → broken_items r all ≡ [] → AreUntold r all [] all
 untold r all none =
     let names = broken_names r all in
     let b1 = none_behind (told has_repeated_label K1 [] all) _ none in
@@ -87,8 +87,8 @@ untold r all none =
       k11 = none_behind (told (has_bad_data r) K10 [] all) _ b10;
     }
 
-pub all_lawful : (t : Nested) → checked t ≡ Ok t → EachBehind (IsLawful (roles_of (flatten t)) (flatten t)) [] (flatten t)
+pub all_lawful : (t : Nested) → checked t ≡ Ok t → EachBehind (IsLawful (symbols_of (flatten t)) (flatten t)) [] (flatten t)
 all_lawful t accepted =
     let all = flatten t in
-    let r = roles_of all in
+    let r = symbols_of all in
     each_lawful r all [] all (untold r all (none_front (broken_items r all) _ (nothing_broken t accepted)))

@@ -8,10 +8,10 @@ use Rattle.meaning.specs.Intrinsics.{Intrinsic, intrinsic_named, takes}
 use Rattle.meaning.specs.NameRules.{does_not_take, is_against_role, is_function_use, is_misused_array, is_misused_function, is_other_number, is_unknown_function, length_if}
 use Rattle.meaning.specs.Scopes.{Definition, arrays_of, definitions_of}
 use Rattle.meaning.specs.Syntax.{ItemTree}
-use Rattle.meaning.specs.Uses.{Roles, Use, dummies_named, is_array, is_constant, is_function, is_other, parts_at, roles_of, uses_at}
+use Rattle.meaning.specs.Uses.{Symbols, Use, dummies_named, is_array, is_constant, is_function, is_other, parts_at, symbols_of, uses_at}
 use Rattle.expressions.specs.Calls.{AreOthers}
-use Rattle.numbering.specs.Checked.{glossary_of}
-use Rattle.numbering.specs.Numbered.{named_of}
+use Rattle.storage.specs.Checked.{glossary_of}
+use Rattle.storage.specs.Numbered.{named_of}
 use Rattle.rule_laws.specs.Lawful.{EachBehind, IsLawful}
 use Rattle.rule_laws.specs.References.{HasElement, IsCalled, IsIntrinsic, IsReference, IsReferenceAs}
 use Rattle.rule_laws.proofs.Cells.{array_cell}
@@ -21,18 +21,18 @@ use Rattle.rule_laws.proofs.Tests.{all_other, all_parts, all_turned, none_any, n
 
 -- ---- uses that break no rule
 
-pub record IsSound (r : Roles) (u : Use) : Type 0 where
+pub record IsSound (r : Symbols) (u : Use) : Type 0 where
   pub role : is_against_role r u ≡ false
   pub array : is_misused_array r u ≡ false
   pub function : is_misused_function r u ≡ false
   pub known : is_unknown_function r u ≡ false
 
-all_sound : (r : Roles) (us : List Use) → AllByRecursion (λ u. is_against_role r u ≡ false) us → AllByRecursion (λ u. is_misused_array r u ≡ false) us → AllByRecursion (λ u. is_misused_function r u ≡ false) us → AllByRecursion (λ u. is_unknown_function r u ≡ false) us → AllByRecursion (IsSound r) us
+all_sound : (r : Symbols) (us : List Use) → AllByRecursion (λ u. is_against_role r u ≡ false) us → AllByRecursion (λ u. is_misused_array r u ≡ false) us → AllByRecursion (λ u. is_misused_function r u ≡ false) us → AllByRecursion (λ u. is_unknown_function r u ≡ false) us → AllByRecursion (IsSound r) us
 all_sound r [] a b c d = tt
 all_sound r (u ∷ us) a b c d =
     (record { role = a.0; array = b.0; function = c.0; known = d.0 }, all_sound r us a.1 b.1 c.1 d.1)
 
-module _ (r : Roles) (all before : List ItemTree) (x : ItemTree) (lawful : IsLawful r all before x) where
+module _ (r : Symbols) (all before : List ItemTree) (x : ItemTree) (lawful : IsLawful r all before x) where
   pub uses_fit_roles : AllByRecursion (λ u. is_against_role r u ≡ false) (uses_at r before x)
   uses_fit_roles =
       none_any (is_against_role r) (uses_at r before x) (or_parts (list_any (is_against_role r) (uses_at r before x)) _ (or_parts (list_any (is_against_role r) (uses_at r before x) || _) _ (or_parts _ _ lawful.undisputed).1).0).0
@@ -64,9 +64,9 @@ behind_true false b f h = absurd (true≢false (sym f))
 
 -- ---- references
 
-module _ (all : List ItemTree) (lawful : EachBehind (IsLawful (roles_of all) all) [] all) where
-  abbrev r : Roles
-  r = roles_of all
+module _ (all : List ItemTree) (lawful : EachBehind (IsLawful (symbols_of all) all) [] all) where
+  abbrev r : Symbols
+  r = symbols_of all
 
   abbrev defined : List Definition
   defined = definitions_of (arrays_of all) all

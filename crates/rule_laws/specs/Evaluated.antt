@@ -1,6 +1,7 @@
--- What the execution of statements evaluates, sets and counts with, and when there can be codes of it (ANSI X3.9-1978,
--- chapters 6 and 10 to 12).
-use Rattle.std.specs.Prelude.{◌≡◌, ◌<◌, ◌≤◌, ◌^◌, ℕ, List, [], ◌∷◌, ◌++◌, if◌then◌else◌, is_some, length, Option, Some, None, false, map, slice_get, take}
+-- What the execution of statements evaluates, sets and counts with, and when there can be codes of
+-- it (ANSI X3.9-1978, chapters 6 and 10 to 12).
+use Rattle.std.specs.Prelude.{◌≡◌, ◌<◌, ◌≤◌, ◌^◌, ℕ, List, [], ◌∷◌, ◌++◌, if◌then◌else◌, is_some}
+use Rattle.std.specs.Prelude.{length, Option, Some, None, false, map, slice_get, take}
 use Rattle.std.specs.List.{AllByRecursion}
 use Rattle.meaning.specs.Arrays.{Dimension, cell_of}
 use Rattle.meaning.specs.Characters.{number_of}
@@ -8,14 +9,17 @@ use Rattle.meaning.specs.Maps.{CellNumbers}
 use Rattle.meaning.specs.NumberRules.{numbers_in}
 use Rattle.meaning.specs.Scopes.{Definition, arrays_of, listed}
 use Rattle.meaning.specs.Surroundings.{controlled_by}
-use Rattle.meaning.specs.Syntax.{ExprTree, name, no_exprs, exprs, LimitsTree, ListItemsTree, no_items, more_items, value_item, loop_item, ShapeTree, arithmetic_if, assignment, block_if, computed_going, doing, doing_while, else_if, logical_if, printing, writing}
+use Rattle.meaning.specs.Syntax.{ExprTree, name, no_exprs, exprs, LimitsTree, ListItemsTree}
+use Rattle.meaning.specs.Syntax.{no_items, more_items, value_item, loop_item, ShapeTree}
+use Rattle.meaning.specs.Syntax.{arithmetic_if, assignment, block_if, computed_going, doing}
+use Rattle.meaning.specs.Syntax.{doing_while, else_if, logical_if, printing, writing}
 use Rattle.meaning.specs.Typing.{option_list}
 use Rattle.meaning.specs.Trees.{Nested, flatten}
 use Rattle.meaning.specs.Uses.{Use, is_one_of, target_use, uses_in}
 use Rattle.meaning.specs.Values.{Arrays}
 use Rattle.expressions.specs.Glossaries.{Glossary}
-use Rattle.numbering.specs.Checked.{glossary_of}
-use Rattle.numbering.specs.Numbered.{named_of}
+use Rattle.storage.specs.Checked.{glossary_of}
+use Rattle.storage.specs.Numbered.{named_of}
 use Rattle.rule_laws.specs.References.{HasCell, HasElement, IsReference}
 
 -- ---- expressions
@@ -37,7 +41,8 @@ in_items arrays (more_items (loop_item ys variable limits) xs) =
 -- those of a statement; a statement function's statement is passed over
 abbrev pub evaluated : Arrays → ShapeTree → List ExprTree
 evaluated arrays (assignment n no_exprs e) = e ∷ []
-evaluated arrays (assignment n (exprs d ds) e) = if is_some (arrays n) then d ∷ (listed ds ++ e ∷ []) else []
+evaluated arrays (assignment n (exprs d ds) e) =
+    if is_some (arrays n) then d ∷ (listed ds ++ e ∷ []) else []
 evaluated arrays (writing control list) = in_items arrays list
 evaluated arrays (printing source list) = in_items arrays list
 evaluated arrays (doing label comma variable limits) = in_limits limits
@@ -76,16 +81,19 @@ IsTarget arrays numbers u = IsTargetBy arrays numbers u.name u.arguments
 
 -- ---- statements and statement functions
 
--- as its execution wants it: its expressions, its target, and the variables of its loops, which have cells
+-- as its execution wants it: its expressions, its target, and the variables of its loops, which
+-- have cells
 pub record IsReady (g : Glossary) (numbers : CellNumbers) (s : ShapeTree) : Type 0 where
   pub expressions : AllByRecursion (IsFit g numbers (length g.definitions)) (evaluated g.arrays s)
   pub targets : AllByRecursion (IsTarget g.arrays numbers) (targets_of s)
   pub counters : AllByRecursion (λ n. HasCell numbers n []) (controlled_by s)
 
--- one that stands behind so many others, which its expression may call; it has sixteen dummies at most
-pub record IsReadyFunction (g : Glossary) (numbers : CellNumbers) (at : ℕ) (d : Definition) : Type 0 where
-  pub body : IsFit g numbers at d.body
-  pub dummies : length d.dummies ≤ 16
+-- one that stands behind so many others, which its expression may call; it has sixteen dummies at
+-- most
+pub record IsReadyFunction (g : Glossary) (numbers : CellNumbers) (at : ℕ) (d : Definition) : Type 0
+  where
+    pub body : IsFit g numbers at d.body
+    pub dummies : length d.dummies ≤ 16
 
 -- ---- whole program units
 
@@ -100,13 +108,17 @@ AreReady t = AllByRecursion (λ x. IsReady (names_of t) (numbers_of t) x.shape) 
 
 abbrev pub AreReadyFunctions : Nested → Type 0
 AreReadyFunctions t =
-    (at : ℕ) (d : Definition) → slice_get (names_of t).definitions at ≡ Some d → IsReadyFunction (names_of t) (numbers_of t) at d
+    (at : ℕ) (d : Definition) → slice_get (names_of t).definitions at ≡ Some d →
+    IsReadyFunction (names_of t) (numbers_of t) at d
 
 -- each array has an element with a cell
 abbrev pub AreStored : Nested → Type 0
-AreStored t = (n : List ℕ) (dims : List Dimension) → arrays_of (flatten t) n ≡ Some dims → HasElement (numbers_of t) n
+AreStored t =
+    (n : List ℕ) (dims : List Dimension) → arrays_of (flatten t) n ≡ Some dims →
+    HasElement (numbers_of t) n
 
 -- no statement function has the name of one before it
 abbrev pub AreOwnNames : Nested → Type 0
 AreOwnNames t =
-    (at : ℕ) (d : Definition) → slice_get (names_of t).definitions at ≡ Some d → is_one_of (map (λ e. e.name) (take at (names_of t).definitions)) d.name ≡ false
+    (at : ℕ) (d : Definition) → slice_get (names_of t).definitions at ≡ Some d →
+    is_one_of (map (λ e. e.name) (take at (names_of t).definitions)) d.name ≡ false

@@ -35,7 +35,8 @@ elements_set (assignment n (exprs d ds) e) = element n (exprs d ds) ∷ []
 elements_set (logical_if e s) = elements_set s
 elements_set s = []
 
--- DO statements and block IFs of a list define no statement function, nor does what stands behind them
+-- DO statements and block IFs of a list define no statement function, nor does what stands behind
+-- them
 abbrev pub HeadsExecute : Arrays → Members → Type 0
 HeadsExecute arrays none = Unit {0}
 HeadsExecute arrays (plain x ms) = HeadsExecute arrays ms

@@ -5,9 +5,11 @@ ghost use Rattle.std.specs.Prelude.{◌<◌, ◌^◌, ℕ, List};
 ghost use Rattle.meaning.specs.Syntax.{ShapeTree};
 ghost use Rattle.meaning.specs.Trees.{Nested, flatten};
 ghost use Rattle.meaning.specs.Values.{Arrays};
-ghost use Rattle.rule_laws.specs.Evaluated.{AreOwnNames, AreReady, AreReadyFunctions, AreStored, evaluated};
+ghost use Rattle.rule_laws.specs.Evaluated.{AreOwnNames, AreReady, AreReadyFunctions, AreStored};
+ghost use Rattle.rule_laws.specs.Evaluated.{evaluated};
 ghost use Rattle.rule_laws.specs.Lawful.{AreLawful, IsAccepted};
-ghost use Rattle.rule_laws.specs.Read.{AreRead, AreShort, BodiesShort, HeadsExecute, IsRead, TransfersSmall, elements_set};
+ghost use Rattle.rule_laws.specs.Read.{AreRead, AreShort, BodiesShort, HeadsExecute, IsRead};
+ghost use Rattle.rule_laws.specs.Read.{TransfersSmall, elements_set};
 ghost use Rattle.rule_laws.specs.Sized.{AreSized, AreStartsNamed, count_of};
 ghost use Rattle.rule_passes.specs.InOrder.{AreInOrder};
 ghost use Rattle.rule_laws.specs.Units.{Ascend, Spells, lines_in};
@@ -48,7 +50,8 @@ pub fn functions_stand_first()
         HeadsExecute arrays t.body }
 {}
 
-/// In a program unit that keeps the rules each statement breaks none of those on statements in their order.
+/// In a program unit that keeps the rules each statement breaks none of those on statements in
+/// their order.
 pub fn each_is_lawful()
     ensures { (t : Nested) → IsAccepted t → AreLawful t }
 {}
@@ -63,9 +66,10 @@ pub fn arrays_are_stored()
     ensures { (t : Nested) → IsAccepted t → AreStored t }
 {}
 
-/// Each of its statements is as its execution wants it: in the expressions that it evaluates constants are in range, an element has
-/// as many subscripts as its array has dimensions, and a function that may be called there as many arguments as it takes; what an
-/// assignment sets, and what a loop counts with, has cells.
+/// Each of its statements is as its execution wants it: in the expressions that it evaluates
+/// constants are in range, an element has as many subscripts as its array has dimensions, and a
+/// function that may be called there as many arguments as it takes; what an assignment sets, and
+/// what a loop counts with, has cells.
 pub fn statements_are_ready()
     ensures { (t : Nested) → IsAccepted t → AreReady t }
 {}

@@ -1,5 +1,4 @@
 pub mod Passes
-pub mod ListPasses
 pub mod Missing
 pub mod Merging
 pub mod Answering

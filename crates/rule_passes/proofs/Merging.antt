@@ -1,4 +1,4 @@
--- The least pairs of two rules that are told under one name.
+-- The least pair of those that one rule tells.
 use Rattle.std.proofs.Common.{◌≡◌, ℕ, ◌<◌, Bool, true, false, ◌&&◌, ◌||◌, List, [], ◌∷◌, ◌++◌, Option, Some, None, option_map, refl, sym, ap, ap₂, ◌∙◌, arith, inl, inr}
 use Rattle.std.specs.Prelude.{if◌then◌else◌, nat_lt, ◌==◌}
 use Rattle.std.proofs.lemmas.Bool.{cases_order, false_from_ne_true, le-ltb, lt-ltb, eqb-true}
@@ -9,7 +9,7 @@ use Rattle.meaning.specs.Refusals.{is_less, least, lesser, merge}
 use Rattle.meaning.specs.NameRules.{told}
 use Rattle.meaning.specs.Statements.{broken_if}
 use Rattle.meaning.specs.Syntax.{ItemTree}
-use Rattle.meaning.proofs.Least.{least-append, merge-merge}
+use Rattle.meaning.proofs.Least.{least-append}
 
 abbrev pub at_line : Rule → ℕ → Broken
 at_line rule n = record { line = n; rule = rule }
@@ -25,15 +25,6 @@ lesser_last : (rule : Rule) (i j : ℕ) → j < i → lesser (at_line rule i) (a
 lesser_last rule i j lt =
     ap (λ (a : Bool). if (a || ((j == i) && nat_lt (rank_of rule) (rank_of rule))) then at_line rule j else at_line rule i) (lt-ltb j i lt)
 
-lesser_swap : (rule : Rule) (i j : ℕ) → lesser (at_line rule i) (at_line rule j) ≡ lesser (at_line rule j) (at_line rule i)
-lesser_swap rule i j = elim (cases_order i j) [
-  | inl same ↦ ap₂ (λ a b. lesser (at_line rule a) (at_line rule b)) same (sym same)
-  | inr apart ↦ elim apart [
-    | inl lt ↦ lesser_first rule i j lt ∙ sym (lesser_last rule j i lt)
-    | inr gt ↦ lesser_last rule i j gt ∙ sym (lesser_first rule j i gt)
-  ]
-]
-
 lesser_same : (b : Broken) → lesser b b ≡ b
 lesser_same b = by_test (is_less b b)
   where
@@ -44,15 +35,6 @@ lesser_same b = by_test (is_less b b)
 -- a pair of a rule, if there is one
 abbrev pub OfRule : Rule → Option Broken → Type 0
 OfRule rule o = (l : Option ℕ) × (o ≡ option_map (at_line rule) l)
-
-merge_swap : (rule : Rule) (o p : Option Broken) → OfRule rule o → OfRule rule p → merge o p ≡ merge p o
-merge_swap rule o p first second = ap₂ merge first.1 second.1 ∙ by_lines first.0 second.0 ∙ sym (ap₂ merge second.1 first.1)
-  where
-    by_lines : (l m : Option ℕ) → merge (option_map (at_line rule) l) (option_map (at_line rule) m) ≡ merge (option_map (at_line rule) m) (option_map (at_line rule) l)
-    by_lines None None = refl
-    by_lines None (Some j) = refl
-    by_lines (Some i) None = refl
-    by_lines (Some i) (Some j) = ap Some (lesser_swap rule i j)
 
 merge_lines : (rule : Rule) (l m : Option ℕ) → OfRule rule (merge (option_map (at_line rule) l) (option_map (at_line rule) m))
 merge_lines rule None None = (None, refl)
@@ -84,27 +66,3 @@ module _ (rule : Rule) where
       let rest = told_of p (before ++ x ∷ []) xs in
       let both = merge_of rule (least (broken_if (p before x) x.line rule)) (least (told p rule (before ++ x ∷ []) xs)) here rest in
       (both.0, least-append (broken_if (p before x) x.line rule) (told p rule (before ++ x ∷ []) xs) ∙ both.1)
-
-  here_either : (a b : Bool) (line : ℕ) → least (broken_if (a || b) line rule) ≡ merge (least (broken_if a line rule)) (least (broken_if b line rule))
-  here_either true true line = sym (ap Some (lesser_same (at_line rule line)))
-  here_either true false line = refl
-  here_either false b line = refl
-
-  -- two rules together
-  pub told_either : (p q : List ItemTree → ItemTree → Bool) (before xs : List ItemTree) → merge (least (told p rule before xs)) (least (told q rule before xs)) ≡ least (told (λ b x. p b x || q b x) rule before xs)
-  unfolding told
-  told_either p q before [] = refl
-  told_either p q before (x ∷ xs) =
-      let first = broken_if (p before x) x.line rule in
-      let second = broken_if (q before x) x.line rule in
-      let behind = before ++ x ∷ [] in
-      let ps = told p rule behind xs in
-      let qs = told q rule behind xs in
-      ap₂ merge (least-append first ps) (least-append second qs)
-      ∙ four (least first) (least second) (least ps) (least qs) (merge_swap rule (least ps) (least second) (told_of p behind xs) (here_of rule (q before x) x.line))
-      ∙ ap₂ merge (sym (here_either (p before x) (q before x) x.line)) (told_either p q behind xs)
-      ∙ sym (least-append (broken_if (p before x || q before x) x.line rule) (told (λ b y. p b y || q b y) rule behind xs))
-    where
-      four : (a b c d : Option Broken) → merge c b ≡ merge b c → merge (merge a c) (merge b d) ≡ merge (merge a b) (merge c d)
-      four a b c d swap =
-          merge-merge (merge a c) b d ∙ ap (λ o. merge o d) (sym (merge-merge a c b) ∙ ap (merge a) swap ∙ merge-merge a b c) ∙ sym (merge-merge (merge a b) c d)

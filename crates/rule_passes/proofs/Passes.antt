@@ -1,15 +1,12 @@
 -- One more statement in a pass over all.
-use Rattle.std.proofs.Common.{◌≡◌, ℕ, ◌+◌, ◌<◌, Bool, List, [], ◌∷◌, ◌++◌, length, get_or, take, map, append_assoc, Option, refl, sym, ap, ◌∙◌}
+use Rattle.std.proofs.Common.{◌≡◌, ℕ, ◌+◌, ◌<◌, Bool, List, [], ◌∷◌, ◌++◌, length, get_or, take, map, append_assoc, refl, sym, ap, ◌∙◌}
 use Rattle.std.proofs.lemmas.List.{take_more, map-append, append-nil}
 use Rattle.std.specs.Borrow.{Bor}
-use Rattle.meaning.specs.declared.refusal.Broken.{Broken}
 use Rattle.meaning.specs.declared.refusal.Rule.{Rule}
 use Rattle.meaning.specs.declared.syntax.Item.{Item}
 use Rattle.meaning.specs.Syntax.{ItemTree}
 use Rattle.meaning.specs.NameRules.{told}
-use Rattle.meaning.specs.Refusals.{merge, least}
 use Rattle.meaning.specs.Statements.{broken_if}
-use Rattle.meaning.proofs.Least.{least-append}
 use Rattle.rule_passes.specs.Listed.{tree_at}
 
 pub trees_more : (ms : List (Bor Item)) (i : ℕ) (m : Bor Item) → i < length ms → m ≡ get_or ms i m → map tree_at (take (i + 1) ms) ≡ map tree_at (take i ms) ++ tree_at m ∷ []
@@ -29,12 +26,3 @@ module _ (breaks : List ItemTree → ItemTree → Bool) (rule : Rule) where
   pub told_none : told breaks rule [] [] ≡ []
   unfolding told
   told_none = refl
-
-  -- the least pair, one statement more
-  pub told_more : (ms : List (Bor Item)) (i : ℕ) (m : Bor Item) (here : Bool) (best b next : Option Broken) → i < length ms → m ≡ get_or ms i m → best ≡ least (told breaks rule [] (map tree_at (take i ms))) → here ≡ breaks (map tree_at (take i ms)) (tree_at m) → b ≡ least (broken_if here m.now.line rule) → next ≡ merge best b → next ≡ least (told breaks rule [] (map tree_at (take (i + 1) ms)))
-  told_more ms i m here best b next lt is so_far test is_told added =
-      let front = map tree_at (take i ms) in
-      added ∙ ap (λ x. merge x b) so_far ∙ ap (λ x. merge (least (told breaks rule [] front)) x) (is_told ∙ ap (λ t. least (broken_if t m.now.line rule)) test)
-      ∙ sym (least-append (told breaks rule [] front) (broken_if (breaks front (tree_at m)) m.now.line rule))
-      ∙ ap least (sym (told-push [] front (tree_at m)))
-      ∙ ap (λ xs. least (told breaks rule [] xs)) (sym (trees_more ms i m lt is))

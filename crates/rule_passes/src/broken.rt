@@ -1,24 +1,13 @@
 //! A broken rule and the line at which it is.
 
 ghost use Rattle.std.specs.Prelude.{◌≡◌, ◌++◌, OnOk};
-ghost use Rattle.meaning.specs.Refusals.{least};
 ghost use Rattle.meaning.specs.Statements.{broken_if as broken_list};
 
 use meaning::refusal::{Broken, Rule};
 use std::alloc::AllocError;
 
-/// The pair, if the test says so.
-pub fn broken_if(test: bool, line: u32, rule: Rule) -> Option<Broken>
-    ensures { result ≡ least (broken_list test line rule) }
-{
-    if test {
-        Some(Broken { line, rule })
-    } else {
-        None
-    }
-}
-
-/// Adds the pair behind others, if the test says so. The `AllocError` comes where a growth was refused.
+/// Adds the pair behind others, if the test says so. The `AllocError` comes where a growth was
+/// refused.
 pub fn add_broken(
     pairs: &mut Vec<Broken>,
     test: bool,

@@ -1,12 +1,11 @@
-//! IMPLICIT NONE, which is the program's own, beside other IMPLICIT statements (ANSI X3.9-1978, 8.5).
+//! IMPLICIT NONE, which is the program's own, beside other IMPLICIT statements (ANSI X3.9-1978,
+//! 8.5).
 
-ghost use Rattle.std.specs.Prelude.{◌≡◌, [], IfOk};
+ghost use Rattle.std.specs.Prelude.{◌≡◌, []};
 ghost use Rattle.meaning.specs.NameRules.{has_rival};
 ghost use Rattle.rule_passes.specs.Rivals.{KnowsImplicit};
-ghost use Rattle.rule_passes.specs.Telling.{IsLeast};
 
-use crate::pass::{Behind, least_told};
-use meaning::refusal::{Broken, Rule};
+use crate::pass::Behind;
 use meaning::syntax::{Item, Shape};
 use std::alloc::AllocError;
 
@@ -57,13 +56,4 @@ impl Rivals {
             none: false,
         }
     }
-}
-
-/// The least line at which IMPLICIT NONE stands beside another IMPLICIT statement, the later of the two. The `AllocError`
-/// is that of `least_told`.
-pub fn rival_implicit(items: &[&Item]) -> Result<Option<Broken>, AllocError>
-    ensures { IfOk result (IsLeast has_rival Rule.K4 items.now) }
-{
-    let mut passed = Rivals::new();
-    least_told(&mut passed, Rule::K4, items)
 }

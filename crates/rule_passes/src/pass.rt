@@ -2,14 +2,15 @@
 
 ghost use Rattle.std.specs.Prelude.{◌≡◌, Bool, List, [], IfOk, OnOk};
 ghost use Rattle.meaning.specs.Syntax.{ItemTree};
-ghost use Rattle.rule_passes.specs.Telling.{AddsTold, Finds, IsLeast, Passes, breaks_behind};
+ghost use Rattle.rule_passes.specs.Telling.{AddsTold, Finds, Passes, breaks_behind};
 
-use crate::broken::{add_broken, broken_if};
-use meaning::refusal::{Broken, Rule, lesser};
+use crate::broken::add_broken;
+use meaning::refusal::{Broken, Rule};
 use meaning::syntax::Item;
 use std::alloc::AllocError;
 
-/// A rule that a statement breaks behind others: what is known of those that were passed, and what breaks the rule.
+/// A rule that a statement breaks behind others: what is known of those that were passed, and what
+/// breaks the rule.
 pub trait Behind {
     /// Whether a statement breaks the rule behind others.
     ghost breaks: { Self → List ItemTree → ItemTree → Bool };
@@ -17,7 +18,8 @@ pub trait Behind {
     /// What is known of the statements that were passed.
     ghost knows: { Self → List ItemTree → Type 0 };
 
-    /// Whether a statement breaks the rule behind those that were passed. The `AllocError` comes where a growth was refused.
+    /// Whether a statement breaks the rule behind those that were passed. The `AllocError` comes
+    /// where a growth was refused.
     fn is_broken(&self, item: &Item) -> Result<bool, AllocError>
         ensures { IfOk result (Finds (knows self.now) (breaks_behind (breaks self.now) item.now)) };
 
@@ -27,27 +29,8 @@ pub trait Behind {
         ensures same { OnOk result (breaks self.new ≡ breaks self.old) };
 }
 
-/// The least line at which a statement breaks a rule behind the others; `behind` has passed none so far.
-pub fn least_told<B: Behind>(
-    behind: &mut B,
-    rule: Rule,
-    items: &[&Item],
-) -> Result<Option<Broken>, AllocError>
-    requires { B.knows behind.old [] }
-    ensures { IfOk result (IsLeast (B.breaks behind.old) rule items.now) }
-{
-    let mut best = None;
-    for item in items {
-        let is_broken = behind.is_broken(item)?;
-        let broken = broken_if(is_broken, item.line, rule);
-        best = lesser(best, broken);
-        behind.pass(item)?;
-    }
-    Ok(best)
-}
-
-/// Adds the pair of each line at which a statement breaks a rule behind the others, in their order; `behind` has passed none so
-/// far. The `AllocError` comes where a growth was refused.
+/// Adds the pair of each line at which a statement breaks a rule behind the others, in their order;
+/// `behind` has passed none so far. The `AllocError` comes where a growth was refused.
 pub fn add_told<B: Behind>(
     pairs: &mut Vec<Broken>,
     behind: &mut B,
@@ -55,7 +38,8 @@ pub fn add_told<B: Behind>(
     items: &[&Item],
 ) -> Result<(), AllocError>
     requires { B.knows behind.old [] }
-    ensures { OnOk result (AddsTold (B.breaks behind.old) rule items.now pairs.old.items pairs.new.items) }
+    ensures { OnOk result
+        (AddsTold (B.breaks behind.old) rule items.now pairs.old.items pairs.new.items) }
 {
     for item in items {
         let is_broken = behind.is_broken(item)?;

@@ -1,16 +1,18 @@
 //! One pass over the lists of a program unit for one rule (ANSI X3.9-1978, 3.5 and 11.6 to 11.10).
 
-ghost use Rattle.std.specs.Prelude.{◌≡◌, [], ◌∷◌, Bool, IfOk, OnOk};
+ghost use Rattle.std.specs.Prelude.{◌≡◌, [], ◌∷◌, Bool, OnOk};
 ghost use Rattle.meaning.specs.Surroundings.{Around};
 ghost use Rattle.meaning.specs.Syntax.{ItemTree};
-ghost use Rattle.rule_passes.specs.Telling.{AddsArms, AddsIn, AddsLoop, AddsOne, ArmsTell, Enters, EntersArm, Finds, Leaves, LeavesArm, LoopTells, Tells, TellsOne, breaks_within};
+ghost use Rattle.rule_passes.specs.Telling.{AddsArms, AddsIn, AddsLoop, AddsOne, Enters};
+ghost use Rattle.rule_passes.specs.Telling.{EntersArm, Finds, Leaves, LeavesArm, breaks_within};
 
-use crate::broken::{add_broken, broken_if};
-use meaning::refusal::{Broken, Rule, lesser};
+use crate::broken::add_broken;
+use meaning::refusal::{Broken, Rule};
 use meaning::syntax::{Arm, Item, Loop, Member};
 use std::alloc::AllocError;
 
-/// A rule that a statement breaks in what it stands in: what is known of the lists around it, and what breaks the rule.
+/// A rule that a statement breaks in what it stands in: what is known of the lists around it, and
+/// what breaks the rule.
 pub trait Within {
     /// Whether a statement breaks the rule in what it stands in.
     ghost breaks: { Self → Around → ItemTree → Bool };
@@ -43,79 +45,6 @@ pub trait Within {
         ensures same { breaks self.new ≡ breaks self.old };
 }
 
-/// The pair that a statement breaks there, if it breaks one.
-fn told_at<W: Within>(within: &W, rule: Rule, item: &Item) -> Option<Broken>
-    ensures { TellsOne (W.knows within.now) (W.breaks within.now) rule item.now result }
-{
-    broken_if(within.is_broken(item), item.line, rule)
-}
-
-/// The least line of a list at which a statement breaks the rule.
-#[cycle(told)]
-pub fn least_in<W: Within>(
-    within: &mut W,
-    rule: Rule,
-    members: &[Member],
-) -> Result<Option<Broken>, AllocError>
-    ensures told { IfOk result (Tells (W.knows within.old) (W.breaks within.old) rule members.now) }
-    ensures knows { OnOk result ((a : Around) → W.knows within.old a → W.knows within.new a) }
-    ensures same { OnOk result (W.breaks within.new ≡ W.breaks within.old) }
-{
-    let mut best = None;
-    for member in members {
-        let broken = match member {
-            Member::Plain(item) => told_at(within, rule, item),
-            Member::Loop(outer) => least_in_loop(within, rule, outer)?,
-            Member::Block(block) => {
-                let arms = least_in_arms(within, rule, &block.arms)?;
-                lesser(arms, told_at(within, rule, &block.end))
-            }
-        };
-        best = lesser(best, broken);
-    }
-    Ok(best)
-}
-
-/// The least such line of a DO statement and its range.
-#[cycle(told)]
-fn least_in_loop<W: Within>(
-    within: &mut W,
-    rule: Rule,
-    outer: &Loop,
-) -> Result<Option<Broken>, AllocError>
-    ensures told { IfOk result (LoopTells (W.knows within.old) (W.breaks within.old) rule outer.now) }
-    ensures knows { OnOk result ((a : Around) → W.knows within.old a → W.knows within.new a) }
-    ensures same { OnOk result (W.breaks within.new ≡ W.breaks within.old) }
-{
-    let head = told_at(within, rule, &outer.head);
-    within.enter_range(&outer.head, &outer.range)?;
-    let range = least_in(within, rule, &outer.range)?;
-    within.leave_range(&outer.head, &outer.range);
-    Ok(lesser(head, range))
-}
-
-/// The least such line of arms.
-#[cycle(told)]
-fn least_in_arms<W: Within>(
-    within: &mut W,
-    rule: Rule,
-    arms: &[Arm],
-) -> Result<Option<Broken>, AllocError>
-    ensures told { IfOk result (ArmsTell (W.knows within.old) (W.breaks within.old) rule arms.now) }
-    ensures knows { OnOk result ((a : Around) → W.knows within.old a → W.knows within.new a) }
-    ensures same { OnOk result (W.breaks within.new ≡ W.breaks within.old) }
-{
-    let mut best = None;
-    for arm in arms {
-        let head = told_at(within, rule, &arm.head);
-        within.enter_arm(&arm.body)?;
-        let body = least_in(within, rule, &arm.body)?;
-        within.leave_arm(&arm.body);
-        best = lesser(best, lesser(head, body));
-    }
-    Ok(best)
-}
-
 /// Adds the pair of a statement, if it breaks the rule there.
 fn add_at<W: Within>(
     pairs: &mut Vec<Broken>,
@@ -124,14 +53,15 @@ fn add_at<W: Within>(
     item: &Item,
 ) -> Result<(), AllocError>
     ensures { OnOk result
-        (AddsOne (W.knows within.now) (W.breaks within.now) rule item.now pairs.old.items pairs.new.items) }
+        (AddsOne (W.knows within.now) (W.breaks within.now) rule item.now pairs.old.items
+        pairs.new.items) }
 {
     let is_broken = within.is_broken(item);
     add_broken(pairs, is_broken, item.line, rule)
 }
 
-/// Adds the pair of each line of a list at which a statement breaks the rule, in the order of the statements. The `AllocError`
-/// comes where a growth was refused.
+/// Adds the pair of each line of a list at which a statement breaks the rule, in the order of the
+/// statements. The `AllocError` comes where a growth was refused.
 #[cycle(adding)]
 pub fn add_in<W: Within>(
     pairs: &mut Vec<Broken>,
@@ -140,7 +70,8 @@ pub fn add_in<W: Within>(
     members: &[Member],
 ) -> Result<(), AllocError>
     ensures told { OnOk result
-        (AddsIn (W.knows within.old) (W.breaks within.old) rule members.now pairs.old.items pairs.new.items) }
+        (AddsIn (W.knows within.old) (W.breaks within.old) rule members.now pairs.old.items
+        pairs.new.items) }
     ensures knows { OnOk result ((a : Around) → W.knows within.old a → W.knows within.new a) }
     ensures same { OnOk result (W.breaks within.new ≡ W.breaks within.old) }
 {
@@ -159,7 +90,8 @@ fn add_member<W: Within>(
     member: &Member,
 ) -> Result<(), AllocError>
     ensures told { OnOk result
-        (AddsIn (W.knows within.old) (W.breaks within.old) rule (member.now ∷ []) pairs.old.items pairs.new.items) }
+        (AddsIn (W.knows within.old) (W.breaks within.old) rule (member.now ∷ []) pairs.old.items
+        pairs.new.items) }
     ensures knows { OnOk result ((a : Around) → W.knows within.old a → W.knows within.new a) }
     ensures same { OnOk result (W.breaks within.new ≡ W.breaks within.old) }
 {
@@ -182,7 +114,8 @@ fn add_in_loop<W: Within>(
     outer: &Loop,
 ) -> Result<(), AllocError>
     ensures told { OnOk result
-        (AddsLoop (W.knows within.old) (W.breaks within.old) rule outer.now pairs.old.items pairs.new.items) }
+        (AddsLoop (W.knows within.old) (W.breaks within.old) rule outer.now pairs.old.items
+        pairs.new.items) }
     ensures knows { OnOk result ((a : Around) → W.knows within.old a → W.knows within.new a) }
     ensures same { OnOk result (W.breaks within.new ≡ W.breaks within.old) }
 {
@@ -202,7 +135,8 @@ fn add_in_arms<W: Within>(
     arms: &[Arm],
 ) -> Result<(), AllocError>
     ensures told { OnOk result
-        (AddsArms (W.knows within.old) (W.breaks within.old) rule arms.now pairs.old.items pairs.new.items) }
+        (AddsArms (W.knows within.old) (W.breaks within.old) rule arms.now pairs.old.items
+        pairs.new.items) }
     ensures knows { OnOk result ((a : Around) → W.knows within.old a → W.knows within.new a) }
     ensures same { OnOk result (W.breaks within.new ≡ W.breaks within.old) }
 {

@@ -13,8 +13,8 @@ use Rattle.meaning.specs.Syntax.{ExprTree, number, truth, name, signed, negated,
 use Rattle.meaning.specs.Trees.{Nested, flatten}
 use Rattle.meaning.specs.Uses.{count}
 use Rattle.meaning.specs.Values.{dimensions_in}
-use Rattle.numbering.specs.Checked.{glossary_of}
-use Rattle.numbering.specs.Numbered.{named_of}
+use Rattle.storage.specs.Checked.{glossary_of}
+use Rattle.storage.specs.Numbered.{named_of}
 use Rattle.code_laws.specs.Meant.{Setting}
 use Rattle.compiler.specs.Ruly.{AllKeep, IsElement, IsRuly, IsRulyPlace}
 use Rattle.rule_laws.specs.Evaluated.{IsFit, IsReady, IsTarget, IsTargetAs, evaluated, in_item, in_items, in_limits, names_of, numbers_of, targets_of}

@@ -1,12 +1,15 @@
-//! Runs each FORTRAN program of `data`, where each module has a folder, and compares how it ends and what it writes with the
-//! file beside it: a line with the ending, and the records. The records are those that another compiler's program writes
-//! (gfortran 12.2, by `gfortran -std=legacy -w -finit-local-zero`) where it takes the program and means the same by it; which
-//! rule is told and which fault comes from docs/LANGUAGE.md. Where the ending's line says turns, as in `ENDED AFTER 23 TURNS`, these
-//! were counted by hand. A first line `C TURNS n` gives the program n turns; any other has
-//! 1,000,000,000. The examples, in the folder `examples` there, end without a fault; the files beside them hold their records alone.
-//! A program with a DO or DO WHILE statement is run by 40 plans; any other by two, and so is each example. By each plan it comes to
-//! the same, and by those with blocks of 2 trips a second time, where DO statements are tried only as far as that is worth it. By
-//! four plans a program that used n turns comes to the same with n, and with n - 1, where that is a limit, to F4.
+//! Runs each FORTRAN program of `data`, where each module has a folder, and compares how it ends
+//! and what it writes with the file beside it: a line with the ending, and the records. The records
+//! are those that another compiler's program writes (gfortran 12.2, by `gfortran -std=legacy -w
+//! -finit-local-zero`) where it takes the program and means the same by it; which rule is told and
+//! which fault comes from docs/LANGUAGE.md. Where the ending's line says turns, as in `ENDED AFTER
+//! 23 TURNS`, these were counted by hand. A first line `C TURNS n` gives the program n turns; any
+//! other has 1,000,000,000. The examples, in the folder `examples` there, end without a fault; the
+//! files beside them hold their records alone. A program with a DO or DO WHILE statement is run by
+//! 40 plans; any other by two, and so is each example. By each plan it comes to the same, and by
+//! those with blocks of 2 trips a second time, where DO statements are tried only as far as that is
+//! worth it. By four plans a program that used n turns comes to the same with n, and with n - 1,
+//! where that is a limit, to F4.
 #![tactic(auto)]
 
 use executor::run::{run, run_adaptive};
@@ -26,14 +29,15 @@ const TURNS: u64 = 1_000_000_000;
 /// How many workers, how many trips in a block, and how many blocks at a time.
 type Numbers = (u64, u64, u64);
 
-/// The trips of a block in the plans by which a program is run a second time, where DO statements are tried only as far as that is worth it.
+/// The trips of a block in the plans by which a program is run a second time, where DO statements
+/// are tried only as far as that is worth it.
 const ADAPTIVE: u64 = 2;
 
 /// The plans of a program without a DO statement.
 const FEW: &[Numbers] = &[(1, 1, 1), (4, 2, 8)];
 
-/// The plans of a program with one: workers 1, 2, 4, 8, each with blocks of 1, 2, 7, 64 trips, each with 1 and 8 blocks at a time;
-/// blocks of 3 and 5 trips; and 3 and 64 workers.
+/// The plans of a program with one: workers 1, 2, 4, 8, each with blocks of 1, 2, 7, 64 trips, each
+/// with 1 and 8 blocks at a time; blocks of 3 and 5 trips; and 3 and 64 workers.
 const ALL: &[Numbers] = &[
     (1, 1, 1),
     (1, 1, 8),
@@ -140,8 +144,9 @@ fn is_same_adaptive<R: AllocGlobal + Threads + Wait + Sync>(
     report == found.report && records == found.records
 }
 
-// How a source ends by the plan with these numbers and so many turns, and its records; none where there is no such plan, or where it
-// comes to something else by it if DO statements are tried only as far as that is worth it.
+// How a source ends by the plan with these numbers and so many turns, and its records; none where
+// there is no such plan, or where it comes to something else by it if DO statements are tried only
+// as far as that is worth it.
 fn found_by<R: AllocGlobal + Threads + Wait + Sync>(
     rt: &R,
     source: &[u8],
@@ -188,7 +193,8 @@ fn met_limit(report: &Report) -> bool {
     matches!(report.ending, Ending::Fault(Fault { kind: found, .. }) if found == kind)
 }
 
-// Whether a program comes to the same with as many turns as it used, and meets the limit with one less.
+// Whether a program comes to the same with as many turns as it used, and meets the limit with one
+// less.
 fn needs_its_turns<R: AllocGlobal + Threads + Wait + Sync>(
     rt: &R,
     source: &[u8],
@@ -249,15 +255,16 @@ fn begins_with_do(line: &[u8]) -> bool {
     false
 }
 
-// Whether a source has a DO statement. What else begins so, as an assignment to DO10I, is taken for one: by more plans it comes to
-// the same as well.
+// Whether a source has a DO statement. What else begins so, as an assignment to DO10I, is taken for
+// one: by more plans it comes to the same as well.
 fn has_do(source: &[u8]) -> bool {
     source
         .split(|&c| c == b'\n')
         .any(|line| begins_with_do(line))
 }
 
-// Whether a source ends at END or by a STOP statement by the plan with these numbers, and writes what is wanted.
+// Whether a source ends at END or by a STOP statement by the plan with these numbers, and writes
+// what is wanted.
 fn writes<R: AllocGlobal + Threads + Wait + Sync>(
     rt: &R,
     source: &[u8],
@@ -273,7 +280,8 @@ fn writes<R: AllocGlobal + Threads + Wait + Sync>(
     }
 }
 
-// The first of some plans by which the example with a name doesn't write what the file beside it holds, if there is one.
+// The first of some plans by which the example with a name doesn't write what the file beside it
+// holds, if there is one.
 fn not_shown_by<R: Files + AllocGlobal + Threads + Wait + Sync>(
     rt: &R,
     name: &str,
@@ -296,7 +304,8 @@ struct Counts {
     by_all: u64,
 }
 
-// Counts the program at a path if it comes to what is wanted by its plans; else it is told, with the plan.
+// Counts the program at a path if it comes to what is wanted by its plans; else it is told, with
+// the plan.
 fn count_program<R: Files + AllocGlobal + Threads + Wait + Sync + Print>(
     rt: &R,
     path: &str,

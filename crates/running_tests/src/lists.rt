@@ -1,8 +1,9 @@
-//! What a WRITE or PRINT statement leaves that faults: what was changed before the fault stays. The values are worked by hand.
+//! What a WRITE or PRINT statement leaves that faults: what was changed before the fault stays. The
+//! values are worked by hand.
 
 ghost use Rattle.std.specs.Prelude.{IfSome};
 ghost use Rattle.meaning.specs.Trees.{item_tree};
-ghost use Rattle.programs.specs.Programs.{IsStatement};
+ghost use Rattle.program.specs.Programs.{IsStatement};
 
 use crate::kept::program_of;
 use array_store::Whole;
@@ -10,14 +11,14 @@ use evaluator::body_members;
 use executor::Out;
 use meaning::ending::{FaultKind, Outcome};
 use meaning::syntax::{Item, Member};
+use program::Program;
 use program_runs::execute_item;
-use programs::Program;
 use std::alloc::Global;
 use std::process::Abort;
 use std::test::*;
 
-/// A statement, the fault that it meets with nine turns, and the cells then, in the order in which their variables appear in it; they
-/// begin as 0.
+/// A statement, the fault that it meets with nine turns, and the cells then, in the order in which
+/// their variables appear in it; they begin as 0.
 struct Row {
     text: &'static [u8],
     kind: FaultKind,

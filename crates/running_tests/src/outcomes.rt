@@ -6,8 +6,8 @@ use std::io;
 use std::io::{ErrorKind, Write};
 use std::process::Abort;
 
-/// A writer in memory that takes at most `step` bytes a call and `room` bytes in all; past that it answers 0, or an
-/// error, and counts such calls.
+/// A writer in memory that takes at most `step` bytes a call and `room` bytes in all; past that it
+/// answers 0, or an error, and counts such calls.
 #[derive(Drop)]
 pub struct Meter {
     pub bytes: Vec<u8>,

@@ -11,11 +11,12 @@ use std::sync::Wait;
 use std::test::*;
 use std::thread::Threads;
 
-/// A source; what it writes; and the line at which it divides by zero behind that, if it doesn't end.
+/// A source; what it writes; and the line at which it divides by zero behind that, if it doesn't
+/// end.
 type Written = (&'static str, &'static str, Option<u32>);
 
-/// Two WRITEs of a record each; three records of one WRITE, by a format that is gone back to; these behind a DO statement whose trips are
-/// tried by stages; and a fault behind them.
+/// Two WRITEs of a record each; three records of one WRITE, by a format that is gone back to; these
+/// behind a DO statement whose trips are tried by stages; and a fault behind them.
 const WRITTEN: &[Written] = &[
     (
         "      WRITE (6,10) 123\n      WRITE (6,20) 45\n   10 FORMAT (I6)\n   20 FORMAT (I7)\n      END\n",
@@ -45,7 +46,8 @@ const STEPS: &[usize] = &[1, 3, usize::MAX];
 /// How many workers run a source: one, in order, and four.
 const WORKERS: &[u64] = &[1, 4];
 
-/// Runs a source over a writer by so many workers, in blocks of two trips: its ending, whether the sink has refused, and the writer.
+/// Runs a source over a writer by so many workers, in blocks of two trips: its ending, whether the
+/// sink has refused, and the writer.
 fn run_over<R: Abort + Threads + Wait + Sync>(
     rt: &R,
     alloc: Global,
@@ -60,8 +62,8 @@ fn run_over<R: Abort + Threads + Wait + Sync>(
     (report.ending, refused, sink.into_inner())
 }
 
-/// Whether a source over a writer comes to this ending, refused or not, these bytes are taken, and the writer isn't called again once it
-/// has refused.
+/// Whether a source over a writer comes to this ending, refused or not, these bytes are taken, and
+/// the writer isn't called again once it has refused.
 fn agrees_over<R: Abort + Threads + Wait + Sync>(
     rt: &R,
     alloc: Global,
@@ -117,7 +119,8 @@ fn runs<R: Abort + Threads + Wait + Sync>(
     }
 }
 
-/// A writer that takes so many bytes and no more has exactly these, whether it answers 0 then or an error.
+/// A writer that takes so many bytes and no more has exactly these, whether it answers 0 then or an
+/// error.
 #[test]
 fn refused_writes(rt: HostRuntime) {
     for &written in WRITTEN {
@@ -153,7 +156,8 @@ fn records_in<R: Abort + Threads + Wait + Sync>(
     }
 }
 
-/// Room for a part of a record, for all records but one byte, and for all: what stands behind a refused write isn't executed.
+/// Room for a part of a record, for all records but one byte, and for all: what stands behind a
+/// refused write isn't executed.
 #[test]
 fn records_before_a_refused_write(rt: HostRuntime) {
     let broken = Ending::WriteRefused;
@@ -177,15 +181,16 @@ fn piece_of(alloc: Global, length: usize) -> Result<Vec<u8>, AllocError> {
     Ok(piece)
 }
 
-/// Whether a sink has refused or not, and its writer has exactly so many bytes of the front of a piece.
+/// Whether a sink has refused or not, and its writer has exactly so many bytes of the front of a
+/// piece.
 fn has_front(sink: Out<Meter>, refuses: bool, piece: &[u8], count: usize) -> bool {
     let refused = sink.refused();
     let Meter { bytes, .. } = sink.into_inner();
     refused == refuses && bytes.len() == count && piece.starts_with(&bytes)
 }
 
-/// Puts a piece once: what the writer takes of it is told, and the sink refuses where the writer takes nothing of a byte
-/// or more.
+/// Puts a piece once: what the writer takes of it is told, and the sink refuses where the writer
+/// takes nothing of a byte or more.
 fn puts_once(rt: &impl Abort, piece: &[u8], meter: Meter) {
     let taken = piece.len().min(meter.step).min(meter.room);
     let refuses = taken == 0 && !piece.is_empty();
@@ -196,7 +201,8 @@ fn puts_once(rt: &impl Abort, piece: &[u8], meter: Meter) {
     assert!(rt; told == want && same);
 }
 
-/// Puts the whole of a piece: the writer has it, or as much as it has room for, and the sink has refused then.
+/// Puts the whole of a piece: the writer has it, or as much as it has room for, and the sink has
+/// refused then.
 fn puts_whole(rt: &impl Abort, piece: &[u8], meter: Meter) {
     let kept = piece.len().min(meter.room);
     let refuses = kept < piece.len();

@@ -1,21 +1,23 @@
-//! Consecutive members of a program's body, executed as a list by themselves. The figures are worked by hand.
+//! Consecutive members of a program's body, executed as a list by themselves. The figures are
+//! worked by hand.
 
 use array_store::Whole;
 use evaluator::{body_members, run_list};
 use in_order::program_in;
-use landmarks::is_quiet_list;
+use label_targets::is_quiet_list;
 use meaning::ending::Outcome;
-use programs::Program;
+use program::Program;
 use std::alloc::Global;
 use std::process::Abort;
 use std::test::*;
 
-/// Its body has at places 0 to 5 the statements of the first six lines, at 6 and 7 the block IFs. I's cell is 0, J's 1, K's 2; they
-/// start as 0.
+/// Its body has at places 0 to 5 the statements of the first six lines, at 6 and 7 the block IFs.
+/// I's cell is 0, J's 1, K's 2; they start as 0.
 const SOURCE: &str =
     "      I=1\n      GO TO 30\n   10 I=I+1\n      IF (I.LT.4) GO TO 10\n   20 J=I\n      GO TO 10\n   30 IF (K.LT.2) THEN\n      K=K+1\n      GO TO 30\n      END IF\n      IF (K.EQ.0) THEN\n      GO TO 40\n   40 END IF\n      END\n";
 
-/// From which place up to which members are executed, how that ends, after how many turns, and the cells then.
+/// From which place up to which members are executed, how that ends, after how many turns, and the
+/// cells then.
 struct Row {
     from: usize,
     to: usize,
@@ -63,7 +65,8 @@ const ROWS: &[Row] = &[
         turns: 2,
         cells: &[0, 0, 0],
     },
-    // A block IF alone, from whose arm transfers go to its label, and one whose END IF has the label.
+    // A block IF alone, from whose arm transfers go to its label, and one whose END IF has the
+    // label.
     Row {
         from: 6,
         to: 7,

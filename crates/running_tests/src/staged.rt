@@ -1,4 +1,5 @@
-//! Loops by stages: single blocks, where a stage is cut, boards by hand, all orders of posting, blocks at once, and want of memory.
+//! Loops by stages: single blocks, where a stage is cut, boards by hand, all orders of posting,
+//! blocks at once, and want of memory.
 
 mod alone;
 mod blocks;

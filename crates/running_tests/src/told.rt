@@ -2,7 +2,7 @@
 
 use crate::outcomes::MANY;
 use crate::stages::Counting;
-use block_stage::{Cause, StageTold};
+use block_stage::{Cause, StageStats};
 use do_statements::{DoStatement, Standing};
 use executor::Out;
 use executor::run::run_watched;
@@ -16,7 +16,8 @@ use std::sync::Wait;
 use std::test::*;
 use std::thread::Threads;
 
-/// A program, the line of its DO statement, how many trips a block has, how many blocks enter the gate, and what is told.
+/// A program, the line of its DO statement, how many trips a block has, how many blocks enter the
+/// gate, and what is told.
 struct Row {
     source: &'static str,
     line: u32,
@@ -85,7 +86,7 @@ fn loops_told(rt: HostRuntime) {
 }
 
 /// A stage of four blocks of two trips whose first block was lost.
-const FIRST_LOST: StageTold = StageTold {
+const FIRST_LOST: StageStats = StageStats {
     trips: 8,
     size: 2,
     blocks: 4,
@@ -98,7 +99,7 @@ const FIRST_LOST: StageTold = StageTold {
 };
 
 /// One of the three other blocks, behind the first one, which was run in order.
-const OTHERS: StageTold = StageTold {
+const OTHERS: StageStats = StageStats {
     trips: 6,
     size: 2,
     blocks: 3,

@@ -6,8 +6,8 @@ use Rattle.std.proofs.lemmas.Option.{slice_get_within, slice_get-map}
 use Rattle.schedules.specs.declared.event.Ticket.{Ticket}
 use Rattle.schedules.specs.declared.event.Event.{Event}
 use Rattle.schedules.specs.declared.event.Event.TheVariants.{Claim, Post, Lose}
-use Rattle.schedules.specs.declared.place.Place.{Place}
-use Rattle.schedules.specs.declared.place.Place.TheVariants.{Open, Posted, Lost}
+use Rattle.schedules.specs.declared.place.BlockSlot.{BlockSlot}
+use Rattle.schedules.specs.declared.place.BlockSlot.TheVariants.{Open, Posted, Lost}
 use Rattle.schedules.specs.Schedules.{unended, first_world, IsIdle, IsOut, ended, Happens, Replays, SettledOnce}
 use Rattle.schedules.specs.Boards.{Stage, end_of, world_of, IsScheduled, AreNumbered, first_stage, claimed, with_run, without_run, IsBoard, AreIdle, AreEnded, Claims, LetsGo, LosesNext, given_up}
 use Rattle.schedules.proofs.Setting.{get_same, get_other, is_replicated}
@@ -45,7 +45,7 @@ module _ {T : Type 0} where
       let h = board_history number many room s b in let x = (h.held t.worker t.block out).before in let u = h.upto in let m = length-map s.places end_of in
       omega (arith, x, u, m)
 
-  number_set : (number : T → ℕ) (ps : List (Place T)) (i : ℕ) (r : T) → AreNumbered number ps → number r ≡ i → AreNumbered number (slice_set ps i (Posted r))
+  number_set : (number : T → ℕ) (ps : List (BlockSlot T)) (i : ℕ) (r : T) → AreNumbered number ps → number r ≡ i → AreNumbered number (slice_set ps i (Posted r))
   number_set number ps i r are is b q got = elim (cases_eq b i) [
     | inl same ↦
         let w = subst (λ n. b < n) (length-set ps i (Posted r)) (slice_get_within (slice_set ps i (Posted r)) b (Posted q) got) in
@@ -55,7 +55,7 @@ module _ {T : Type 0} where
     | inr not ↦ are b q (sym (get_other ps i (Posted r) b not) ∙ got)
   ]
 
-  number_lost : (number : T → ℕ) (ps : List (Place T)) (i : ℕ) → AreNumbered number ps → AreNumbered number (slice_set ps i Lost)
+  number_lost : (number : T → ℕ) (ps : List (BlockSlot T)) (i : ℕ) → AreNumbered number ps → AreNumbered number (slice_set ps i Lost)
   number_lost number ps i are b q got = elim (cases_eq b i) [
     | inl same ↦
         let w = subst (λ n. b < n) (length-set ps i Lost) (slice_get_within (slice_set ps i Lost) b (Posted q) got) in
@@ -65,7 +65,7 @@ module _ {T : Type 0} where
   ]
 
   -- the schedule goes on by an event
-  goes_on : (s : Stage T) (e : Event) (n : ℕ) (os : List (Option ℕ)) (ps : List (Place T)) → IsScheduled s → length ps ≡ length s.places → length os ≡ length s.outs → Happens e (world_of s) (record { next = n; outs = os; ends = map end_of ps }) → IsScheduled (record { next = n; outs = os; places = ps; events = s.events ++ e ∷ [] })
+  goes_on : (s : Stage T) (e : Event) (n : ℕ) (os : List (Option ℕ)) (ps : List (BlockSlot T)) → IsScheduled s → length ps ≡ length s.places → length os ≡ length s.outs → Happens e (world_of s) (record { next = n; outs = os; ends = map end_of ps }) → IsScheduled (record { next = n; outs = os; places = ps; events = s.events ++ e ∷ [] })
   goes_on s e n os ps scheduled places outs step =
       subst (λ b. Replays (s.events ++ e ∷ []) (first_world b (length os)) (record { next = n; outs = os; ends = map end_of ps })) (sym places)
       (subst (λ k. Replays (s.events ++ e ∷ []) (first_world (length s.places) k) (record { next = n; outs = os; ends = map end_of ps })) (sym outs)
@@ -76,7 +76,7 @@ module _ {T : Type 0} where
 
   pub first_board : (number : T → ℕ) (blocks workers room : ℕ) → 0 < workers → blocks < 2 ^ 32 → workers < 2 ^ 32 → 2 * blocks ≤ room → IsBoard number blocks room (first_stage blocks workers)
   first_board number blocks workers room some small few roomy =
-      let open_place : Place T = Open in let nothing : Option ℕ = None in let p = length-replicate blocks open_place in let o = length-replicate workers nothing in record {
+      let open_place : BlockSlot T = Open in let nothing : Option ℕ = None in let p = length-replicate blocks open_place in let o = length-replicate workers nothing in record {
         scheduled = ap₂ (λ b k. first_world b k) p o ∙ ap (λ es. record { next = 0; outs = replicate workers None; ends = es }) (sym (ends_first T blocks));
         numbered = none_posted number blocks;
         blocks = p;
@@ -136,22 +136,22 @@ module _ {T : Type 0} where
 
   -- ---- giving up what is left
 
-  given_up_set : (ps : List (Place T)) (b : ℕ) → slice_get ps b ≡ Some Open → map given_up (slice_set ps b Lost) ≡ map given_up ps
+  given_up_set : (ps : List (BlockSlot T)) (b : ℕ) → slice_get ps b ≡ Some Open → map given_up (slice_set ps b Lost) ≡ map given_up ps
   given_up_set [] b h = refl
   given_up_set (p ∷ ps) zero h = let same : p ≡ Open = cc in sym (ap (λ q. given_up q ∷ map given_up ps) same)
   given_up_set (p ∷ ps) (suc b) h = ap (λ qs. given_up p ∷ qs) (given_up_set ps b h)
 
-  open_is : (p : Place T) → end_of p ≡ unended → p ≡ Open
+  open_is : (p : BlockSlot T) → end_of p ≡ unended → p ≡ Open
   open_is Open h = refl
   open_is (Posted r) h = absurd cc
   open_is Lost h = absurd cc
 
-  unended_open : (ps : List (Place T)) (b : ℕ) → slice_get (map end_of ps) b ≡ Some unended → slice_get ps b ≡ Some Open
+  unended_open : (ps : List (BlockSlot T)) (b : ℕ) → slice_get (map end_of ps) b ≡ Some unended → slice_get ps b ≡ Some Open
   unended_open [] b h = absurd cc
   unended_open (p ∷ ps) zero h = ap Some (open_is p cc)
   unended_open (p ∷ ps) (suc b) h = unended_open ps b h
 
-  ended_same : (ps : List (Place T)) → AreEnded ps → map given_up ps ≡ ps
+  ended_same : (ps : List (BlockSlot T)) → AreEnded ps → map given_up ps ≡ ps
   ended_same [] h = refl
   ended_same (Open ∷ ps) h = absurd (h zero refl)
   ended_same (Posted r ∷ ps) h = ap (λ qs. Posted r ∷ qs) (ended_same ps (λ b. h (suc b)))
@@ -194,7 +194,7 @@ module _ {T : Type 0} where
 
   -- ---- a settled board
 
-  open_unended : (ps : List (Place T)) (b : ℕ) → slice_get ps b ≡ Some Open → slice_get (map end_of ps) b ≡ Some unended
+  open_unended : (ps : List (BlockSlot T)) (b : ℕ) → slice_get ps b ≡ Some Open → slice_get (map end_of ps) b ≡ Some unended
   open_unended ps b h = slice_get-map end_of ps b ∙ ap (option_map end_of) h
 
   pub settled_once : (number : T → ℕ) (many room : ℕ) (s : Stage T) → IsBoard number many room s → length s.places ≤ s.next → AreIdle s.outs → SettledOnce many s.events
@@ -211,7 +211,7 @@ module _ {T : Type 0} where
       ]
 
   -- nothing was left open
-  pub all_given_up : (ps old : List (Place T)) → AreEnded ps → map given_up ps ≡ map given_up old → ps ≡ map given_up old
+  pub all_given_up : (ps old : List (BlockSlot T)) → AreEnded ps → map given_up ps ≡ map given_up old → ps ≡ map given_up old
   all_given_up ps old ended same = sym (ended_same ps ended) ∙ same
 
   pub loses_claimed : (number : T → ℕ) (many room : ℕ) (s mid new : Stage T) (t : Ticket) (r : Bool) → IsBoard number many room s → AreIdle s.outs → Claims s 0 (Some t) mid → ((r ≡ true) ↔ IsOut mid.outs t) → new ≡ (if r then without_run t mid else mid) → LosesNext s new

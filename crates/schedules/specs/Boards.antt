@@ -1,10 +1,11 @@
 -- What a board of a stage shows, and what its calls do (own).
-use Rattle.std.specs.Prelude.{◌≡◌, ◌↔◌, ℕ, ◌+◌, ◌*◌, ◌^◌, ◌<◌, ◌≤◌, Option, Some, None, List, [], ◌∷◌, ◌++◌, map, length, slice_get, slice_set, replicate}
+use Rattle.std.specs.Prelude.{◌≡◌, ◌↔◌, ℕ, ◌+◌, ◌*◌, ◌^◌, ◌<◌, ◌≤◌, Option, Some, None, List, []}
+use Rattle.std.specs.Prelude.{◌∷◌, ◌++◌, map, length, slice_get, slice_set, replicate}
 use Rattle.schedules.specs.declared.event.Ticket.{Ticket}
 use Rattle.schedules.specs.declared.event.Event.{Event}
 use Rattle.schedules.specs.declared.event.Event.TheVariants.{Claim, Post, Lose}
-use Rattle.schedules.specs.declared.place.Place.{Place}
-use Rattle.schedules.specs.declared.place.Place.TheVariants.{Open, Posted, Lost}
+use Rattle.schedules.specs.declared.place.BlockSlot.{BlockSlot}
+use Rattle.schedules.specs.declared.place.BlockSlot.TheVariants.{Open, Posted, Lost}
 use Rattle.schedules.specs.Schedules.{End, unended, posted, lost, World, first_world, Replays}
 
 -- what contracts see of a board whose runs are of a type
@@ -14,13 +15,14 @@ pub record Stage (T : Type 0) : Type 0 where
   -- the block that each worker has out
   pub outs : List (Option ℕ)
   -- what it has for each block
-  pub places : List (Place T)
+  pub places : List (BlockSlot T)
   -- what happened, first to last
   pub events : List Event
 
 -- what a worker has out
 abbrev pub IsOutOf : List (Option ℕ) → ℕ → Option ℕ → Type 0
-IsOutOf outs worker out = (block : ℕ) → (out ≡ Some block) ↔ (slice_get outs worker ≡ Some (Some block))
+IsOutOf outs worker out =
+    (block : ℕ) → (out ≡ Some block) ↔ (slice_get outs worker ≡ Some (Some block))
 
 -- nobody has anything out
 abbrev pub AreIdle : List (Option ℕ) → Type 0
@@ -34,10 +36,17 @@ AreIdleBelow n outs =
 module _ {T : Type 0} where
   -- nothing was given out
   abbrev pub first_stage : ℕ → ℕ → Stage T
-  first_stage blocks workers = record { next = 0; outs = replicate workers None; places = replicate blocks Open; events = [] }
+  first_stage blocks workers =
+      record {
+        next = 0;
+        outs = replicate workers None;
+        places = replicate blocks Open;
+        events =
+            [];
+      }
 
   -- how a block stands
-  abbrev pub end_of : Place T → End
+  abbrev pub end_of : BlockSlot T → End
   end_of Open = unended
   end_of (Posted r) = posted
   end_of Lost = lost
@@ -51,35 +60,58 @@ module _ {T : Type 0} where
   IsScheduled s = Replays s.events (first_world (length s.places) (length s.outs)) (world_of s)
 
   -- each run that was posted is of its block, by the runs' numbers
-  abbrev pub AreNumbered : (T → ℕ) → List (Place T) → Type 0
-  AreNumbered number places = (block : ℕ) (r : T) → slice_get places block ≡ Some (Posted r) → number r ≡ block
+  abbrev pub AreNumbered : (T → ℕ) → List (BlockSlot T) → Type 0
+  AreNumbered number places =
+      (block : ℕ) (r : T) → slice_get places block ≡ Some (Posted r) → number r ≡ block
 
   -- the next block is out
   abbrev pub claimed : Ticket → Stage T → Stage T
-  claimed t s = record { next = s.next + 1; outs = slice_set s.outs t.worker (Some t.block); places = s.places; events = s.events ++ Claim t ∷ [] }
+  claimed t s =
+      record {
+        next = s.next + 1;
+        outs = slice_set s.outs t.worker (Some t.block);
+        places =
+            s.places;
+        events = s.events ++ Claim t ∷ [];
+      }
 
   -- a claim gives the next block, or nothing where all were given out
   abbrev pub Claims : Stage T → ℕ → Option Ticket → Stage T → Type 0
   Claims old worker None new = (length old.places ≤ old.next) × (new ≡ old)
   Claims old worker (Some t) new =
-      (old.next < length old.places) × (t ≡ record { worker = worker; block = old.next }) × (new ≡ claimed t old)
+      (old.next < length old.places) × (t ≡ record { worker = worker; block = old.next })
+      × (new ≡ claimed t old)
 
   -- a run is put at its block, which is out no more
   abbrev pub with_run : Ticket → T → Stage T → Stage T
-  with_run t r s = record { next = s.next; outs = slice_set s.outs t.worker None; places = slice_set s.places t.block (Posted r); events = s.events ++ Post t ∷ [] }
+  with_run t r s =
+      record {
+        next = s.next;
+        outs = slice_set s.outs t.worker None;
+        places = slice_set s.places
+            t.block (Posted r);
+        events = s.events ++ Post t ∷ [];
+      }
 
   -- a block is given up
   abbrev pub without_run : Ticket → Stage T → Stage T
-  without_run t s = record { next = s.next; outs = slice_set s.outs t.worker None; places = slice_set s.places t.block Lost; events = s.events ++ Lose t ∷ [] }
+  without_run t s =
+      record {
+        next = s.next;
+        outs = slice_set s.outs t.worker None;
+        places = slice_set s.places
+            t.block Lost;
+        events = s.events ++ Lose t ∷ [];
+      }
 
   -- a block that isn't posted is lost
-  abbrev pub given_up : Place T → Place T
+  abbrev pub given_up : BlockSlot T → BlockSlot T
   given_up Open = Lost
   given_up (Posted r) = Posted r
   given_up Lost = Lost
 
   -- each block was posted or lost
-  abbrev pub AreEnded : List (Place T) → Type 0
+  abbrev pub AreEnded : List (BlockSlot T) → Type 0
   AreEnded places = (block : ℕ) → slice_get places block ≡ Some Open → ⊥
 
   -- what the worker had out is lost, and nothing else

@@ -1,5 +1,6 @@
 -- What a schedule of a stage's blocks is (own): claims, posts and losses, one after another.
-use Rattle.std.specs.Prelude.{◌≡◌, ℕ, ◌+◌, ◌<◌, ◌≤◌, ◌⊎◌, Option, Some, None, List, [], ◌∷◌, eqb, filter, length, slice_get, slice_set, replicate}
+use Rattle.std.specs.Prelude.{◌≡◌, ℕ, ◌+◌, ◌<◌, ◌≤◌, ◌⊎◌, Option, Some, None, List, [], ◌∷◌, eqb}
+use Rattle.std.specs.Prelude.{filter, length, slice_get, slice_set, replicate}
 use Rattle.schedules.specs.declared.event.Ticket.{Ticket}
 use Rattle.schedules.specs.declared.event.Event.{Event}
 use Rattle.schedules.specs.declared.event.Event.TheVariants.{Claim, Post, Lose}
@@ -24,7 +25,8 @@ pub record World : Type 0 where
 
 -- nothing was given out
 abbrev pub first_world : ℕ → ℕ → World
-first_world blocks workers = record { next = 0; outs = replicate workers None; ends = replicate blocks unended }
+first_world blocks workers =
+    record { next = 0; outs = replicate workers None; ends = replicate blocks unended }
 
 -- the worker has nothing out
 abbrev pub IsIdle : List (Option ℕ) → ℕ → Type 0
@@ -36,13 +38,21 @@ IsOut outs t = slice_get outs t.worker ≡ Some (Some t.block)
 
 -- an idle worker is given the next block
 abbrev pub with_claim : Ticket → World → World
-with_claim t w = record { next = w.next + 1; outs = slice_set w.outs t.worker (Some t.block); ends = w.ends }
+with_claim t w =
+    record { next = w.next + 1; outs = slice_set w.outs t.worker (Some t.block); ends = w.ends }
 
 -- it is out no more
 abbrev pub ended : Ticket → End → World → World
-ended t how w = record { next = w.next; outs = slice_set w.outs t.worker None; ends = slice_set w.ends t.block how }
+ended t how w =
+    record {
+      next = w.next;
+      outs = slice_set w.outs t.worker None;
+      ends = slice_set w.ends t.block
+          how;
+    }
 
--- an event makes one world of another: an idle worker is given the next block, or one that is out comes back
+-- an event makes one world of another: an idle worker is given the next block, or one that is out
+-- comes back
 abbrev pub Happens : Event → World → World → Type 0
 Happens (Claim t) w v =
     (t.block ≡ w.next) × (w.next < length w.ends) × IsIdle w.outs t.worker × (v ≡ with_claim t w)
@@ -76,10 +86,13 @@ WasLost t events = events ≡ Claim t ∷ Lose t ∷ []
 abbrev pub ticket : ℕ → ℕ → Ticket
 ticket worker block = record { worker = worker; block = block }
 
--- a block was claimed by a worker, and then posted or lost in its name, and there is nothing else of it
+-- a block was claimed by a worker, and then posted or lost in its name, and there is nothing else
+-- of it
 abbrev pub IsOnce : ℕ → List Event → Type 0
 IsOnce block events =
-    (worker : ℕ) × (WasPosted (ticket worker block) (events_of block events) ⊎ WasLost (ticket worker block) (events_of block events))
+    (worker : ℕ)
+    × (WasPosted (ticket worker block) (events_of block events)
+    ⊎ WasLost (ticket worker block) (events_of block events))
 
 -- each block below a number is claimed once and then posted or lost once, and there is nothing else
 pub record SettledOnce (blocks : ℕ) (events : List Event) : Type 0 where

@@ -1,23 +1,28 @@
 //! The board of a stage.
 
-ghost use Rattle.std.specs.Prelude.{◌≡◌, ◌↔◌, ◌+◌, ◌*◌, ◌<◌, ◌≤◌, ◌^◌, IsTrue, IfOk, IfSome, [], ◌∷◌, ◌++◌, None, length, map, replicate, vec_len, vec_capacity, if◌then◌else◌};
-ghost use Rattle.schedules.specs.declared.place.Place.TheVariants.{Open};
+ghost use Rattle.std.specs.Prelude.{◌≡◌, ◌↔◌, ◌+◌, ◌*◌, ◌<◌, ◌≤◌, ◌^◌, IsTrue, IfOk, IfSome, []};
+ghost use Rattle.std.specs.Prelude.{◌∷◌, ◌++◌, None, length, map, replicate, vec_len, vec_capacity};
+ghost use Rattle.std.specs.Prelude.{if◌then◌else◌};
+ghost use Rattle.schedules.specs.declared.place.BlockSlot.TheVariants.{Open};
 ghost use Rattle.schedules.specs.Schedules.{IsIdle, IsOut, SettledOnce};
-ghost use Rattle.schedules.specs.Boards.{AreEnded, AreIdle, AreNumbered, Claims, IsBoard, IsOutOf, IsScheduled, LetsGo, LosesNext, first_stage, given_up, with_run, without_run};
+ghost use Rattle.schedules.specs.Boards.{AreEnded, AreIdle, AreNumbered, Claims, IsBoard, IsOutOf};
+ghost use Rattle.schedules.specs.Boards.{IsScheduled, LetsGo, LosesNext, first_stage, given_up};
+ghost use Rattle.schedules.specs.Boards.{with_run, without_run};
 
 use crate::closed::Closed;
 use crate::event::{Event, Ticket};
 use crate::numbered::Numbered;
-use crate::place::Place;
+use crate::place::BlockSlot;
 use std::alloc::{AllocError, Global};
 use std::marker::Model;
 
-/// Which blocks of a stage are given out, and what came of them. Contracts see its parts; what happened is kept, and leads to them.
+/// Which blocks of a stage are given out, and what came of them. Contracts see its parts; what
+/// happened is kept, and leads to them.
 #[derive(Drop)]
 pub struct Board<T: Numbered> {
     next: u32,
     outs: Vec<Option<u32>>,
-    places: Vec<Place<T>>,
+    places: Vec<BlockSlot<T>>,
     events: Vec<Event>,
 }
 
@@ -54,12 +59,12 @@ fn note(events: &mut Vec<Event>, event: Event)
 }
 
 // Blocks that are neither posted nor lost.
-fn open_places<T: Drop>(alloc: Global, blocks: u32) -> Result<Vec<Place<T>>, AllocError>
+fn open_places<T: Drop>(alloc: Global, blocks: u32) -> Result<Vec<BlockSlot<T>>, AllocError>
     ensures { IfOk result (λ v. v.items ≡ replicate blocks Open) }
 {
     let mut places = Vec::with_capacity(alloc, blocks as usize)?;
     for _ in 0..blocks {
-        places.push(Place::Open)?;
+        places.push(BlockSlot::Open)?;
     }
     Ok(places)
 }
@@ -76,8 +81,8 @@ fn idle_workers(alloc: Global, workers: u32) -> Result<Vec<Option<u32>>, AllocEr
 }
 
 impl<T: Numbered + Drop> Board<T> {
-    /// A board of which nothing was given out, with room for all that can happen. The `AllocError` comes where memory was refused;
-    /// later calls take none.
+    /// A board of which nothing was given out, with room for all that can happen. The `AllocError`
+    /// comes where memory was refused; later calls take none.
     pub fn new(alloc: Global, blocks: u32, workers: u32) -> Result<Board<T>, AllocError>
         requires blocks { blocks ≡ T.blocks }
         requires workers { 0 < workers }
@@ -134,7 +139,8 @@ impl<T: Numbered + Drop> Board<T> {
         }
     }
 
-    /// Puts a block's run at its place. It answers false, and changes nothing, exactly where the block is not out in the worker's name.
+    /// Puts a block's run at its place. It answers false, and changes nothing, exactly where the
+    /// block is not out in the worker's name.
     pub fn post_in(&mut self, ticket: Ticket, run: T) -> bool
         requires { T.number run ≡ ticket.block }
         ensures is { IsTrue result ↔ IsOut self.old.outs ticket }
@@ -146,11 +152,12 @@ impl<T: Numbered + Drop> Board<T> {
         }
         note(&mut self.events, Event::Post(ticket));
         self.outs[ticket.worker as usize] = None;
-        self.places[ticket.block as usize] = Place::Posted(run);
+        self.places[ticket.block as usize] = BlockSlot::Posted(run);
         true
     }
 
-    /// Gives a block up. It answers false, and changes nothing, exactly where the block is not out in the worker's name.
+    /// Gives a block up. It answers false, and changes nothing, exactly where the block is not out
+    /// in the worker's name.
     pub fn lose_in(&mut self, ticket: Ticket) -> bool
         ensures is { IsTrue result ↔ IsOut self.old.outs ticket }
         ensures gone { self.new ≡ (if result then without_run ticket self.old else self.old) }
@@ -160,7 +167,7 @@ impl<T: Numbered + Drop> Board<T> {
         }
         note(&mut self.events, Event::Lose(ticket));
         self.outs[ticket.worker as usize] = None;
-        self.places[ticket.block as usize] = Place::Lost;
+        self.places[ticket.block as usize] = BlockSlot::Lost;
         true
     }
 

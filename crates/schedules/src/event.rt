@@ -1,6 +1,7 @@
 //! What happens to the blocks of a stage.
 
-/// A block in a worker's name, both by their numbers from 0. Anyone may make one: that the block is out is told by the board alone.
+/// A block in a worker's name, both by their numbers from 0. Anyone may make one: that the block is
+/// out is told by the board alone.
 #[derive(Clone, Copy, Debug, PartialEq, Eq)]
 pub struct Ticket {
     /// The worker.

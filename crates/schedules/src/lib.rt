@@ -1,4 +1,5 @@
-//! Schedules of a stage (own): which blocks are given out to workers, and which came back with a run or were given up.
+//! Schedules of a stage (own): which blocks are given out to workers, and which came back with a
+//! run or were given up.
 #![tactic(auto)]
 
 mod board;
@@ -11,4 +12,4 @@ pub use board::Board;
 pub use closed::Closed;
 pub use event::{Event, Ticket};
 pub use numbered::Numbered;
-pub use place::Place;
+pub use place::BlockSlot;

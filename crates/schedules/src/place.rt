@@ -2,7 +2,7 @@
 
 /// What a board has for a block.
 #[derive(Drop, Debug)]
-pub enum Place<T> {
+pub enum BlockSlot<T> {
     /// It was neither posted nor lost: it waits, or is out.
     Open,
     /// Its run.

@@ -8,9 +8,9 @@ use Rattle.meaning.specs.Scopes.{declarators_in}
 use Rattle.meaning.specs.Syntax.{ItemTree, declarator_tree}
 use Rattle.meaning.specs.Types.{Types}
 use Rattle.meaning.specs.Values.{Known}
-use Rattle.roles.specs.declared.names.Roles.{Roles as Kept}
-use Rattle.roles.specs.RolesAt.{roles_at}
-use Rattle.roles.proofs.Passes.{map_left}
+use Rattle.symbols.specs.declared.names.Symbols.{Symbols as Kept}
+use Rattle.symbols.specs.SymbolsAt.{symbols_at}
+use Rattle.symbols.proofs.Passes.{map_left}
 use Rattle.declarations.specs.declared.known.Table.{Table}
 use Rattle.declarations.specs.Tables.{types_in}
 use Rattle.number_rules.specs.CappedSizes.{IsCapped}
@@ -44,11 +44,11 @@ module _ (types : Types) (known : Known) where
       ap (λ xs. first_large types known k (map declarator_tree xs)) (sym (drop_all i ds le)) ∙ so_far
 
 -- by what is known behind statements
-pub told_behind : (r : Kept) (t : Table) (count : ℕ) (before : List ItemTree) (ds : List Declarator) (x : ItemTree) (o : Option Told) → AreBehind t count before → t.roles.now ≡ r → map declarator_tree ds ≡ declarators_in x.shape → Finds (IsCapped count) (first_large_at t ds) o → o ≡ large_in (roles_at r) before x
+pub told_behind : (r : Kept) (t : Table) (count : ℕ) (before : List ItemTree) (ds : List Declarator) (x : ItemTree) (o : Option Told) → AreBehind t count before → t.symbols.now ≡ r → map declarator_tree ds ≡ declarators_in x.shape → Finds (IsCapped count) (first_large_at t ds) o → o ≡ large_in (symbols_at r) before x
 told_behind r t count before ds x o known same declared finds =
-    let q = roles_at t.roles.now in
+    let q = symbols_at t.symbols.now in
     let n = elements_in q [] before in
     finds n known.elements
     ∙ ap (λ k. first_large (types_in t) k n (map declarator_tree ds)) known.table
     ∙ ap (first_large (types_in t) (known_behind_all q before) n) declared
-    ∙ ap (λ p. large_in (roles_at p) before x) same
+    ∙ ap (λ p. large_in (symbols_at p) before x) same

@@ -8,7 +8,7 @@ use Rattle.meaning.specs.NumberRules.{dimensions_by, elements_in, elements_of, h
 use Rattle.meaning.specs.Scopes.{declarators_in}
 use Rattle.meaning.specs.Syntax.{DeclaratorTree, ItemTree}
 use Rattle.meaning.specs.Types.{Types}
-use Rattle.meaning.specs.Uses.{Roles}
+use Rattle.meaning.specs.Uses.{Symbols}
 use Rattle.meaning.specs.Values.{Known}
 use Rattle.expressions.specs.Places.{capped}
 use Rattle.finding.specs.Answers.{IsAnswer}
@@ -51,5 +51,5 @@ module _ (types : Types) (known : Known) where
       let m = n + elements_of types known d in
       or_answer all (is_too_large types known n d) (have_too_large types known m ds) (large_of types known n d) (first_large types known m ds) (weaker_answer (IsLargeBy types known n d) all (is_too_large types known n d) (large_of types known n d) (λ k h. inl h) (large_answer n d)) (weaker_answer (IsLargeAmong types known m ds) all (have_too_large types known m ds) (first_large types known m ds) (λ k h. inr h) (first_answer m ds))
 
-pub sizes_told : (r : Roles) (before : List ItemTree) (x : ItemTree) → IsAnswer (IsBy r before x) (has_large_array r before x) (large_in r before x)
+pub sizes_told : (r : Symbols) (before : List ItemTree) (x : ItemTree) → IsAnswer (IsBy r before x) (has_large_array r before x) (large_in r before x)
 sizes_told r before x = first_answer r.names.types (known_behind_all r before) (elements_in r [] before) (declarators_in x.shape)

@@ -4,7 +4,7 @@ use Rattle.meaning.specs.declared.syntax.Declarator.{Declarator}
 use Rattle.meaning.specs.declared.syntax.Item.{Item}
 use Rattle.meaning.specs.Syntax.{ItemTree, declarator_tree}
 use Rattle.meaning.specs.Trees.{item_tree}
-use Rattle.roles.specs.declared.names.Roles.{Roles as Kept}
+use Rattle.symbols.specs.declared.names.Symbols.{Symbols as Kept}
 use Rattle.declarations.specs.declared.known.Table.{Table}
 use Rattle.declarations.specs.Tables.{known_at, types_in}
 use Rattle.number_rules.specs.Sized.{AreBehind}
@@ -24,10 +24,11 @@ first_large_at t ds n = first_large (types_in t) (known_at t) n (map declarator_
 
 -- what is known behind statements
 pub record AreBehindHere (r : Kept) (before : List ItemTree) (p : Passed) : Type 0 where
-  pub same : p.table.roles.now ≡ r
+  pub same : p.table.symbols.now ≡ r
   pub behind : AreBehind p.table p.elements before
 
 -- and behind one statement more
 abbrev pub PassesOne : Passed → Passed → Item → Type 0
 PassesOne old new x =
-    (before : List ItemTree) → AreBehind old.table old.elements before → AreBehind new.table new.elements (before ++ item_tree x ∷ [])
+    (before : List ItemTree) → AreBehind old.table old.elements before →
+    AreBehind new.table new.elements (before ++ item_tree x ∷ [])

@@ -3,7 +3,8 @@ use Rattle.std.specs.Prelude.{ℕ, ℤ, List, Option, option_map}
 use Rattle.size_culprits.specs.declared.culprit.SizeCulprit.{SizeCulprit}
 use Rattle.size_culprits.specs.declared.culprit.SizeCulprit.TheVariants as culprits
 
--- the name of the array; how many dimensions it has; the bounds of a dimension; how many elements it has, and how many stand before it
+-- the name of the array; how many dimensions it has; the bounds of a dimension; how many elements
+-- it has, and how many stand before it
 pub data Told : Type 0 where
   dimensioned : List ℕ → ℕ → Told
   reversed : List ℕ → ℤ → ℤ → Told

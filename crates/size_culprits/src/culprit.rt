@@ -16,7 +16,8 @@ pub enum SizeCulprit<'a> {
         lower: i32,
         upper: i32,
     },
-    /// The array has so many elements, and the arrays before it have so many, 2^64-1 where there are more; all have more than 16,777,216.
+    /// The array has so many elements, and the arrays before it have so many, 2^64-1 where there
+    /// are more; all have more than 16,777,216.
     Elements {
         name: &'a [u8],
         own: u64,

@@ -1,4 +1,5 @@
-//! What breaks the rule on the sizes of arrays (ANSI X3.9-1978, 5.1), for whoever tells people of it.
+//! What breaks the rule on the sizes of arrays (ANSI X3.9-1978, 5.1), for whoever tells people of
+//! it.
 #![tactic(auto)]
 
 mod culprit;

@@ -3,21 +3,22 @@
 ghost use Rattle.std.specs.Prelude.{◌≡◌, IfOk, OnOk};
 ghost use Rattle.meaning.specs.Arrays.{size};
 ghost use Rattle.meaning.specs.Trees.{item_tree};
-ghost use Rattle.roles.specs.Listed.{trees_at};
-ghost use Rattle.roles.specs.RolesAt.{roles_at};
+ghost use Rattle.symbols.specs.Listed.{trees_at};
+ghost use Rattle.symbols.specs.SymbolsAt.{symbols_at};
 ghost use Rattle.rule_passes.specs.Telling.{Finds};
 ghost use Rattle.declarations.specs.Dimensioned.{dimensions_at};
 ghost use Rattle.number_rules.specs.CappedSizes.{IsCapped};
 ghost use Rattle.number_rules.specs.Sized.{capped_with, elements_at};
 ghost use Rattle.size_culprits.specs.Sizes.{large_in, reversed_in};
-ghost use Rattle.size_culprits.specs.Sized.{AreBehindHere, PassesOne, crowded_at, first_large_at, large_at};
+ghost use Rattle.size_culprits.specs.Sized.{AreBehindHere, PassesOne, crowded_at, first_large_at};
+ghost use Rattle.size_culprits.specs.Sized.{large_at};
 ghost use Rattle.size_culprits.specs.Told.{tell};
 
 use crate::culprit::SizeCulprit;
 use declarations::{Table, dimension_of, lacks_bound, pass_constants, table_of};
 use meaning::syntax::{Bounds, Declarator, Item};
-use roles::{Roles, declarators_in};
 use std::alloc::{AllocError, Global};
+use symbols::{Symbols, declarators_in};
 
 /// The most elements that the arrays of a program may have.
 const MOST: u64 = 16_777_216;
@@ -33,7 +34,8 @@ fn size_of(table: &Table, bounds: &[Bounds]) -> u64
     found
 }
 
-/// How many elements a declarator gives, or 2^64-1 where there are more; none where a bound has no value.
+/// How many elements a declarator gives, or 2^64-1 where there are more; none where a bound has no
+/// value.
 fn elements_of(table: &Table, declarator: &Declarator) -> u64
     ensures { IsCapped result (elements_at table.now declarator.now) }
 {
@@ -77,7 +79,8 @@ fn crowded<'a>(table: &Table, before: u64, declarator: &'a Declarator) -> Option
     }
 }
 
-/// What makes an array too large behind so many elements. Where a bound has no value, the number of dimensions alone counts.
+/// What makes an array too large behind so many elements. Where a bound has no value, the number of
+/// dimensions alone counts.
 fn large<'a>(table: &Table, before: u64, declarator: &'a Declarator) -> Option<SizeCulprit<'a>>
     ensures { Finds (IsCapped before) (large_at table.now declarator.now) (tell result) }
 {
@@ -137,7 +140,7 @@ struct Passed<'a> {
 /// Passes a statement.
 fn pass(passed: &mut Passed, alloc: Global, item: &Item) -> Result<(), AllocError>
     ensures behind { OnOk result (PassesOne passed.old passed.new item.now) }
-    ensures same { OnOk result (passed.new.table.roles ≡ passed.old.table.roles) }
+    ensures same { OnOk result (passed.new.table.symbols ≡ passed.old.table.symbols) }
 {
     let declarators = declarators_in(&*item.form.shape);
     passed.elements = with_elements(&passed.table, passed.elements, declarators);
@@ -147,13 +150,13 @@ fn pass(passed: &mut Passed, alloc: Global, item: &Item) -> Result<(), AllocErro
 /// What is known behind statements.
 fn passed_of<'a>(
     alloc: Global,
-    roles: &'a Roles<'a>,
+    symbols: &'a Symbols<'a>,
     before: &[&Item],
 ) -> Result<Passed<'a>, AllocError>
-    ensures { IfOk result (AreBehindHere roles.now (trees_at before.now)) }
+    ensures { IfOk result (AreBehindHere symbols.now (trees_at before.now)) }
 {
     let mut passed = Passed {
-        table: table_of(alloc, roles),
+        table: table_of(alloc, symbols),
         elements: 0,
     };
     for item in before {
@@ -165,13 +168,15 @@ fn passed_of<'a>(
 /// K7: what makes the first array too large that a statement behind others declares so.
 pub fn large_array<'a>(
     alloc: Global,
-    roles: &Roles,
+    symbols: &Symbols,
     before: &[&Item],
     item: &'a Item,
 ) -> Result<Option<SizeCulprit<'a>>, AllocError>
-    ensures { IfOk result (λ c. tell c ≡ large_in (roles_at roles.now) (trees_at before.now) (item_tree item.now)) }
+    ensures { IfOk
+        result (λ c. tell c
+        ≡ large_in (symbols_at symbols.now) (trees_at before.now) (item_tree item.now)) }
 {
-    let passed = passed_of(alloc, roles, before)?;
+    let passed = passed_of(alloc, symbols, before)?;
     Ok(first_large(
         &passed.table,
         passed.elements,

@@ -1,9 +1,11 @@
-//! What breaks the rule on the sizes of arrays, as text: `A has 20000000 elements, 16777216 at most`.
+//! What breaks the rule on the sizes of arrays, as text: `A has 20000000 elements, 16777216 at
+//! most`.
 
 ghost use Rattle.std.specs.Prelude.{◌≡◌, ◌++◌, OnOk};
 ghost use Rattle.std.specs.Fmt.{decimal, signed_decimal};
 ghost use Rattle.size_culprits.specs.Told.{told_at};
-ghost use Rattle.size_culprits.specs.Texts.{before_text, count_text, elements_text, reversed_text, told_text};
+ghost use Rattle.size_culprits.specs.Texts.{before_text, count_text, elements_text, reversed_text};
+ghost use Rattle.size_culprits.specs.Texts.{told_text};
 
 use crate::culprit::SizeCulprit;
 use itoa::Buffer;
@@ -75,8 +77,8 @@ fn add_elements(bytes: &mut Vec<u8>, own: u64, before: u64) -> Result<(), AllocE
     add(bytes, ", 16777216 at most")
 }
 
-/// Puts what breaks the rule on the sizes of arrays behind a text, in the words of a message. The `AllocError` comes only where a
-/// growth was refused, and leaves a part of it there.
+/// Puts what breaks the rule on the sizes of arrays behind a text, in the words of a message. The
+/// `AllocError` comes only where a growth was refused, and leaves a part of it there.
 pub fn add_size_text(bytes: &mut Vec<u8>, culprit: SizeCulprit) -> Result<(), AllocError>
     ensures { OnOk result (bytes.new.items ≡ bytes.old.items ++ told_text (told_at culprit.entry)) }
 {

@@ -8,4 +8,5 @@ use Rattle.meaning.specs.Statements.{broken_in, is_too_long}
 -- of a source that is too long that alone
 abbrev pub pairs_of_lines : List ℕ → List Broken
 pairs_of_lines source =
-    if is_too_long source then record { line = 1; rule = C7 } ∷ [] else broken_in (statement_lines 1 (lines_of source))
+    if is_too_long source then record { line = 1; rule = C7 } ∷ []
+    else broken_in (statement_lines 1 (lines_of source))

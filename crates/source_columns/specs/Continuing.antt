@@ -1,5 +1,6 @@
 -- What continuation lines break, one by one (ANSI X3.9-1978, 3.2.3).
-use Rattle.std.specs.Prelude.{ℕ, ◌+◌, ◌==◌, not, List, [], ◌∷◌, ◌++◌, Option, Some, None, Result, if◌then◌else◌}
+use Rattle.std.specs.Prelude.{ℕ, ◌+◌, ◌==◌, not, List, [], ◌∷◌, ◌++◌, Option, Some, None, Result}
+use Rattle.std.specs.Prelude.{if◌then◌else◌}
 use Rattle.std.specs.List.{list_all, flat_map}
 use Rattle.meaning.specs.declared.refusal.Broken.{Broken}
 use Rattle.meaning.specs.declared.refusal.Rule.{Rule}
@@ -27,12 +28,14 @@ broken_at line (Some rule) = Some (record { line = line; rule = rule })
 -- the first pair that continuation lines break
 unfoldable pub first_broken : ℕ → List StatementLine → Option Broken
 first_broken count [] = None
-first_broken count (l ∷ ls) = or_else (broken_at l.line (rule_behind count l.columns)) (first_broken (count + 1) ls)
+first_broken count (l ∷ ls) =
+    or_else (broken_at l.line (rule_behind count l.columns)) (first_broken (count + 1) ls)
 
 -- a text and the continuation lines in front, joined, unless one of them breaks a rule
 abbrev pub joined : List ℕ → List StatementLine → Result (List ℕ) Broken
 joined text ls =
-    unless (first_broken 0 (continuations ls)) (text ++ flat_map (λ l. statement_field l.columns) (continuations ls))
+    unless (first_broken 0 (continuations ls))
+    (text ++ flat_map (λ l. statement_field l.columns) (continuations ls))
 
 -- what stands behind the continuation lines
 unfoldable pub behind : List StatementLine → List StatementLine

@@ -1,9 +1,11 @@
-//! Every rule on lines that a source breaks, for whoever tells them all (ANSI X3.9-1978, 3.2 to 3.4).
+//! Every rule on lines that a source breaks, for whoever tells them all (ANSI X3.9-1978, 3.2 to
+//! 3.4).
 
 ghost use Rattle.std.specs.Prelude.{◌≡◌, ◌+◌, ◌≤◌, ◌++◌, drop, length, map, IfOk, OnOk};
 ghost use Rattle.std.specs.List.{flat_map};
 ghost use Rattle.meaning.specs.Lines.{lines_of};
-ghost use Rattle.meaning.specs.Statements.{broken_alone, broken_if, broken_in, broken_in_group, broken_in_line, broken_past, continuations, groups};
+ghost use Rattle.meaning.specs.Statements.{broken_alone, broken_if, broken_in, broken_in_group};
+ghost use Rattle.meaning.specs.Statements.{broken_in_line, broken_past, continuations, groups};
 ghost use Rattle.source_columns.specs.AllBroken.{pairs_of_lines};
 ghost use Rattle.source_columns.specs.Views.{group_of, line_of, lines_behind, lines_from};
 
@@ -41,7 +43,8 @@ fn add_line(pairs: &mut Vec<Broken>, line: &StatementLine) -> Result<(), AllocEr
 /// Adds those of each line by itself.
 fn add_lines(pairs: &mut Vec<Broken>, source: &[u8]) -> Result<(), AllocError>
     requires { 1 + length (lines_of source.now) ≤ 65536 }
-    ensures { OnOk result (pairs.new.items ≡ pairs.old.items ++ flat_map broken_in_line (lines_from 1 source.now)) }
+    ensures { OnOk result
+        (pairs.new.items ≡ pairs.old.items ++ flat_map broken_in_line (lines_from 1 source.now)) }
 {
     let mut number = 1;
     let mut rest = source;
@@ -56,7 +59,9 @@ fn add_lines(pairs: &mut Vec<Broken>, source: &[u8]) -> Result<(), AllocError>
 /// Adds those of the continuation lines with no initial line before them.
 fn add_alone(pairs: &mut Vec<Broken>, source: &[u8]) -> Result<(), AllocError>
     requires { 1 + length (lines_of source.now) ≤ 65536 }
-    ensures { OnOk result (pairs.new.items ≡ pairs.old.items ++ map broken_alone (continuations (lines_from 1 source.now))) }
+    ensures { OnOk result
+        (pairs.new.items ≡ pairs.old.items
+        ++ map broken_alone (continuations (lines_from 1 source.now))) }
 {
     let mut number = 1;
     let mut rest = source;
@@ -74,7 +79,9 @@ fn add_alone(pairs: &mut Vec<Broken>, source: &[u8]) -> Result<(), AllocError>
 /// Adds that of the first of the continuation lines past the nineteenth.
 fn add_past(pairs: &mut Vec<Broken>, first: &StatementLine) -> Result<(), AllocError>
     requires { first.now.number + 1 + length (lines_of first.now.behind.now) ≤ 65536 }
-    ensures { OnOk result (pairs.new.items ≡ pairs.old.items ++ broken_past (drop 19 (continuations (lines_behind first.now)))) }
+    ensures { OnOk result
+        (pairs.new.items ≡ pairs.old.items
+        ++ broken_past (drop 19 (continuations (lines_behind first.now)))) }
 {
     let mut left = MAX_CONTINUATIONS;
     let mut number = first.number + 1;
@@ -97,7 +104,8 @@ fn add_past(pairs: &mut Vec<Broken>, first: &StatementLine) -> Result<(), AllocE
 /// Adds those of the statement that an initial line begins.
 fn add_group(pairs: &mut Vec<Broken>, first: &StatementLine) -> Result<(), AllocError>
     requires { first.now.number + 1 + length (lines_of first.now.behind.now) ≤ 65536 }
-    ensures { OnOk result (pairs.new.items ≡ pairs.old.items ++ broken_in_group (group_of first.now)) }
+    ensures { OnOk result
+        (pairs.new.items ≡ pairs.old.items ++ broken_in_group (group_of first.now)) }
 {
     let unpaired = !is_text_paired(first);
     add_past(pairs, first)?;
@@ -107,7 +115,9 @@ fn add_group(pairs: &mut Vec<Broken>, first: &StatementLine) -> Result<(), Alloc
 /// Adds those of each statement.
 fn add_groups(pairs: &mut Vec<Broken>, source: &[u8]) -> Result<(), AllocError>
     requires { 1 + length (lines_of source.now) ≤ 65536 }
-    ensures { OnOk result (pairs.new.items ≡ pairs.old.items ++ flat_map broken_in_group (groups (lines_from 1 source.now))) }
+    ensures { OnOk result
+        (pairs.new.items ≡ pairs.old.items
+        ++ flat_map broken_in_group (groups (lines_from 1 source.now))) }
 {
     let mut number = 1;
     let mut rest = source;
@@ -121,8 +131,9 @@ fn add_groups(pairs: &mut Vec<Broken>, source: &[u8]) -> Result<(), AllocError>
     Ok(())
 }
 
-/// Every pair of the rules C that a source breaks: those of each line by itself, of continuation lines with no initial line
-/// before them and of each statement, or C7 at line 1 alone where the source is too long. A pair can stand there twice.
+/// Every pair of the rules C that a source breaks: those of each line by itself, of continuation
+/// lines with no initial line before them and of each statement, or C7 at line 1 alone where the
+/// source is too long. A pair can stand there twice.
 ///
 /// # Errors
 ///

@@ -1,4 +1,5 @@
-//! The lines of one statement as they stand in a source (ANSI X3.9-1978, 3.2 and 3.3), for whoever shows them to people.
+//! The lines of one statement as they stand in a source (ANSI X3.9-1978, 3.2 and 3.3), for whoever
+//! shows them to people.
 
 ghost use Rattle.std.specs.Prelude.{◌≡◌, ◌-◌, ◌<◌, ◌∷◌, [], length, drop, MatchOption};
 ghost use Rattle.meaning.specs.Lines.{lines_of};
@@ -23,8 +24,8 @@ pub fn line_at(source: &[u8], number: u32) -> Option<(&[u8], &[u8])>
     first_line(rest)
 }
 
-/// The first continuation line of these lines, without its end, and what stands behind it; none where an initial line comes
-/// before it.
+/// The first continuation line of these lines, without its end, and what stands behind it; none
+/// where an initial line comes before it.
 pub fn next_continuation(source: &[u8]) -> Option<(&[u8], &[u8])>
     ensures lines { MatchOption result
         (continued (lines_of source.now) ≡ [])

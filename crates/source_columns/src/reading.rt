@@ -1,9 +1,11 @@
 //! The statements of a source, or the rule that it breaks (ANSI X3.9-1978, 3.2 to 3.4).
 
-ghost use Rattle.std.specs.Prelude.{◌≡◌, ◌+◌, ◌≤◌, map, not, length, IsTrue, IfOk, MatchResult, vec_len, if◌then◌else◌};
+ghost use Rattle.std.specs.Prelude.{◌≡◌, ◌+◌, ◌≤◌, map, not, length, IsTrue, IfOk, MatchResult};
+ghost use Rattle.std.specs.Prelude.{vec_len, if◌then◌else◌};
 ghost use Rattle.meaning.specs.Lines.{lines_of};
 ghost use Rattle.meaning.specs.Reports.{Gives, Tells};
-ghost use Rattle.meaning.specs.Statements.{is_blank_field, is_unpaired, text_of, entry_of, is_too_long, statements_in, statements_of};
+ghost use Rattle.meaning.specs.Statements.{is_blank_field, is_unpaired, text_of, entry_of};
+ghost use Rattle.meaning.specs.Statements.{is_too_long, statements_in, statements_of};
 ghost use Rattle.source_columns.specs.Views.{lines_from, lines_at, group_of, Begins};
 ghost use Rattle.source_columns.specs.Continuing.{rule_behind, behind, joined};
 
@@ -95,12 +97,15 @@ fn rule_broken(count: usize, columns: &[u8; COLUMNS]) -> Option<Rule>
     }
 }
 
-/// The text of a statement, whose initial line holds the text so far, and what stands behind its continuation lines.
+/// The text of a statement, whose initial line holds the text so far, and what stands behind its
+/// continuation lines.
 fn joined_text<'a>(text: Vec<u8>, first: u32, source: &'a [u8]) -> Result<Continued<'a>, Refusal>
     requires counted { first + length (lines_of source.now) ≤ 65536 }
     requires one_line { vec_len text ≡ 66 }
-    ensures joined { Gives (λ c. c.text.items) result (joined text.items (lines_from first source.now)) }
-    ensures behind { IfOk result (λ c. lines_from c.number c.behind.now ≡ behind (lines_from first source.now)) }
+    ensures joined { Gives (λ c. c.text.items) result
+        (joined text.items (lines_from first source.now)) }
+    ensures behind { IfOk
+        result (λ c. lines_from c.number c.behind.now ≡ behind (lines_from first source.now)) }
     ensures counted { IfOk result (λ c. c.number + length (lines_of c.behind.now) ≤ 65536) }
     ensures short { IfOk result (λ c. vec_len c.text ≤ 1320) }
     ensures shorter { IfOk result (λ c. length c.behind.now ≤ length source.now) }
@@ -125,7 +130,8 @@ fn joined_text<'a>(text: Vec<u8>, first: u32, source: &'a [u8]) -> Result<Contin
     })
 }
 
-/// The statement that a line begins, and what stands behind it, or the least rule that is broken from this line on.
+/// The statement that a line begins, and what stands behind it, or the least rule that is broken
+/// from this line on.
 fn statement_at<'a>(alloc: Global, line: &StatementLine<'a>) -> Result<Split<'a>, Refusal>
     requires { line.now.number + 1 + length (lines_of line.now.behind.now) ≤ 65536 }
     ensures exact { MatchResult result
@@ -172,13 +178,15 @@ pub fn is_long(source: &[u8]) -> bool
     source.len() > MAX_BYTES || line_count(source) > MAX_LINES
 }
 
-/// The statements of a source in order, each with the number of its initial line, its label and columns 7 to 72 of its
-/// lines. Comment lines are counted and left out (ANSI X3.9-1978, 3.2 to 3.4).
+/// The statements of a source in order, each with the number of its initial line, its label and
+/// columns 7 to 72 of its lines. Comment lines are counted and left out (ANSI X3.9-1978, 3.2 to
+/// 3.4).
 ///
 /// # Errors
 ///
-/// `Refusal::Rule` with C7 at line 1 if the source is too long, whatever memory there is; else with the least broken rule of the least line that
-/// breaks one of C1 to C6. `Refusal::Memory` if a growth was refused.
+/// `Refusal::Rule` with C7 at line 1 if the source is too long, whatever memory there is; else with
+/// the least broken rule of the least line that breaks one of C1 to C6. `Refusal::Memory` if a
+/// growth was refused.
 pub fn statements(alloc: Global, source: &[u8]) -> Result<Vec<Statement>, Refusal>
     ensures exact { Gives (λ v. map entry_of v.items) result (statements_of source.now) }
 

@@ -18,7 +18,8 @@ pub struct StatementLine<'a> {
     pub behind: &'a [u8],
 }
 
-/// The first line of a source that is no comment, where the source begins with the line of this number.
+/// The first line of a source that is no comment, where the source begins with the line of this
+/// number.
 #[tactic(auto, unfolding(meaning::specs::Lines::statement_lines))]
 pub fn first_statement_line(number: u32, source: &[u8]) -> Option<StatementLine>
     requires { number + length (lines_of source.now) ≤ 65536 }
@@ -47,8 +48,8 @@ pub fn first_statement_line(number: u32, source: &[u8]) -> Option<StatementLine>
     None
 }
 
-/// The first line of a source that is no comment, if it is a continuation line, where the source begins with the line of
-/// this number.
+/// The first line of a source that is no comment, if it is a continuation line, where the source
+/// begins with the line of this number.
 pub fn first_continuation_line(number: u32, source: &[u8]) -> Option<StatementLine>
     requires { number + length (lines_of source.now) ≤ 65536 }
     ensures first { MatchOption result

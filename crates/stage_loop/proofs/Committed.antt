@@ -5,7 +5,7 @@ use Rattle.meaning.specs.declared.ending.Outcome.{Outcome}
 use Rattle.meaning.specs.Execution.{Ran}
 use Rattle.meaning.specs.Stores.{known}
 use Rattle.array_store.specs.Whole.{world_of}
-use Rattle.numbering.specs.Checked.{items_in}
+use Rattle.storage.specs.Checked.{items_in}
 use Rattle.evaluator.specs.Over.{repeated_as}
 use Rattle.block_stage.specs.Cuts.{trips_before}
 use Rattle.block_stage.specs.Faithful.{base_of, ran, trips_of}
@@ -26,7 +26,7 @@ not_past a left = omega arith
 
 -- ---- what they did
 
-pub leaves_by : (j : JobParts) (cut : ℕ) (o : Outcome) (new : List ℤ) (used : ℕ) → trips_of (data_of j) j.first (trips_before (data_of j) cut) (base_of (data_of j)) j.turns ≡ ran (data_of j) o (known (world_of new)) used → used ≤ j.turns → LeavesIn j.program j.base new (repeated_as (items_in j.program) j.repeated j.first j.step (trips_before (data_of j) cut)) j.turns (j.turns - used) o
+pub leaves_by : (j : JobParts) (cut : ℕ) (o : Outcome) (new : List ℤ) (used : ℕ) → trips_of (data_of j) j.first (trips_before (data_of j) cut) (base_of (data_of j)) j.turns_left ≡ ran (data_of j) o (known (world_of new)) used → used ≤ j.turns_left → LeavesIn j.program j.base new (repeated_as (items_in j.program) j.repeated j.first j.step (trips_before (data_of j) cut)) j.turns_left (j.turns_left - used) o
 leaves_by j cut o new used run le =
     record {
       outcome = ap (λ (r : Ran). r.outcome) run;
@@ -36,6 +36,6 @@ leaves_by j cut o new used run le =
     }
 
 -- the first blocks of a stage, put into the cells that they stood on
-pub front_leaves : (j : JobParts) (cut : ℕ) (t : TakenParts) (new : List ℤ) → IsFront j cut t → known (world_of new) ≡ overlay_each (known (world_of j.base)) t.written → LeavesIn j.program j.base new (repeated_as (items_in j.program) j.repeated j.first j.step (trips_before (data_of j) cut)) j.turns (j.turns - t.used) t.outcome
+pub front_leaves : (j : JobParts) (cut : ℕ) (t : TakenParts) (new : List ℤ) → IsFront j cut t → known (world_of new) ≡ overlay_each (known (world_of j.base)) t.written → LeavesIn j.program j.base new (repeated_as (items_in j.program) j.repeated j.first j.step (trips_before (data_of j) cut)) j.turns_left (j.turns_left - t.used) t.outcome
 front_leaves j cut t new f is =
     leaves_by j cut t.outcome new t.used (f.fold ∙ ap (λ m. ran (data_of j) t.outcome m t.used) (sym is)) f.within

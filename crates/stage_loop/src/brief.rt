@@ -1,9 +1,10 @@
-//! DO statements whose executions are so short that none is worth a stage (own). It is seen in how long a run takes, and nowhere else.
+//! DO statements whose executions are so short that none is worth a stage (own). It is seen in how
+//! long a run takes, and nowhere else.
 
 use whole_runs::Remaining;
 
-/// A DO statement whose next executions are run in order without asking what is kept of it, while they have few trips and haven't used
-/// too many turns.
+/// A DO statement whose next executions are run in order without asking what is kept of it, while
+/// they have few trips and haven't used too many turns.
 #[derive(Clone, Copy, Debug)]
 pub struct Brief {
     // Its line, 0 where there is none.
@@ -29,7 +30,8 @@ impl Brief {
         Brief { line, trips, turns }
     }
 
-    /// Whether an execution of the DO statement at a line is such a one, and these are all its trips.
+    /// Whether an execution of the DO statement at a line is such a one, and these are all its
+    /// trips.
     pub fn covers(&self, line: u32, remaining: Remaining) -> bool {
         line == self.line && remaining.done == 0 && remaining.trips <= self.trips && self.turns > 0
     }

@@ -3,18 +3,10 @@
 ghost use Rattle.std.specs.Prelude.{◌≡◌, ◌≢◌, ◌-◌, ◌<◌, ◌≤◌, pos, ◌+ℤ◌, ◌*ℤ◌};
 ghost use Rattle.stage_loop.specs.Loops.{AreIntegers};
 
-use block_stage::value_at;
-
-/// The trips that are left: the value of the variable in the first of them, the step, and how many there are.
-#[derive(Clone, Copy)]
-pub(crate) struct Course {
-    pub value: i32,
-    pub step: i32,
-    pub trips: u64,
-}
+use block_stage::{TripsLeft, value_at};
 
 /// The trips that are left behind some first ones.
-pub(crate) fn behind(course: Course, done: u64) -> Course
+pub(crate) fn behind(course: TripsLeft, done: u64) -> TripsLeft
     requires moves { course.step ≢ pos 0 }
     requires within { done ≤ course.trips }
     requires fits { AreIntegers course.value course.step course.trips }
@@ -22,15 +14,15 @@ pub(crate) fn behind(course: Course, done: u64) -> Course
     ensures trips { result.trips ≡ course.trips - done }
     ensures value { done < course.trips → result.value ≡ course.value +ℤ pos done *ℤ course.step }
 {
-    let Course { value, step, trips } = course;
+    let TripsLeft { value, step, trips } = course;
     if done < trips {
-        return Course {
+        return TripsLeft {
             value: value_at(value, step, done),
             step,
             trips: trips - done,
         };
     }
-    Course {
+    TripsLeft {
         value,
         step,
         trips: 0,

@@ -2,13 +2,13 @@
 
 use crate::brief::Brief;
 use crate::pace::{BRIEF, Pace, Step};
-use block_stage::Changes;
+use block_stage::WriteSet;
 use indexmap::IndexMap;
 use std::alloc::Global;
 use std::mem::replace;
 
-/// How things stand when a trip is left to the caller: the turns that are left, those that trips used which weren't left so, and how many
-/// stages were dear.
+/// How things stand when a trip is left to the caller: the turns that are left, those that trips
+/// used which weren't left so, and how many stages were dear.
 #[derive(Clone, Copy)]
 pub(crate) struct Left {
     turns: u64,
@@ -21,7 +21,8 @@ pub(crate) struct Left {
 pub(crate) struct Known {
     // What its trips and stages were worth.
     pub pace: Pace,
-    // The turns that the blocks of its first stage used when it was executed last, where it had one.
+    // The turns that the blocks of its first stage used when it was executed last, where it had
+    // one.
     pub first: Option<u64>,
     // The turns that were left when it was executed last.
     pub begun: u64,
@@ -31,14 +32,16 @@ pub(crate) struct Known {
     pub is_plain: bool,
 }
 
-/// What is kept between the stages of a DO statement, and between DO statements that are run by stages: what the views of blocks were
-/// kept in, and by the line of a DO statement what is known of its trips and stages; and whether each DO statement is tried, or those
-/// that are worth it. It is seen in how long a run takes, and nowhere else.
+/// What is kept between the stages of a DO statement, and between DO statements that are run by
+/// stages: what the views of blocks were kept in, and by the line of a DO statement what is known
+/// of its trips and stages; and whether each DO statement is tried, or those that are worth it. It
+/// is seen in how long a run takes, and nowhere else.
 #[derive(Drop)]
-pub struct Kept {
-    spares: Vec<Changes>,
+pub struct LoopHistory {
+    spares: Vec<WriteSet>,
     is_adaptive: bool,
-    // The line of the DO statement that was executed last, 0 before the first, and what is known of it.
+    // The line of the DO statement that was executed last, 0 before the first, and what is known of
+    // it.
     line: u32,
     last: Known,
     // The same of the others.
@@ -48,20 +51,22 @@ pub struct Kept {
     dear: u64,
 }
 
-impl Kept {
-    /// Nothing is kept yet, and each DO statement is tried, by the blocks of the plan. It takes no memory.
-    pub fn new(alloc: Global) -> Kept {
-        Kept::of(alloc, false)
+impl LoopHistory {
+    /// Nothing is kept yet, and each DO statement is tried, by the blocks of the plan. It takes no
+    /// memory.
+    pub fn new(alloc: Global) -> LoopHistory {
+        LoopHistory::of(alloc, false)
     }
 
-    /// Nothing is kept yet, and DO statements are tried where that is worth it, by what their trips cost. It takes no memory.
-    pub fn adaptive(alloc: Global) -> Kept {
-        Kept::of(alloc, true)
+    /// Nothing is kept yet, and DO statements are tried where that is worth it, by what their trips
+    /// cost. It takes no memory.
+    pub fn adaptive(alloc: Global) -> LoopHistory {
+        LoopHistory::of(alloc, true)
     }
 
     // Nothing is kept yet.
-    fn of(alloc: Global, is_adaptive: bool) -> Kept {
-        Kept {
+    fn of(alloc: Global, is_adaptive: bool) -> LoopHistory {
+        LoopHistory {
             spares: Vec::new(alloc),
             is_adaptive,
             line: 0,
@@ -77,8 +82,8 @@ impl Kept {
         self.is_adaptive
     }
 
-    /// The DO statement that was executed last, where its executions of few trips aren't worth a stage; none where it stands at
-    /// another line, or each is tried.
+    /// The DO statement that was executed last, where its executions of few trips aren't worth a
+    /// stage; none where it stands at another line, or each is tried.
     pub fn brief_of(&self, line: u32) -> Brief {
         if self.is_adaptive && line == self.line {
             return Brief::new(line, self.last.pace.brief_trips(), BRIEF);
@@ -92,17 +97,17 @@ impl Kept {
     }
 
     // The spares, none of which is kept then.
-    pub(crate) fn take_spares(&mut self, alloc: Global) -> Vec<Changes> {
+    pub(crate) fn take_spares(&mut self, alloc: Global) -> Vec<WriteSet> {
         replace(&mut self.spares, Vec::new(alloc))
     }
 
     // Keeps spares in place of those that are there.
-    pub(crate) fn keep_spares(&mut self, spares: Vec<Changes>) {
+    pub(crate) fn keep_spares(&mut self, spares: Vec<WriteSet>) {
         self.spares = spares;
     }
 
-    // What is known of the DO statement at a line where so many of its trips were executed and so many turns are left: with what came of a
-    // trip that was left to the caller.
+    // What is known of the DO statement at a line where so many of its trips were executed and so
+    // many turns are left: with what came of a trip that was left to the caller.
     pub(crate) fn begin(&self, line: u32, before: u64, turns: u64) -> Known {
         let known = self.known_at(line);
         if before == 0 {
@@ -118,8 +123,8 @@ impl Kept {
         }
     }
 
-    // What is known behind a trip that was left to the caller, where so many turns are left. Where a stage in it was dear, one of such trips
-    // would be so too.
+    // What is known behind a trip that was left to the caller, where so many turns are left. Where
+    // a stage in it was dear, one of such trips would be so too.
     fn behind_left(&self, known: Known, left: Left, turns: u64) -> Known {
         let used = left.turns.saturating_sub(turns);
         let held = self.used.saturating_sub(left.used);
@@ -136,8 +141,9 @@ impl Kept {
         }
     }
 
-    // Keeps what is known of the DO statement at a line behind a step, where so many of its trips were executed and so many turns are left;
-    // for its next execution, whose trips will use as many turns as those of this one on the whole.
+    // Keeps what is known of the DO statement at a line behind a step, where so many of its trips
+    // were executed and so many turns are left; for its next execution, whose trips will use as
+    // many turns as those of this one on the whole.
     pub(crate) fn keep_behind(
         &mut self,
         line: u32,
@@ -177,7 +183,8 @@ impl Kept {
         }
     }
 
-    // Keeps what is known of the DO statement at a line. Where a growth is refused, nothing is known of one that was executed before.
+    // Keeps what is known of the DO statement at a line. Where a growth is refused, nothing is
+    // known of one that was executed before.
     fn keep(&mut self, line: u32, known: Known) {
         if line != self.line {
             let _ = self.others.insert(self.line, self.last);

@@ -1,11 +1,13 @@
-//! What is known of a DO statement's trips and stages, and whether the next trips are worth a stage, and how large a one (own). It is
-//! counted in turns, since nothing here may read a clock; it is seen in how long a run takes, and nowhere else.
+//! What is known of a DO statement's trips and stages, and whether the next trips are worth a
+//! stage, and how large a one (own). It is counted in turns, since nothing here may read a clock;
+//! it is seen in how long a run takes, and nowhere else.
 
 ghost use Rattle.std.specs.Prelude.{◌<◌};
 
 use meaning::plan::Plan;
 
-// The turns that the trips of a DO statement used and are likely to use for a try of stages, where nothing good is known of them.
+// The turns that the trips of a DO statement used and are likely to use for a try of stages, where
+// nothing good is known of them.
 const PAY: u64 = 200_000;
 
 // The turns that trips are worth for a stage to pay for its threads and views.
@@ -14,10 +16,12 @@ const GOOD_PAY: u64 = 60_000;
 // The turns of a block in a stage that is a try.
 const GRAIN: u64 = 4_000;
 
-// The turns of a trip that is a block of its own for each worker in the first try, and for two behind a bad one.
+// The turns of a trip that is a block of its own for each worker in the first try, and for two
+// behind a bad one.
 const HEAVY: u64 = 16_000;
 
-/// The turns that short executions of a DO statement may use before what is known of it is asked again.
+/// The turns that short executions of a DO statement may use before what is known of it is asked
+/// again.
 pub(crate) const BRIEF: u64 = 100_000;
 
 // The turns that a stage has behind the first good one, in all its blocks.
@@ -26,7 +30,8 @@ const REACH: u64 = 128_000;
 // The most turns that trips in order have at once.
 const CHUNK: u64 = 50_000;
 
-// How many times the turns of a bad stage are run in order behind it; twice as many each time that it happens again.
+// How many times the turns of a bad stage are run in order behind it; twice as many each time that
+// it happens again.
 const BACK: u64 = 4;
 
 const MOST_BACK: u64 = 4_096;
@@ -43,8 +48,8 @@ pub(crate) struct Size {
     ghost some_blocks: { 0 < blocks },
 }
 
-/// What came of some trips: how many they were, the turns that they used, those of all blocks where they were a stage's, and whether the
-/// views of these were dear.
+/// What came of some trips: how many they were, the turns that they used, those of all blocks where
+/// they were a stage's, and whether the views of these were dear.
 #[derive(Clone, Copy)]
 pub(crate) struct Step {
     pub done: u64,
@@ -127,8 +132,9 @@ impl Pace {
         }
     }
 
-    /// Whether the next of so many trips are worth a stage, which has two blocks at least: by what they are likely to use, and where it is a
-    /// try, by what earlier ones used too, as others like them may come.
+    /// Whether the next of so many trips are worth a stage, which has two blocks at least: by what
+    /// they are likely to use, and where it is a try, by what earlier ones used too, as others like
+    /// them may come.
     pub fn is_worth(&self, plan: &Plan, left: u64) -> bool {
         let has_two = left > 1 && plan.window() > 1;
         let likely = left.saturating_mul(self.per_trip);
@@ -136,7 +142,8 @@ impl Pace {
         has_two && self.credit == 0 && likely >= GOOD_PAY && is_tried
     }
 
-    /// Whether a trip that is executed in order may hold DO statements that are worth stages; so may one of which nothing is known.
+    /// Whether a trip that is executed in order may hold DO statements that are worth stages; so
+    /// may one of which nothing is known.
     pub fn may_hold_stages(&self) -> bool {
         self.per_trip == 0 || self.per_trip >= GOOD_PAY
     }
@@ -148,7 +155,8 @@ impl Pace {
         some(self.chunk)
     }
 
-    /// The most trips that are far from being worth a stage, and hold no DO statement that is worth one; 0 where that isn't known.
+    /// The most trips that are far from being worth a stage, and hold no DO statement that is worth
+    /// one; 0 where that isn't known.
     pub fn brief_trips(&self) -> u64 {
         if self.per_trip == 0 {
             return 0;
@@ -156,8 +164,9 @@ impl Pace {
         GOOD_PAY / 4 / some(self.per_trip)
     }
 
-    /// The size of the next stage, of so many trips that are left: two blocks to try it, or one for each worker where trips are heavy
-    /// and no stage was bad yet, and behind a good stage as many as the window has.
+    /// The size of the next stage, of so many trips that are left: two blocks to try it, or one for
+    /// each worker where trips are heavy and no stage was bad yet, and behind a good stage as many
+    /// as the window has.
     pub fn size(&self, plan: &Plan, left: u64) -> Size {
         let window = plan.window();
         let (blocks, grain) = if self.reach > 0 {
@@ -199,8 +208,8 @@ impl Pace {
         }
     }
 
-    // What is known behind a stage whose blocks used so many turns. It is bad where less than three quarters of them were committed, or views were dear, and
-    // good where all were.
+    // What is known behind a stage whose blocks used so many turns. It is bad where less than three
+    // quarters of them were committed, or views were dear, and good where all were.
     fn behind_stage(&self, per_trip: u64, step: Step, all: u64) -> Pace {
         let chunk = trips_worth(CHUNK, per_trip);
         let past = self.past.saturating_add(step.used);
@@ -229,7 +238,8 @@ impl Pace {
         }
     }
 
-    /// The same for the next execution, whose trips will use as many turns as those of this one did on the whole.
+    /// The same for the next execution, whose trips will use as many turns as those of this one did
+    /// on the whole.
     pub fn on_the_whole(&self, done: u64, used: u64) -> Pace {
         let per_trip = trips_worth(used, done);
         Pace {

@@ -18,8 +18,9 @@ pub(crate) fn blocks_of(left: u64, block: u64, window: u32) -> u32
     window
 }
 
-/// How many workers a stage has: no more than blocks, and where it is known what the blocks of a stage before used, as many as these
-/// turns pay for, since to start a thread costs what some 2,000 turns do. The calling thread is one of them.
+/// How many workers a stage has: no more than blocks, and where it is known what the blocks of a
+/// stage before used, as many as these turns pay for, since to start a thread costs what some 2,000
+/// turns do. The calling thread is one of them.
 pub(crate) fn workers_of(most: u32, blocks: u32, last: Option<u64>) -> u32
     requires most { 0 < most }
     requires blocks { 0 < blocks }

@@ -1,44 +1,45 @@
 //! The stages of a DO statement without output.
 
 ghost use Rattle.std.specs.Prelude.{◌≡◌, ◌≢◌, ◌-◌, ◌<◌, ◌≤◌, [], pos, IfNone, IfSome, length};
-ghost use Rattle.numbering.specs.Checked.{count_in, items_in};
-ghost use Rattle.numbering.specs.Starts.{map_of};
-ghost use Rattle.programs.specs.Acts.{Repeats};
+ghost use Rattle.storage.specs.Checked.{count_in, items_in};
+ghost use Rattle.storage.specs.Starts.{map_of};
+ghost use Rattle.program.specs.Acts.{Repeats};
 ghost use Rattle.evaluator.specs.Over.{repeated_as};
 ghost use Rattle.block_stage.specs.Jobs.{shape_in, variable_in};
 ghost use Rattle.stage_loop.specs.Fronts.{IsFront};
 ghost use Rattle.whole_runs.specs.Trips.{IsQuietLoop, LeavesIn, trips_in};
 ghost use Rattle.stage_loop.specs.Loops.{AreIntegers};
 
-use crate::course::{Course, behind};
+use crate::course::behind;
 use crate::held::holds_loops;
-use crate::kept::{Kept, Known};
+use crate::kept::{Known, LoopHistory};
 use crate::pace::{Pace, Size, Step, is_dear};
 use crate::size::{blocks_of, trips_in, workers_of};
-use crate::watcher::{Watch, Watcher};
+use crate::watcher::{Observer, Watch};
 use array_store::Whole;
-use block_stage::{Gate, Job, Taken, cut, run_stage_in};
+use block_stage::{Committed, Gate, Job, TripsLeft, cut, run_stage_in};
 use evaluator::run_trips;
 use meaning::ending::{Outcome, Run};
 use meaning::plan::Plan;
 use meaning::syntax::Loop;
-use programs::{Program, Repeat};
+use program::{Program, Repeat};
 use std::alloc::Global;
 use std::sync::Wait;
 use std::thread::Threads;
 use whole_runs::Advance as Progress;
 
-// The first blocks of a stage, up to its cut: how many they are, what is taken of them, the turns that all its blocks used, and whether
-// the first view was dear.
+// The first blocks of a stage, up to its cut: how many they are, what is taken of them, the turns
+// that all its blocks used, and whether the first view was dear.
 #[derive(Drop)]
-struct Front {
+struct CommittedFront {
     cut: usize,
-    taken: Taken,
+    taken: Committed,
     turns: u64,
     is_dear: bool,
 }
 
-// What a stage did: how many trips, how they ended, and the turns that all its blocks used, also those past the cut.
+// What a stage did: how many trips, how they ended, and the turns that all its blocks used, also
+// those past the cut.
 #[derive(Clone, Copy)]
 struct Stage {
     done: u64,
@@ -47,7 +48,8 @@ struct Stage {
     is_dear: bool,
 }
 
-// How far the loop came: how many trips more, how the last one ended, and the turns of all blocks, where it was a stage.
+// How far the loop came: how many trips more, how the last one ended, and the turns of all blocks,
+// where it was a stage.
 #[derive(Clone, Copy)]
 struct Advance {
     done: u64,
@@ -56,16 +58,17 @@ struct Advance {
     is_dear: bool,
 }
 
-// Runs the blocks of a job, and takes those before the cut. None where memory was refused or the first block was lost.
-fn take_blocks<'a, R: Threads + Wait + Sync, G: Gate + Sync, W: Watcher>(
+// Runs the blocks of a job, and takes those before the cut. None where memory was refused or the
+// first block was lost.
+fn take_blocks<'a, R: Threads + Wait + Sync, G: Gate + Sync, W: Observer>(
     rt: &R,
     alloc: Global,
     job: &Job<'a>,
     workers: u32,
-    kept: &mut Kept,
+    kept: &mut LoopHistory,
     gate: &'a G,
     watch: &Watch<'_, W>,
-) -> Option<Front>
+) -> Option<CommittedFront>
     requires { 0 < workers }
     ensures { IfSome result (λ f. IsFront job.now f.cut f.taken) }
 {
@@ -83,7 +86,7 @@ fn take_blocks<'a, R: Threads + Wait + Sync, G: Gate + Sync, W: Watcher>(
         kept.keep_spares(posted.into_spares());
         return None;
     }
-    Some(Front {
+    Some(CommittedFront {
         cut: blocks,
         taken: posted.taken(blocks),
         turns,
@@ -91,19 +94,20 @@ fn take_blocks<'a, R: Threads + Wait + Sync, G: Gate + Sync, W: Watcher>(
     })
 }
 
-// Runs some first trips as a stage, which stands on the cells themselves, and commits the blocks before its cut. None where memory was
-// refused or the first block was lost, and nothing is done then.
-fn run_blocks<R: Threads + Wait + Sync, G: Gate + Sync, W: Watcher>(
+// Runs some first trips as a stage, which stands on the cells themselves, and commits the blocks
+// before its cut. None where memory was refused or the first block was lost, and nothing is done
+// then.
+fn run_blocks<R: Threads + Wait + Sync, G: Gate + Sync, W: Observer>(
     rt: &R,
     alloc: Global,
     program: &Program,
     repeated: &Loop,
     repeat: &Repeat,
-    course: Course,
+    course: TripsLeft,
     plan: &Plan,
     size: Size,
     last: Option<u64>,
-    kept: &mut Kept,
+    kept: &mut LoopHistory,
     cells: &mut Whole,
     turns: &mut u64,
     gate: &G,
@@ -128,23 +132,14 @@ fn run_blocks<R: Threads + Wait + Sync, G: Gate + Sync, W: Watcher>(
     let blocks = blocks_of(course.trips, size, blocks);
     let workers = workers_of(plan.workers() as u32, blocks, last);
     let job = Job::over(
-        program,
-        repeated,
-        repeat,
-        cells,
-        course.value,
-        course.step,
-        course.trips,
-        size,
-        blocks,
-        *turns,
+        program, repeated, repeat, cells, course, size, blocks, *turns,
     );
     let front = match take_blocks(rt, alloc, &job, workers, kept, gate, watch) {
         Some(front) => front,
         None => return None,
     };
     drop(job);
-    let Front {
+    let CommittedFront {
         cut,
         taken,
         turns: all,
@@ -165,7 +160,7 @@ fn run_blocks<R: Threads + Wait + Sync, G: Gate + Sync, W: Watcher>(
 fn run_in_order(
     program: &Program,
     repeated: &Loop,
-    course: Course,
+    course: TripsLeft,
     trips: u64,
     cells: &mut Whole,
     turns: &mut u64,
@@ -211,7 +206,7 @@ fn run_in_order(
 }
 
 // The size of the next stage: the plan's, or what the trips are worth.
-fn size_of(kept: &Kept, pace: Pace, plan: &Plan, left: u64) -> Size {
+fn size_of(kept: &LoopHistory, pace: Pace, plan: &Plan, left: u64) -> Size {
     if kept.is_adaptive() {
         return pace.size(plan, left);
     }
@@ -221,8 +216,9 @@ fn size_of(kept: &Kept, pace: Pace, plan: &Plan, left: u64) -> Size {
     }
 }
 
-// The turns that say how many workers the next stage has: those of the stage before, or what its blocks are likely to use.
-fn turns_ahead(kept: &Kept, pace: Pace, size: Size, last: Option<u64>) -> Option<u64> {
+// The turns that say how many workers the next stage has: those of the stage before, or what its
+// blocks are likely to use.
+fn turns_ahead(kept: &LoopHistory, pace: Pace, size: Size, last: Option<u64>) -> Option<u64> {
     if !kept.is_adaptive() {
         return last;
     }
@@ -232,17 +228,17 @@ fn turns_ahead(kept: &Kept, pace: Pace, size: Size, last: Option<u64>) -> Option
 }
 
 // Runs some first trips as a stage, or in order where they aren't worth one, or none could be made.
-fn run_next<R: Threads + Wait + Sync, G: Gate + Sync, W: Watcher>(
+fn run_next<R: Threads + Wait + Sync, G: Gate + Sync, W: Observer>(
     rt: &R,
     alloc: Global,
     program: &Program,
     repeated: &Loop,
     repeat: &Repeat,
-    course: Course,
+    course: TripsLeft,
     plan: &Plan,
     pace: Pace,
     last: Option<u64>,
-    kept: &mut Kept,
+    kept: &mut LoopHistory,
     cells: &mut Whole,
     turns: &mut u64,
     gate: &G,
@@ -294,9 +290,10 @@ fn known_behind(known: Known, step: Step, is_first: bool) -> Known {
     }
 }
 
-// What is known of a DO statement at a line where so many of its trips are executed and others are ahead; a watcher is told of the first.
-fn begun<W: Watcher>(
-    kept: &Kept,
+// What is known of a DO statement at a line where so many of its trips are executed and others are
+// ahead; a watcher is told of the first.
+fn begun<W: Observer>(
+    kept: &LoopHistory,
     line: u32,
     before: u64,
     trips: u64,
@@ -309,9 +306,10 @@ fn begun<W: Watcher>(
     kept.begin(line, before, turns)
 }
 
-// Keeps that the next trip is left to the caller, where none was executed before it and one is ahead; a watcher is told of it.
-fn leave<W: Watcher>(
-    kept: &mut Kept,
+// Keeps that the next trip is left to the caller, where none was executed before it and one is
+// ahead; a watcher is told of it.
+fn leave<W: Observer>(
+    kept: &mut LoopHistory,
     line: u32,
     known: Known,
     done: u64,
@@ -325,8 +323,9 @@ fn leave<W: Watcher>(
     }
 }
 
-// Whether the next trip is left to the caller: it is executed in order, and most of it are DO statements that may be worth stages.
-fn is_left(kept: &Kept, known: Known, plan: &Plan, repeated: &Loop, trips: u64) -> bool {
+// Whether the next trip is left to the caller: it is executed in order, and most of it are DO
+// statements that may be worth stages.
+fn is_left(kept: &LoopHistory, known: Known, plan: &Plan, repeated: &Loop, trips: u64) -> bool {
     let pace = known.pace;
     kept.is_adaptive()
         && !known.is_plain
@@ -335,18 +334,18 @@ fn is_left(kept: &Kept, known: Known, plan: &Plan, repeated: &Loop, trips: u64) 
         && holds_loops(&repeated.range)
 }
 
-/// Executes the range once for each trip, by stages, as far as trips aren't left to the caller; the variable has its value in the first
-/// of them, before which so many were executed.
-pub(crate) fn run_stages<R: Threads + Wait + Sync, G: Gate + Sync, W: Watcher>(
+/// Executes the range once for each trip, by stages, as far as trips aren't left to the caller; the
+/// variable has its value in the first of them, before which so many were executed.
+pub(crate) fn run_stages<R: Threads + Wait + Sync, G: Gate + Sync, W: Observer>(
     rt: &R,
     alloc: Global,
     program: &Program,
     repeated: &Loop,
     repeat: &Repeat,
-    course: Course,
+    course: TripsLeft,
     before: u64,
     plan: &Plan,
-    kept: &mut Kept,
+    kept: &mut LoopHistory,
     cells: &mut Whole,
     turns: &mut u64,
     gate: &G,

@@ -5,11 +5,11 @@ use Rattle.std.specs.List.{list_any}
 use Rattle.meaning.specs.LoopRules.{breaks_loops, has_nested_variable, is_no_counter, variables_set}
 use Rattle.meaning.specs.Surroundings.{Around, controlled_by}
 use Rattle.meaning.specs.Syntax.{ItemTree}
-use Rattle.meaning.specs.Uses.{Roles, is_one_of}
+use Rattle.meaning.specs.Uses.{Symbols, is_one_of}
 use Rattle.statement_rules.specs.Implied.{misuses_by}
 use Rattle.rule_passes.proofs.Membership.{sought_reversed}
 
-pub misuses_around : (r : Roles) (variables : List (List ℕ)) (a : Around) (x : ItemTree) → variables ≡ reverse a.variables → misuses_by r variables x.shape ≡ breaks_loops r a x
+pub misuses_around : (r : Symbols) (variables : List (List ℕ)) (a : Around) (x : ItemTree) → variables ≡ reverse a.variables → misuses_by r variables x.shape ≡ breaks_loops r a x
 misuses_around r variables a x same =
     let sought : is_one_of (reverse a.variables) ≡ is_one_of a.variables = λ i n. sought_reversed a.variables n i in
     ap (λ vs. misuses_by r vs x.shape) same

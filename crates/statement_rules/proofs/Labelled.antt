@@ -14,7 +14,7 @@ use Rattle.meaning.specs.LabelRules.{breaks_transfers, has_label, is_label_at, n
 use Rattle.meaning.specs.Scopes.{is_specification}
 use Rattle.meaning.specs.Surroundings.{Around}
 use Rattle.meaning.specs.Syntax.{ItemTree}
-use Rattle.meaning.specs.Uses.{Roles, is_defining}
+use Rattle.meaning.specs.Uses.{Symbols, is_defining}
 use Rattle.statement_rules.specs.Counted.{count_in, one_more}
 use Rattle.rule_passes.specs.Listed.{tree_at}
 use Rattle.statement_rules.specs.Reached.{Counts, is_missed}
@@ -39,10 +39,10 @@ counted_more s ms i m old new lt is so_far added =
 
 -- ---- the statements that aren't executable
 
-abbrev pub is_closed : Roles → List ItemTree → ItemTree → Bool
+abbrev pub is_closed : Symbols → List ItemTree → ItemTree → Bool
 is_closed r before x = is_specification x.shape || is_defining r before x
 
-closed_last : (r : Roles) (before xs : List ItemTree) (x : ItemTree) → not_executable r before (xs ++ x ∷ []) ≡ not_executable r before xs ++ (if is_closed r (before ++ xs) x then x ∷ [] else [])
+closed_last : (r : Symbols) (before xs : List ItemTree) (x : ItemTree) → not_executable r before (xs ++ x ∷ []) ≡ not_executable r before xs ++ (if is_closed r (before ++ xs) x then x ∷ [] else [])
 unfolding not_executable
 closed_last r before [] x =
     append-nil (if is_closed r before x then x ∷ [] else []) ∙ ap (λ b. if is_closed r b x then x ∷ [] else []) (sym (append-nil before))
@@ -53,17 +53,17 @@ closed_last r before (y ∷ ys) x =
     ∙ ap (λ b. (here ++ not_executable r (before ++ y ∷ []) ys) ++ (if is_closed r b x then x ∷ [] else [])) (append_assoc before (y ∷ []) ys)
 
 -- the statements of a list that aren't executable
-abbrev pub closed_in : Roles → List (Bor Item) → List ItemTree
+abbrev pub closed_in : Symbols → List (Bor Item) → List ItemTree
 closed_in r ms = not_executable r [] (map tree_at ms)
 
-closed_none : (r : Roles) → not_executable r [] [] ≡ []
+closed_none : (r : Symbols) → not_executable r [] [] ≡ []
 unfolding not_executable
 closed_none r = refl
 
-pub closed_first : (r : Roles) (closed : BTreeSet ℕ) (s : ℕ) → closed.keys ≡ [] → contains nat_cmp closed s ≡ list_any (has_label s) (not_executable r [] [])
+pub closed_first : (r : Symbols) (closed : BTreeSet ℕ) (s : ℕ) → closed.keys ≡ [] → contains nat_cmp closed s ≡ list_any (has_label s) (not_executable r [] [])
 closed_first r closed s empty = simp (empty, closed_none r)
 
-pub closed_more : (r : Roles) (s : ℕ) (ms : List (Bor Item)) (i : ℕ) (m : Bor Item) (old new test : Bool) → i < length ms → m ≡ get_or ms i m → old ≡ list_any (has_label s) (closed_in r (take i ms)) → test ≡ is_closed r (map tree_at (take i ms)) (tree_at m) → new ≡ (if test then (old || is_label_at m.now.label s) else old) → new ≡ list_any (has_label s) (closed_in r (take (i + 1) ms))
+pub closed_more : (r : Symbols) (s : ℕ) (ms : List (Bor Item)) (i : ℕ) (m : Bor Item) (old new test : Bool) → i < length ms → m ≡ get_or ms i m → old ≡ list_any (has_label s) (closed_in r (take i ms)) → test ≡ is_closed r (map tree_at (take i ms)) (tree_at m) → new ≡ (if test then (old || is_label_at m.now.label s) else old) → new ≡ list_any (has_label s) (closed_in r (take (i + 1) ms))
 closed_more r s ms i m old new test lt is so_far told added =
     let front = map tree_at (take i ms) in
     let has = has_label s in
@@ -81,7 +81,7 @@ closed_more r s ms i m old new test lt is so_far told added =
 abbrev pub misses_by : (ℕ → ℕ) → (ℕ → Bool) → Around → ItemTree → Bool
 misses_by counts closed a x = list_any (is_missed counts closed a.items) (transfers_of x.shape)
 
-pub misses_is : (r : Roles) (all : List ItemTree) (counts : ℕ → ℕ) (closed : ℕ → Bool) → ((s : ℕ) → counts s ≡ count_by (has_label s) all) → ((s : ℕ) → closed s ≡ list_any (has_label s) (not_executable r [] all)) → misses_by counts closed ≡ breaks_transfers r all
+pub misses_is : (r : Symbols) (all : List ItemTree) (counts : ℕ → ℕ) (closed : ℕ → Bool) → ((s : ℕ) → counts s ≡ count_by (has_label s) all) → ((s : ℕ) → closed s ≡ list_any (has_label s) (not_executable r [] all)) → misses_by counts closed ≡ breaks_transfers r all
 misses_is r all counts closed counted told =
     let same_counts : counts ≡ (λ s. count_by (has_label s) all) = λ i s. counted s i in
     let same_closed : closed ≡ (λ s. list_any (has_label s) (not_executable r [] all)) = λ i s. told s i in

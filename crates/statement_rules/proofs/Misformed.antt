@@ -5,10 +5,10 @@ use Rattle.meaning.specs.Formats.{Parts, format_in, undoubled}
 use Rattle.meaning.specs.LabelRules.{is_allowed, is_misformed, is_unit}
 use Rattle.meaning.specs.NumberRules.{known_behind_all}
 use Rattle.meaning.specs.Syntax.{FormatTree, format_constant, format_label, ItemTree, ShapeTree, format, logical_if, printing, writing}
-use Rattle.meaning.specs.Uses.{Roles as Uses}
+use Rattle.meaning.specs.Uses.{Symbols as Uses}
 use Rattle.meaning.specs.Values.{Known}
-use Rattle.roles.specs.declared.names.Roles.{Roles}
-use Rattle.roles.specs.RolesAt.{roles_at}
+use Rattle.symbols.specs.declared.names.Symbols.{Symbols}
+use Rattle.symbols.specs.SymbolsAt.{symbols_at}
 use Rattle.rule_passes.proofs.Membership.{or_false}
 use Rattle.rule_passes.specs.Listed.{tree_at}
 use Rattle.statement_rules.specs.FormatLabels.{breaks_output, breaks_places, breaks_reading, is_found, is_misplaced, is_unread, is_unread_source}
@@ -33,6 +33,6 @@ misformed_split r all known at (format text) = refl
 misformed_split r all known at (logical_if e s) = misformed_split r all known at s
 misformed_split r all known at s = refl
 
-pub both_break : (r : Roles) → (λ before x. breaks_places r before x || breaks_reading before x) ≡ breaks_output r
+pub both_break : (r : Symbols) → (λ before x. breaks_places r before x || breaks_reading before x) ≡ breaks_output r
 both_break r = λ i before x.
-    misformed_split (roles_at r) (map tree_at r.items.now) (known_behind_all (roles_at r) before) x.label x.shape i
+    misformed_split (symbols_at r) (map tree_at r.items.now) (known_behind_all (symbols_at r) before) x.label x.shape i

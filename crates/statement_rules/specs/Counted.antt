@@ -1,5 +1,6 @@
 -- How often labels stand among statements.
-use Rattle.std.specs.Prelude.{◌≡◌, ◌+◌, ◌-◌, ◌≤◌, ◌^◌, ℕ, suc, Bool, true, false, List, length, Option, Some, None, count_by, map}
+use Rattle.std.specs.Prelude.{◌≡◌, ◌+◌, ◌-◌, ◌≤◌, ◌^◌, ℕ, suc, Bool, true, false, List, length}
+use Rattle.std.specs.Prelude.{Option, Some, None, count_by, map}
 use Rattle.std.specs.Borrow.{Bor}
 use Rattle.std.specs.Ordering.{nat_cmp}
 use Rattle.std.specs.BTreeMap.{BTreeMap, get}
@@ -34,7 +35,8 @@ abbrev pub AddsLabel : Option ℕ → BTreeMap ℕ (Vec ℕ) → BTreeMap ℕ (V
 AddsLabel label old new = (s : ℕ) → count_in new s ≡ one_more (is_label_at label s) (count_in old s)
 
 abbrev pub TakesLabel : Option ℕ → BTreeMap ℕ (Vec ℕ) → BTreeMap ℕ (Vec ℕ) → Type 0
-TakesLabel label old new = (s : ℕ) → count_in new s ≡ one_less (is_label_at label s) (count_in old s)
+TakesLabel label old new =
+    (s : ℕ) → count_in new s ≡ one_less (is_label_at label s) (count_in old s)
 
 -- how often a label stands in a list directly
 abbrev pub times : ℕ → Members → ℕ

@@ -11,8 +11,8 @@ use Rattle.meaning.specs.Surroundings.{controlled_by, counted_by, loop_variables
 use Rattle.meaning.specs.Syntax.{list_items_tree, shape_tree}
 use Rattle.meaning.specs.Trees.{item_tree}
 use Rattle.meaning.specs.Uses.{is_one_of}
-use Rattle.roles.specs.declared.names.Roles.{Roles}
-use Rattle.roles.specs.RolesAt.{roles_at}
+use Rattle.symbols.specs.declared.names.Symbols.{Symbols}
+use Rattle.symbols.specs.SymbolsAt.{symbols_at}
 
 abbrev pub counters : List (Vec ℕ) → List (List ℕ)
 counters vs = map (λ v. v.items) vs
@@ -27,7 +27,8 @@ EntersCounter s old new = counters new ≡ counters old ++ counted_by (shape_tre
 
 abbrev pub LeavesCounter : Item → List (Vec ℕ) → List (Vec ℕ) → Type 0
 LeavesCounter x old new =
-    (outer : List (List ℕ)) → counters old ≡ outer ++ counted_by (item_tree x).shape → counters new ≡ outer
+    (outer : List (List ℕ)) → counters old ≡ outer ++ counted_by (item_tree x).shape → counters new
+    ≡ outer
 
 -- one of the variables is that of an implied DO in a list, or is set by a statement
 abbrev pub has_one_in : List (Vec ℕ) → ListItems → Bool
@@ -37,8 +38,8 @@ abbrev pub sets_one : List (Vec ℕ) → Shape → Bool
 sets_one vs s = list_any (is_one_of (counters vs)) (variables_set (shape_tree s))
 
 -- the variable of an implied DO in a list is none, or that of a DO of a statement
-abbrev pub has_none_in : Roles → ListItems → Bool
-has_none_in r xs = list_any (is_no_counter (roles_at r)) (loop_variables (list_items_tree xs))
+abbrev pub has_none_in : Symbols → ListItems → Bool
+has_none_in r xs = list_any (is_no_counter (symbols_at r)) (loop_variables (list_items_tree xs))
 
-abbrev pub counts_by_none_in : Roles → Shape → Bool
-counts_by_none_in r s = list_any (is_no_counter (roles_at r)) (controlled_by (shape_tree s))
+abbrev pub counts_by_none_in : Symbols → Shape → Bool
+counts_by_none_in r s = list_any (is_no_counter (symbols_at r)) (controlled_by (shape_tree s))

@@ -1,5 +1,6 @@
 -- Sets of the labels of FORMAT statements.
-use Rattle.std.specs.Prelude.{◌≡◌, ◌≤◌, ◌^◌, ℕ, Bool, true, false, not, ◌||◌, List, [], map, is_none, Option, Result}
+use Rattle.std.specs.Prelude.{◌≡◌, ◌≤◌, ◌^◌, ℕ, Bool, true, false, not, ◌||◌, List, [], map}
+use Rattle.std.specs.Prelude.{is_none, Option, Result}
 use Rattle.std.specs.Result.{IfOk}
 use Rattle.std.specs.List.{list_any}
 use Rattle.std.specs.Ordering.{nat_cmp}
@@ -11,11 +12,13 @@ use Rattle.meaning.specs.Characters.{number_of}
 use Rattle.meaning.specs.Formats.{descriptors_of, format_in, undoubled}
 use Rattle.meaning.specs.LabelRules.{has_bad_output, is_format_at, is_unit}
 use Rattle.meaning.specs.NumberRules.{known_behind_all}
-use Rattle.meaning.specs.Syntax.{FormatTree, format_constant, format_label, ItemTree, ShapeTree, format, logical_if, printing, writing, format_tree, shape_tree, unit_tree}
-use Rattle.meaning.specs.Uses.{Roles as Uses}
+use Rattle.meaning.specs.Syntax.{FormatTree, format_constant, format_label, ItemTree, ShapeTree}
+use Rattle.meaning.specs.Syntax.{format, logical_if, printing, writing, format_tree, shape_tree}
+use Rattle.meaning.specs.Syntax.{unit_tree}
+use Rattle.meaning.specs.Uses.{Symbols as Uses}
 use Rattle.meaning.specs.Values.{Known}
-use Rattle.roles.specs.declared.names.Roles.{Roles}
-use Rattle.roles.specs.RolesAt.{roles_at}
+use Rattle.symbols.specs.declared.names.Symbols.{Symbols}
+use Rattle.symbols.specs.SymbolsAt.{symbols_at}
 use Rattle.rule_passes.specs.Listed.{tree_at}
 use Rattle.declarations.specs.declared.known.Table.{Table}
 use Rattle.declarations.specs.Tables.{IsBehind, known_at, types_in}
@@ -44,7 +47,8 @@ is_found_by source all = is_found all (format_tree source)
 abbrev pub is_unit_at : Table → Unit → Bool
 is_unit_at t u = is_unit (types_in t) (known_at t) (unit_tree u)
 
--- a statement has a unit that isn't allowed or the label of no FORMAT statement, or is a FORMAT statement without a label
+-- a statement has a unit that isn't allowed or the label of no FORMAT statement, or is a FORMAT
+-- statement without a label
 abbrev pub is_misplaced : Uses → List ItemTree → Known → Option ℕ → ShapeTree → Bool
 is_misplaced r all known at (writing control es) =
     not (is_unit r.names.types known control.unit) || not (is_found all control.source)
@@ -73,30 +77,32 @@ abbrev pub HasFormats : BadOutput → List ItemTree → Type 0
 HasFormats o all = AreFormats o.labels all
 
 abbrev pub is_misplaced_at : BadOutput → Option ℕ → Shape → List ItemTree → Bool
-is_misplaced_at o label s all = is_misplaced (roles_at o.table.roles.now) all (known_at o.table) label (shape_tree s)
+is_misplaced_at o label s all =
+    is_misplaced (symbols_at o.table.symbols.now) all (known_at o.table) label (shape_tree s)
 
 -- the value that a function has of each thing that is what is known, where it is told
 abbrev pub FindsOk : {A B E : Type 0} → (A → Type 0) → (A → B) → Result B E → Type 0
 FindsOk {A} knows f r = (a : A) → knows a → IfOk r (λ b. b ≡ f a)
 
 -- the rule on the statements of a unit, and its first part
-abbrev pub breaks_output : Roles → List ItemTree → ItemTree → Bool
-breaks_output r = has_bad_output (roles_at r) (map tree_at r.items.now)
+abbrev pub breaks_output : Symbols → List ItemTree → ItemTree → Bool
+breaks_output r = has_bad_output (symbols_at r) (map tree_at r.items.now)
 
-abbrev pub breaks_places : Roles → List ItemTree → ItemTree → Bool
+abbrev pub breaks_places : Symbols → List ItemTree → ItemTree → Bool
 breaks_places r before x =
-    is_misplaced (roles_at r) (map tree_at r.items.now) (known_behind_all (roles_at r) before) x.label x.shape
+    is_misplaced (symbols_at r) (map tree_at r.items.now) (known_behind_all (symbols_at r) before)
+    x.label x.shape
 
 -- a table is that behind statements, and labels are those of the unit's FORMAT statements
 pub record KnowsOutput (o : BadOutput) (before : List ItemTree) : Type 0 where
   pub table : IsBehind o.table before
-  pub labels : AreFormats o.labels (map tree_at o.table.roles.now.items.now)
+  pub labels : AreFormats o.labels (map tree_at o.table.symbols.now.items.now)
 
 -- what is known in front of all statements of a unit
-pub record IsOutput (r : Roles) (o : BadOutput) : Type 0 where
-  pub roles : o.table.roles.now ≡ r
+pub record IsOutput (r : Symbols) (o : BadOutput) : Type 0 where
+  pub symbols : o.table.symbols.now ≡ r
   pub known : KnowsOutput o []
 
 -- both parts of the rule
 abbrev pub breaks_either : BadOutput → List ItemTree → ItemTree → Bool
-breaks_either o before x = breaks_places o.table.roles.now before x || breaks_reading before x
+breaks_either o before x = breaks_places o.table.symbols.now before x || breaks_reading before x

@@ -1,5 +1,6 @@
 -- The formats of statements: those behind labels, and those in character constants.
-use Rattle.std.specs.Prelude.{◌≡◌, ◌≤◌, ◌^◌, ◌||◌, ℕ, Bool, if◌then◌else◌, List, Option, None, Some, option_map}
+use Rattle.std.specs.Prelude.{◌≡◌, ◌≤◌, ◌^◌, ◌||◌, ℕ, Bool, if◌then◌else◌, List, Option, None, Some}
+use Rattle.std.specs.Prelude.{option_map}
 use Rattle.std.specs.BTreeMap.{BTreeMap, get}
 use Rattle.std.specs.Global.{Vec}
 use Rattle.std.specs.Ordering.{nat_cmp}
@@ -33,7 +34,8 @@ format_under label s ds = if is_label_at label s then ds else None
 
 -- a format more under a label
 abbrev pub AddsFormat : Option ℕ → Option Parts → BTreeMap ℕ Format → BTreeMap ℕ Format → Type 0
-AddsFormat label ds old new = (s : ℕ) → found_in new s ≡ or_else (found_in old s) (format_under label s ds)
+AddsFormat label ds old new =
+    (s : ℕ) → found_in new s ≡ or_else (found_in old s) (format_under label s ds)
 
 -- ---- in character constants
 
@@ -43,11 +45,15 @@ text_in m text = option_map descriptors (kept_at m text)
 
 -- the formats are kept that stand in these constants, and no others
 abbrev pub HoldsTexts : {S : Type 0} → (List ℕ → Bool) → IndexMap (Vec ℕ) Format S → Type 0
-HoldsTexts {S} these m = (text : List ℕ) → text_in m text ≡ (if these text then format_in (undoubled text) else None)
+HoldsTexts {S} these m =
+    (text : List ℕ) → text_in m text ≡ (if these text then format_in (undoubled text) else None)
 
 -- those of further constants are kept too
-abbrev pub AddsTexts : {S T : Type 0} → (List ℕ → Bool) → IndexMap (Vec ℕ) Format S → IndexMap (Vec ℕ) Format T → Type 0
-AddsTexts {S} {T} more old new = (these : List ℕ → Bool) → HoldsTexts these old → HoldsTexts (λ text. more text || these text) new
+abbrev pub AddsTexts : {S T : Type 0} → (List ℕ → Bool) → IndexMap (Vec ℕ) Format S →
+    IndexMap (Vec ℕ) Format T → Type 0
+AddsTexts {S} {T} more old new =
+    (these : List ℕ → Bool) → HoldsTexts these old →
+    HoldsTexts (λ text. more text || these text) new
 
 -- the constant of a text, that of a format, and those of a statement
 abbrev pub the_text : List ℕ → List ℕ → Bool

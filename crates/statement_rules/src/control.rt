@@ -1,5 +1,5 @@
-//! Variables of DO statements and implied DOs that are none, or that are set while they control one (ANSI X3.9-1978, 9.3, 11.10
-//! and 12.8.2.3).
+//! Variables of DO statements and implied DOs that are none, or that are set while they control one
+//! (ANSI X3.9-1978, 9.3, 11.10 and 12.8.2.3).
 
 ghost use Rattle.std.specs.Prelude.{◌≡◌, [], map, reverse, OnOk};
 ghost use Rattle.std.specs.List.{list_any};
@@ -7,7 +7,7 @@ ghost use Rattle.meaning.specs.LoopRules.{breaks_loops, has_nested_variable, res
 ghost use Rattle.meaning.specs.Surroundings.{loop_variables};
 ghost use Rattle.meaning.specs.Syntax.{data_set_tree, list_items_tree, shape_tree};
 ghost use Rattle.meaning.specs.Uses.{is_one_of};
-ghost use Rattle.roles.specs.RolesAt.{roles_at};
+ghost use Rattle.symbols.specs.SymbolsAt.{symbols_at};
 ghost use Rattle.statement_rules.specs.Counters.{counters, has_one_in, sets_one};
 ghost use Rattle.statement_rules.specs.Implied.{misuses_one, stands_in_own};
 ghost use Rattle.statement_rules.specs.Reached.{AddsInBody};
@@ -16,9 +16,9 @@ use crate::counters::{enter_counter, is_counter};
 use crate::loops::{counts_by_none, leave_counter};
 use meaning::refusal::{Broken, Rule};
 use meaning::syntax::{DataSet, Exprs, Item, ListItem, ListItems, Member, Shape};
-use roles::Roles;
 use rule_passes::{Within, add_in};
 use std::alloc::{AllocError, Global};
+use symbols::Symbols;
 
 /// Whether a name is the variable of an implied DO in a list.
 #[tactic(auto, using(rule_passes::proofs::Missing::any_both))]
@@ -138,28 +138,28 @@ fn sets_counter(variables: &[Vec<u8>], shape: &Shape) -> bool
 }
 
 /// Whether a statement breaks the rule, by the variables of the DO statements around.
-fn misuses_variable(roles: &Roles, variables: &[Vec<u8>], shape: &Shape) -> bool
-    ensures { result ≡ misuses_one roles.now variables.now shape.now }
+fn misuses_variable(symbols: &Symbols, variables: &[Vec<u8>], shape: &Shape) -> bool
+    ensures { result ≡ misuses_one symbols.now variables.now shape.now }
 {
-    counts_by_none(roles, shape) || sets_counter(variables, shape) || has_reset(shape)
+    counts_by_none(symbols, shape) || sets_counter(variables, shape) || has_reset(shape)
 }
 
 /// The variables of the DO statements around.
 #[derive(Drop)]
 struct Controlled<'a> {
     alloc: Global,
-    roles: &'a Roles<'a>,
+    symbols: &'a Symbols<'a>,
     /// Those variables, the outermost first.
     variables: Vec<Vec<u8>>,
 }
 
 impl Within for Controlled<'_> {
-    ghost breaks = { λ s a x. breaks_loops (roles_at s.roles.now) a x };
+    ghost breaks = { λ s a x. breaks_loops (symbols_at s.symbols.now) a x };
 
     ghost knows = { λ s a. counters s.variables.items ≡ reverse a.variables };
 
     fn is_broken(&self, item: &Item) -> bool {
-        misuses_variable(self.roles, &self.variables, &*item.form.shape)
+        misuses_variable(self.symbols, &self.variables, &*item.form.shape)
     }
 
     fn enter_range(&mut self, head: &Item, _range: &[Member]) -> Result<(), AllocError> {
@@ -177,20 +177,21 @@ impl Within for Controlled<'_> {
     fn leave_arm(&mut self, _body: &[Member]) {}
 }
 
-/// K9: adds the pair of each line at which a DO statement or an implied DO has no INTEGER variable, or one is set that controls
-/// one around.
+/// K9: adds the pair of each line at which a DO statement or an implied DO has no INTEGER variable,
+/// or one is set that controls one around.
 pub fn add_bad_loop_variables(
     pairs: &mut Vec<Broken>,
     alloc: Global,
-    roles: &Roles,
+    symbols: &Symbols,
     members: &[Member],
 ) -> Result<(), AllocError>
     ensures { OnOk result
-        (AddsInBody (breaks_loops (roles_at roles.now)) Rule.K9 members.now pairs.old.items pairs.new.items) }
+        (AddsInBody (breaks_loops (symbols_at symbols.now)) Rule.K9 members.now pairs.old.items
+        pairs.new.items) }
 {
     let mut controlled = Controlled {
         alloc,
-        roles,
+        symbols,
         variables: Vec::new(alloc),
     };
     add_in(pairs, &mut controlled, Rule::K9, members)

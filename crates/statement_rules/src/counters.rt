@@ -31,7 +31,8 @@ pub fn is_counter(variables: &[Vec<u8>], name: &[u8]) -> bool
     false
 }
 
-/// Puts the variable of a DO statement to those around, if it is one. The `AllocError` comes where a growth was refused.
+/// Puts the variable of a DO statement to those around, if it is one. The `AllocError` comes where
+/// a growth was refused.
 pub fn enter_counter(
     variables: &mut Vec<Vec<u8>>,
     alloc: Global,

@@ -20,7 +20,8 @@ pub fn count_of(lines: &LinesByLabel, label: u32) -> usize
     }
 }
 
-/// Counts a label once more, if there is one, at a line. The `AllocError` comes where a growth was refused.
+/// Counts a label once more, if there is one, at a line. The `AllocError` comes where a growth was
+/// refused.
 pub fn add_label(
     lines: &mut LinesByLabel,
     alloc: Global,

@@ -5,7 +5,10 @@ ghost use Rattle.meaning.specs.Trees.{item_tree};
 ghost use Rattle.rule_passes.specs.Listed.{tree_at};
 ghost use Rattle.meaning.specs.LabelRules.{is_format_at, is_label_at, is_six as is_value_six};
 ghost use Rattle.rule_passes.specs.Telling.{AddsTold, Finds};
-ghost use Rattle.statement_rules.specs.FormatLabels.{AreFormats, HasFormats, IsOutput, KnowsOutput, breaks_either, breaks_output, breaks_places, is_format_of, is_found_by, is_misplaced_at, is_unit_at};
+ghost use Rattle.statement_rules.specs.FormatLabels.{AreFormats, HasFormats, IsOutput, KnowsOutput};
+ghost use Rattle.statement_rules.specs.FormatLabels.{breaks_either, breaks_output, breaks_places};
+ghost use Rattle.statement_rules.specs.FormatLabels.{is_format_of, is_found_by, is_misplaced_at};
+ghost use Rattle.statement_rules.specs.FormatLabels.{is_unit_at};
 ghost use Rattle.statement_rules.specs.FormatsFound.{HoldsFormats};
 
 use crate::reading::{Formats, read_item};
@@ -14,10 +17,10 @@ use declarations::{Table, is_no_constant, pass_constants, table_of, value_of};
 use meaning::ending::Value;
 use meaning::refusal::{Broken, Rule};
 use meaning::syntax::{FormatSource, Item, Shape, Unit};
-use roles::Roles;
 use rule_passes::{Behind, add_broken};
 use std::alloc::{AllocError, Global};
 use std::collections::BTreeSet;
+use symbols::Symbols;
 
 /// The label of a FORMAT statement.
 fn format_label(item: &Item) -> Option<u32>
@@ -80,7 +83,8 @@ fn is_format_label(labels: &BTreeSet<u32>, digits: &[u8]) -> bool
     }
 }
 
-/// Whether a FORMAT statement has the label that stands for a format; a character constant needs none.
+/// Whether a FORMAT statement has the label that stands for a format; a character constant needs
+/// none.
 fn is_found(labels: &BTreeSet<u32>, source: &FormatSource) -> bool
     ensures { Finds (AreFormats labels.now) (is_found_by source.now) result }
 {
@@ -98,7 +102,8 @@ pub struct BadOutput<'a> {
     labels: BTreeSet<u32>,
 }
 
-/// Whether a statement has a unit that isn't allowed or the label of no FORMAT statement, or is a FORMAT statement without a label.
+/// Whether a statement has a unit that isn't allowed or the label of no FORMAT statement, or is a
+/// FORMAT statement without a label.
 fn is_misplaced(output: &BadOutput, label: Option<u32>, shape: &Shape) -> bool
     ensures { Finds (HasFormats output.now) (is_misplaced_at output.now label shape.now) result }
 {
@@ -114,7 +119,7 @@ fn is_misplaced(output: &BadOutput, label: Option<u32>, shape: &Shape) -> bool
 }
 
 impl Behind for BadOutput<'_> {
-    ghost breaks = { λ s before x. breaks_places s.table.roles.now before x };
+    ghost breaks = { λ s before x. breaks_places s.table.symbols.now before x };
 
     ghost knows = { λ s before. KnowsOutput s before };
 
@@ -128,13 +133,13 @@ impl Behind for BadOutput<'_> {
 }
 
 /// What is known of units and of the labels of formats, where no statement was passed yet.
-fn output_of<'a>(alloc: Global, roles: &'a Roles<'a>) -> Result<BadOutput<'a>, AllocError>
-    ensures { IfOk result (IsOutput roles.now) }
+fn output_of<'a>(alloc: Global, symbols: &'a Symbols<'a>) -> Result<BadOutput<'a>, AllocError>
+    ensures { IfOk result (IsOutput symbols.now) }
 {
-    let labels = format_labels(alloc, roles.items)?;
+    let labels = format_labels(alloc, symbols.items)?;
     Ok(BadOutput {
         alloc,
-        table: table_of(alloc, roles),
+        table: table_of(alloc, symbols),
         labels,
     })
 }
@@ -169,17 +174,18 @@ fn add_and_read(
     Ok(formats)
 }
 
-/// K11: adds the pair of each line at which a unit, a format label or a format isn't allowed; the formats, each of which is read
-/// once.
+/// K11: adds the pair of each line at which a unit, a format label or a format isn't allowed; the
+/// formats, each of which is read once.
 pub fn add_bad_output(
     pairs: &mut Vec<Broken>,
     alloc: Global,
-    roles: &Roles,
+    symbols: &Symbols,
 ) -> Result<Formats, AllocError>
     ensures told { OnOk result
-        (AddsTold (breaks_output roles.now) Rule.K11 roles.now.items.now pairs.old.items pairs.new.items) }
-    ensures formats { IfOk result (λ f. HoldsFormats (map tree_at roles.now.items.now) f) }
+        (AddsTold (breaks_output symbols.now) Rule.K11 symbols.now.items.now pairs.old.items
+        pairs.new.items) }
+    ensures formats { IfOk result (λ f. HoldsFormats (map tree_at symbols.now.items.now) f) }
 {
-    let mut output = output_of(alloc, roles)?;
-    add_and_read(pairs, alloc, &mut output, roles.items)
+    let mut output = output_of(alloc, symbols)?;
+    add_and_read(pairs, alloc, &mut output, symbols.items)
 }

@@ -2,12 +2,12 @@
 
 ghost use Rattle.std.specs.Prelude.{◌≡◌};
 ghost use Rattle.meaning.specs.LoopRules.{is_no_counter as is_no_counter_by};
-ghost use Rattle.roles.specs.RolesAt.{roles_at};
+ghost use Rattle.symbols.specs.SymbolsAt.{symbols_at};
 ghost use Rattle.statement_rules.specs.Counters.{LeavesCounter, counts_by_none_in, has_none_in};
 
 use crate::counters::counter_of;
 use meaning::syntax::{DataType, Item, ListItem, ListItems, Shape};
-use roles::{Roles, is_other_name, type_of_name};
+use symbols::{Symbols, is_other_name, type_of_name};
 
 /// Leaves the variable of a DO statement.
 pub fn leave_counter(variables: &mut Vec<Vec<u8>>, item: &Item)
@@ -22,11 +22,11 @@ pub fn leave_counter(variables: &mut Vec<Vec<u8>>, item: &Item)
 }
 
 /// Whether a name is no INTEGER variable.
-fn is_no_counter(roles: &Roles, name: &[u8]) -> bool
-    ensures { result ≡ is_no_counter_by (roles_at roles.now) name.now }
+fn is_no_counter(symbols: &Symbols, name: &[u8]) -> bool
+    ensures { result ≡ is_no_counter_by (symbols_at symbols.now) name.now }
 {
-    match type_of_name(roles, name) {
-        Some(DataType::Integer) => !is_other_name(roles, name),
+    match type_of_name(symbols, name) {
+        Some(DataType::Integer) => !is_other_name(symbols, name),
         Some(DataType::Logical) => true,
         None => true,
     }
@@ -34,35 +34,35 @@ fn is_no_counter(roles: &Roles, name: &[u8]) -> bool
 
 /// Whether the variable of an implied DO in a list is none.
 #[tactic(auto, using(rule_passes::proofs::Missing::any_both))]
-fn has_no_counter(roles: &Roles, items: &ListItems) -> bool
-    ensures { result ≡ has_none_in roles.now items.now }
+fn has_no_counter(symbols: &Symbols, items: &ListItems) -> bool
+    ensures { result ≡ has_none_in symbols.now items.now }
 {
     match items {
         ListItems::Empty => false,
         ListItems::More(item, rest) => match item {
-            ListItem::Value(_) => has_no_counter(roles, rest),
+            ListItem::Value(_) => has_no_counter(symbols, rest),
             ListItem::Loop {
                 items: inner,
                 variable,
                 ..
             } => {
-                is_no_counter(roles, variable)
-                    || has_no_counter(roles, inner)
-                    || has_no_counter(roles, rest)
+                is_no_counter(symbols, variable)
+                    || has_no_counter(symbols, inner)
+                    || has_no_counter(symbols, rest)
             }
         },
     }
 }
 
 /// Whether the variable of a DO statement or of an implied DO is none.
-pub fn counts_by_none(roles: &Roles, shape: &Shape) -> bool
-    ensures { result ≡ counts_by_none_in roles.now shape.now }
+pub fn counts_by_none(symbols: &Symbols, shape: &Shape) -> bool
+    ensures { result ≡ counts_by_none_in symbols.now shape.now }
 {
     match shape {
-        Shape::Do { variable, .. } => is_no_counter(roles, variable),
-        Shape::Write { control: _, list } => has_no_counter(roles, list),
-        Shape::Print { list, .. } => has_no_counter(roles, list),
-        Shape::LogicalIf(_, statement) => counts_by_none(roles, statement),
+        Shape::Do { variable, .. } => is_no_counter(symbols, variable),
+        Shape::Write { control: _, list } => has_no_counter(symbols, list),
+        Shape::Print { list, .. } => has_no_counter(symbols, list),
+        Shape::LogicalIf(_, statement) => counts_by_none(symbols, statement),
         _ => false,
     }
 }

@@ -1,7 +1,8 @@
 //! The labels of the statements that stand in a list directly (ANSI X3.9-1978, 3.4 and 11.10.8).
 
 ghost use Rattle.std.specs.Prelude.{OnOk};
-ghost use Rattle.statement_rules.specs.Counted.{AddsLabels, HasSmallLabels, IsFirstLabel, TakesLabels};
+ghost use Rattle.statement_rules.specs.Counted.{AddsLabels, HasSmallLabels, IsFirstLabel};
+ghost use Rattle.statement_rules.specs.Counted.{TakesLabels};
 
 use crate::counts::{LinesByLabel, add_label, take_label};
 use meaning::syntax::{Arm, Member};
@@ -17,7 +18,8 @@ fn label_of_first(arms: &[Arm]) -> Option<u32>
     }
 }
 
-/// Counts the labels of the statements that stand in a list directly. The `AllocError` comes where a growth was refused.
+/// Counts the labels of the statements that stand in a list directly. The `AllocError` comes where
+/// a growth was refused.
 pub fn add_list(
     lines: &mut LinesByLabel,
     alloc: Global,

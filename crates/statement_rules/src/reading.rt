@@ -1,6 +1,7 @@
 //! The formats of a program unit, each read once (ANSI X3.9-1978, 12.4 and 13.1).
 
-ghost use Rattle.std.specs.Prelude.{◌≡◌, ◌^◌, ◌≤◌, [], ℕ, false, true, None, Some, IfOk, OnOk, is_none, is_some, option_map};
+ghost use Rattle.std.specs.Prelude.{◌≡◌, ◌^◌, ◌≤◌, [], ℕ, false, true, None, Some, IfOk, OnOk};
+ghost use Rattle.std.specs.Prelude.{is_none, is_some, option_map};
 ghost use Rattle.meaning.specs.Formats.{descriptors_of, format_in, undoubled};
 ghost use Rattle.meaning.specs.LabelRules.{is_label_at};
 ghost use Rattle.meaning.specs.Syntax.{format_tree, shape_tree};
@@ -8,8 +9,11 @@ ghost use Rattle.meaning.specs.Trees.{item_tree};
 ghost use Rattle.format_edit.specs.Formatted.{descriptors};
 ghost use Rattle.name_maps.specs.Keeping.{kept_at};
 ghost use Rattle.rule_passes.specs.Telling.{Passes};
-ghost use Rattle.statement_rules.specs.FormatLabels.{FindsOk, breaks_reading, is_unread, is_unread_source};
-ghost use Rattle.statement_rules.specs.FormatsFound.{AddsFormat, AddsTexts, HoldsFormats, HoldsTexts, format_text, text_of_source, texts_of_shape, the_text};
+ghost use Rattle.statement_rules.specs.FormatLabels.{FindsOk, breaks_reading, is_unread};
+ghost use Rattle.statement_rules.specs.FormatLabels.{is_unread_source};
+ghost use Rattle.statement_rules.specs.FormatsFound.{AddsFormat, AddsTexts, HoldsFormats};
+ghost use Rattle.statement_rules.specs.FormatsFound.{HoldsTexts, format_text, text_of_source};
+ghost use Rattle.statement_rules.specs.FormatsFound.{texts_of_shape, the_text};
 
 use format_edit::{Format, FormatFault};
 use indexmap::IndexMap;
@@ -62,7 +66,8 @@ fn keep_labelled(
     }
 }
 
-/// Reads the text of a FORMAT statement and puts the format behind its label, unless one stands there; whether the text is none.
+/// Reads the text of a FORMAT statement and puts the format behind its label, unless one stands
+/// there; whether the text is none.
 fn read_labelled(
     formats: &mut BTreeMap<u32, Format>,
     alloc: Global,
@@ -99,7 +104,8 @@ fn keep_text(
     Ok(())
 }
 
-/// Reads the format in a character constant and keeps it, unless it was read before; whether the constant has none.
+/// Reads the format in a character constant and keeps it, unless it was read before; whether the
+/// constant has none.
 fn read_text(
     texts: &mut IndexMap<Vec<u8>, Format>,
     alloc: Global,
@@ -152,7 +158,8 @@ fn is_no_format(alloc: Global, text: &[u8]) -> Result<bool, AllocError>
     }
 }
 
-/// Reads the format of a statement that is no FORMAT statement; where a logical IF has one, which no source spells, that isn't kept.
+/// Reads the format of a statement that is no FORMAT statement; where a logical IF has one, which
+/// no source spells, that isn't kept.
 fn read_shape(
     texts: &mut IndexMap<Vec<u8>, Format>,
     alloc: Global,

@@ -1,21 +1,24 @@
-//! Transfers of control and the statements that they reach (ANSI X3.9-1978, 11.1, 11.2, 11.4 and 11.10.8).
+//! Transfers of control and the statements that they reach (ANSI X3.9-1978, 11.1, 11.2, 11.4 and
+//! 11.10.8).
 
 ghost use Rattle.std.specs.Prelude.{◌≡◌, ◌≤◌, ◌^◌, MatchOption, IfOk, OnOk};
 ghost use Rattle.meaning.specs.Characters.{number_of};
-ghost use Rattle.roles.specs.Stages.{IsBehind};
+ghost use Rattle.symbols.specs.Stages.{IsBehind};
 ghost use Rattle.rule_passes.specs.Telling.{Finds};
 ghost use Rattle.statement_rules.specs.Counted.{AreCounts};
-ghost use Rattle.statement_rules.specs.Reached.{AddsMissed, AreClosed, Closes, IsAround, is_not_executable, misses_by, misses_label, misses_one_of, shape_misses};
+ghost use Rattle.statement_rules.specs.Reached.{AddsMissed, AreClosed, Closes, IsAround};
+ghost use Rattle.statement_rules.specs.Reached.{is_not_executable, misses_by, misses_label};
+ghost use Rattle.statement_rules.specs.Reached.{misses_one_of, shape_misses};
 
 use crate::counts::{LinesByLabel, add_label, count_of};
 use crate::reach::{add_list, take_list};
 use meaning::number::number;
 use meaning::refusal::{Broken, Rule};
 use meaning::syntax::{Item, Member, Shape};
-use roles::{Roles, Stage, is_specification};
 use rule_passes::{Within, add_in};
 use std::alloc::{AllocError, Global};
 use std::collections::{BTreeMap, BTreeSet};
+use symbols::{Stage, Symbols, is_specification};
 
 /// The label that digits spell, if it is below 2^32.
 pub fn label_of(digits: &[u8]) -> Option<u32>
@@ -132,10 +135,11 @@ fn lines_of(alloc: Global, items: &[&Item]) -> Result<LinesByLabel, AllocError>
 }
 
 /// Whether a statement isn't executable.
-fn is_closed(roles: &Roles, stage: &Stage, item: &Item) -> bool
-    ensures { Finds (IsBehind roles.now stage.now) (is_not_executable roles.now item.now) result }
+fn is_closed(symbols: &Symbols, stage: &Stage, item: &Item) -> bool
+    ensures { Finds (IsBehind symbols.now stage.now) (is_not_executable symbols.now item.now)
+        result }
 {
-    is_specification(&*item.form.shape) || stage.is_defining(roles, item)
+    is_specification(&*item.form.shape) || stage.is_defining(symbols, item)
 }
 
 /// Puts a label to others, if it is to be and there is one.
@@ -159,33 +163,37 @@ fn close_label(
 }
 
 /// The labels of the statements that aren't executable.
-fn closed_labels(alloc: Global, roles: &Roles, items: &[&Item]) -> Result<BTreeSet<u32>, AllocError>
-    ensures { IfOk result (AreClosed roles.now items.now) }
+fn closed_labels(
+    alloc: Global,
+    symbols: &Symbols,
+    items: &[&Item],
+) -> Result<BTreeSet<u32>, AllocError>
+    ensures { IfOk result (AreClosed symbols.now items.now) }
 {
     let mut closed = BTreeSet::new(alloc);
     let mut stage = Stage::new();
     for item in items {
-        let closes = is_closed(roles, &stage, item);
+        let closes = is_closed(symbols, &stage, item);
         close_label(&mut closed, closes, item.label)?;
-        stage.pass(roles, item);
+        stage.pass(symbols, item);
     }
     Ok(closed)
 }
 
-/// K2: adds the pair of each line at which a transfer misses a label, in a list of statements that is the body of a unit with
-/// these items.
+/// K2: adds the pair of each line at which a transfer misses a label, in a list of statements that
+/// is the body of a unit with these items.
 pub fn add_missed_labels(
     pairs: &mut Vec<Broken>,
     alloc: Global,
-    roles: &Roles,
+    symbols: &Symbols,
     items: &[&Item],
     members: &[Member],
 ) -> Result<(), AllocError>
     ensures { OnOk result
-        (AddsMissed roles.now items.now members.now pairs.old.items pairs.new.items) }
+        (AddsMissed symbols.now items.now members.now pairs.old.items pairs.new.items) }
 {
     let all = lines_of(alloc, items)?;
-    let closed = closed_labels(alloc, roles, items)?;
+    let closed = closed_labels(alloc, symbols, items)?;
     let mut reach = BTreeMap::new(alloc);
     add_list(&mut reach, alloc, members)?;
     let mut transfers = Transfers {

@@ -8,7 +8,7 @@ use Rattle.meaning.specs.declared.syntax.ListItems.{ListItems}
 use Rattle.meaning.specs.declared.syntax.ListItems.TheVariants as lists
 use Rattle.meaning.specs.Syntax.{limits_tree, list_items_tree, list_item_tree, more_items}
 use Rattle.meaning.specs.Typing.{Names, in_items, in_limits, is_mistyped}
-use Rattle.roles.proofs.Passes.{map_left}
+use Rattle.symbols.proofs.Passes.{map_left}
 
 pub any_joined : {X : Type 0} (test : X → Bool) (xs ys : List X) → list_any test (xs ++ ys) ≡ (list_any test xs || list_any test ys)
 any_joined test xs ys = list_any-append test xs ys

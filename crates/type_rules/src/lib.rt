@@ -1,5 +1,5 @@
-//! The rules on the types of names and expressions (ANSI X3.9-1978, 4.1.2, 4.4 and chapter 6). K3: `add_real_names`; K5:
-//! `add_wrong_types`.
+//! The rules on the types of names and expressions (ANSI X3.9-1978, 4.1.2, 4.4 and chapter 6). K3:
+//! `add_real_names`; K5: `add_wrong_types`.
 #![tactic(auto)]
 
 mod mistyped;

@@ -3,18 +3,28 @@
 ghost use Rattle.std.specs.Prelude.{◌≡◌, is_some};
 ghost use Rattle.meaning.specs.Scopes.{is_dummy as is_dummy_of};
 ghost use Rattle.meaning.specs.Syntax.{expr_tree, exprs_tree};
-ghost use Rattle.meaning.specs.Typing.{are_ill as are_ill_typed, clash, expected, further_wanted, is_arithmetic_operator as is_arithmetic, is_ill as is_ill_typed, is_logical_operator as is_logical, is_mistyped as is_wrong, next_wanted, operand_type as type_of_operand, reference_type as type_by_reference, result_type as type_of_result, type_of as type_by, wanted_by as wanted_behind};
-ghost use Rattle.roles.specs.Functions.{dummies_at};
+ghost use Rattle.meaning.specs.Typing.{are_ill as are_ill_typed, clash, expected, further_wanted};
+ghost use Rattle.meaning.specs.Typing.{is_arithmetic_operator as is_arithmetic};
+ghost use Rattle.meaning.specs.Typing.{is_ill as is_ill_typed, is_logical_operator as is_logical};
+ghost use Rattle.meaning.specs.Typing.{is_mistyped as is_wrong, next_wanted};
+ghost use Rattle.meaning.specs.Typing.{operand_type as type_of_operand};
+ghost use Rattle.meaning.specs.Typing.{reference_type as type_by_reference};
+ghost use Rattle.meaning.specs.Typing.{result_type as type_of_result, type_of as type_by};
+ghost use Rattle.meaning.specs.Typing.{wanted_by as wanted_behind};
+ghost use Rattle.symbols.specs.Functions.{dummies_at};
 ghost use Rattle.type_rules.specs.Wants.{names_in, wanted_at};
 
 use meaning::syntax::{DataType, Expr, Exprs, Operator};
 use name_uses::is_dummy;
-use roles::{Roles, function_named, is_array_name, is_function_name, is_intrinsic, type_of_name};
+use symbols::{
+    Symbols, function_named, is_array_name, is_function_name, is_intrinsic, type_of_name,
+};
 
-/// What names stand for in a statement: in that of a statement function a dummy is no array and no function (ANSI X3.9-1978, 18.2.3).
+/// What names stand for in a statement: in that of a statement function a dummy is no array and no
+/// function (ANSI X3.9-1978, 18.2.3).
 #[derive(Clone, Copy)]
 pub struct Naming<'a> {
-    pub roles: &'a Roles<'a>,
+    pub symbols: &'a Symbols<'a>,
     /// The dummies of the statement function, if the statement defines one with dummies.
     pub dummies: Option<&'a Exprs>,
 }
@@ -36,7 +46,7 @@ fn is_array(naming: &Naming, name: &[u8]) -> bool
     if is_hidden(naming, name) {
         false
     } else {
-        is_array_name(naming.roles, name)
+        is_array_name(naming.symbols, name)
     }
 }
 
@@ -47,7 +57,7 @@ fn is_statement_function(naming: &Naming, name: &[u8]) -> bool
     if is_hidden(naming, name) {
         false
     } else {
-        is_function_name(naming.roles, name)
+        is_function_name(naming.symbols, name)
     }
 }
 
@@ -105,7 +115,7 @@ fn reference_type(naming: &Naming, name: &[u8]) -> Option<DataType>
     ensures { result ≡ type_by_reference (names_in naming.now) name.now }
 {
     if is_array(naming, name) || is_statement_function(naming, name) {
-        type_of_name(naming.roles, name)
+        type_of_name(naming.symbols, name)
     } else if !is_hidden(naming, name) && is_intrinsic(name) {
         Some(DataType::Integer)
     } else {
@@ -120,7 +130,7 @@ pub fn type_of(naming: &Naming, expression: &Expr) -> Option<DataType>
     match expression {
         Expr::Number(_) => Some(DataType::Integer),
         Expr::Truth(_) => Some(DataType::Logical),
-        Expr::Name(name) => type_of_name(naming.roles, name),
+        Expr::Name(name) => type_of_name(naming.symbols, name),
         Expr::Signed(_, _) => Some(DataType::Integer),
         Expr::Not(_) => Some(DataType::Logical),
         Expr::Binary(operator, _, _) => result_type(*operator),
@@ -173,7 +183,8 @@ fn next_type(naming: &Naming, wanting: Wanting) -> Option<DataType>
 
 /// The types that the arguments behind the first should have.
 fn further<'a>(naming: &Naming, wanting: Wanting<'a>) -> Wanting<'a>
-    ensures { wanted_at (names_in naming.now) result ≡ further_wanted (wanted_at (names_in naming.now) wanting.entry) }
+    ensures { wanted_at (names_in naming.now) result
+        ≡ further_wanted (wanted_at (names_in naming.now) wanting.entry) }
 {
     match wanting {
         Wanting::All(data_type) => Wanting::All(data_type),
@@ -186,15 +197,16 @@ fn further<'a>(naming: &Naming, wanting: Wanting<'a>) -> Wanting<'a>
 
 /// The types that the arguments of a function or the subscripts of an array should have.
 fn wanted_by<'a>(naming: &Naming<'a>, name: &[u8]) -> Wanting<'a>
-    ensures { wanted_at (names_in naming.now) result ≡ wanted_behind (names_in naming.now) name.now }
+    ensures { wanted_at (names_in naming.now) result
+        ≡ wanted_behind (names_in naming.now) name.now }
 {
     if is_hidden(naming, name) {
         return Wanting::All(None);
     }
-    if is_array_name(naming.roles, name) {
+    if is_array_name(naming.symbols, name) {
         return Wanting::All(Some(DataType::Integer));
     }
-    match function_named(naming.roles, name) {
+    match function_named(naming.symbols, name) {
         Some(function) => match function.dummies {
             Some(dummies) => Wanting::Dummies(dummies),
             None => Wanting::All(None),
@@ -238,7 +250,9 @@ fn is_ill(naming: &Naming, expression: &Expr) -> bool
 /// Whether one of the arguments is of the wrong type, or has a part that is.
 #[cycle(typing)]
 fn are_ill(naming: &Naming, wanting: Wanting, expressions: &Exprs) -> bool
-    ensures { result ≡ are_ill_typed (names_in naming.now) (wanted_at (names_in naming.now) wanting.entry) (exprs_tree expressions.now) }
+    ensures { result
+        ≡ are_ill_typed (names_in naming.now) (wanted_at (names_in naming.now) wanting.entry)
+        (exprs_tree expressions.now) }
 {
     match expressions {
         Exprs::Empty => false,

@@ -17,9 +17,9 @@ use Rattle.expressions.specs.Listed.{AreValues, Partly, cell_at, element_at}
 use Rattle.expressions.specs.Places.{from_cell, left, limit, limit_by}
 use Rattle.expressions.proofs.Exact.{in_range}
 use Rattle.expressions.proofs.Items.{partly_more}
-use Rattle.numbering.specs.Checked.{count_in}
-use Rattle.programs.specs.declared.action.WholeArray.{WholeArray}
-use Rattle.programs.specs.Items.{IsWholeArray, StandsFor, is_logical_type}
+use Rattle.storage.specs.Checked.{count_in}
+use Rattle.program.specs.declared.action.WholeArray.{WholeArray}
+use Rattle.program.specs.Items.{IsWholeArray, StandsFor, is_logical_type}
 use Rattle.values.specs.Stacked.{value_at}
 
 -- ---- the cells

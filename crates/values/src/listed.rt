@@ -6,8 +6,8 @@ ghost use Rattle.meaning.specs.Maps.{value_at as value_in};
 ghost use Rattle.meaning.specs.Stores.{IsLater, Reads};
 ghost use Rattle.meaning.specs.Syntax.{expr_tree};
 ghost use Rattle.expressions.specs.Listed.{AddsItem};
-ghost use Rattle.numbering.specs.Checked.{count_in};
-ghost use Rattle.programs.specs.Items.{IsSingle, IsWholeArray};
+ghost use Rattle.storage.specs.Checked.{count_in};
+ghost use Rattle.program.specs.Items.{IsSingle, IsWholeArray};
 ghost use Rattle.values.specs.Programs.{map_at, scope_in};
 
 use crate::codes::{value, value_by};
@@ -16,12 +16,12 @@ use meaning::cell::Cell;
 use meaning::ending::{FaultKind, Value};
 use meaning::syntax::Expr;
 use postfix::Code;
-use programs::{Program, WholeArray};
+use program::{Program, WholeArray};
 use std::alloc::AllocError;
 
-/// Puts the value of an item of an output list that is no array behind those found before, by its code. `room` is how many items
-/// may follow, and is lessened by one; the fault is that of the expression, or F8 where there is no room. The `AllocError` comes
-/// where a growth was refused.
+/// Puts the value of an item of an output list that is no array behind those found before, by its
+/// code. `room` is how many items may follow, and is lessened by one; the fault is that of the
+/// expression, or F8 where there is no room. The `AllocError` comes where a growth was refused.
 pub fn add_value<S: Store>(
     found: &mut Vec<Value>,
     room: &mut usize,
@@ -33,7 +33,8 @@ pub fn add_value<S: Store>(
     requires single { IsSingle program.now (expr_tree item.now) code.now }
     requires sized { (S.world store.old).cells ≡ count_in program.now }
     ensures reads { IfOk result (AddsItem (S.world store.old) (S.world store.new)
-        (λ m. item_value (scope_in program.now) (expr_tree item.now) (map_at program.now m) room.old)
+        (λ m. item_value (scope_in program.now) (expr_tree item.now) (map_at program.now m)
+        room.old)
         (map_at program.now) found.old.items found.new.items room.new) }
     ensures later { IsLater (S.world store.old) (S.world store.new) }
 {
@@ -68,8 +69,9 @@ fn element_number<S: Store>(
     store.read(Cell(array.first + at))
 }
 
-/// Puts the elements of a whole array that is an item of an output list behind the values found before, in their order. `room` is
-/// lessened by as many; the fault is F8 where they are more. The `AllocError` comes where a growth was refused.
+/// Puts the elements of a whole array that is an item of an output list behind the values found
+/// before, in their order. `room` is lessened by as many; the fault is F8 where they are more. The
+/// `AllocError` comes where a growth was refused.
 pub fn add_array<S: Store>(
     found: &mut Vec<Value>,
     room: &mut usize,
@@ -81,7 +83,8 @@ pub fn add_array<S: Store>(
     requires array { IsWholeArray program.now (expr_tree item.now) array }
     requires sized { (S.world store.old).cells ≡ count_in program.now }
     ensures reads { IfOk result (AddsItem (S.world store.old) (S.world store.new)
-        (λ m. item_value (scope_in program.now) (expr_tree item.now) (map_at program.now m) room.old)
+        (λ m. item_value (scope_in program.now) (expr_tree item.now) (map_at program.now m)
+        room.old)
         (map_at program.now) found.old.items found.new.items room.new) }
     ensures later { IsLater (S.world store.old) (S.world store.new) }
 {

@@ -19,15 +19,15 @@ use Rattle.meaning.specs.Syntax.{LimitsTree, ShapeTree, doing, shape_tree}
 use Rattle.meaning.specs.Trees.{Members, flat, item_tree, members_tree}
 use Rattle.meaning.proofs.Advancing.{fold_trips-number}
 use Rattle.meaning.proofs.Limits.{fold_trips-append}
-use Rattle.landmarks.specs.Kept.{IsKept}
-use Rattle.landmarks.specs.Quiet.{WritesNothing}
+use Rattle.label_targets.specs.Kept.{IsKept}
+use Rattle.label_targets.specs.Quiet.{WritesNothing}
 use Rattle.array_store.specs.Whole.{world_of}
-use Rattle.numbering.specs.Checked.{numbers_in}
-use Rattle.numbering.specs.Starts.{map_of}
-use Rattle.programs.specs.declared.action.Repeat.{Repeat}
-use Rattle.programs.specs.Acts.{Repeats}
-use Rattle.programs.specs.Asked.{is_doing}
-use Rattle.programs.specs.Programs.{IsStatement}
+use Rattle.storage.specs.Checked.{numbers_in}
+use Rattle.storage.specs.Starts.{map_of}
+use Rattle.program.specs.declared.action.Repeat.{Repeat}
+use Rattle.program.specs.Acts.{Repeats}
+use Rattle.program.specs.Asked.{is_doing}
+use Rattle.program.specs.Programs.{IsStatement}
 use Rattle.evaluator.specs.Known.{AreStatements}
 use Rattle.evaluator.specs.Over.{values_by}
 use Rattle.evaluator.specs.Quiet.{variable_of}

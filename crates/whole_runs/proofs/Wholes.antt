@@ -4,7 +4,7 @@ use Rattle.meaning.specs.Stores.{Cells, Reads, Does, known, overlay}
 use Rattle.meaning.proofs.Stores.{reads_known, does_known}
 use Rattle.array_store.specs.Whole.{world_of}
 use Rattle.meaning.specs.declared.syntax.Tree.{Tree}
-use Rattle.numbering.specs.Starts.{map_of}
+use Rattle.storage.specs.Starts.{map_of}
 use Rattle.values.specs.Programs.{map_at}
 
 module _ (old new : List ℤ) where

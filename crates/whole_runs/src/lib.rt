@@ -1,5 +1,6 @@
-//! The values of output lists over any store, and statements without output and the limits of DO statements over a whole store, as
-//! equations of its map (ANSI X3.9-1978, 10.1, chapter 11 and 12.8.2).
+//! The values of output lists over any store, and statements without output and the limits of DO
+//! statements over a whole store, as equations of its map (ANSI X3.9-1978, 10.1, chapter 11 and
+//! 12.8.2).
 #![tactic(auto)]
 
 mod listing;

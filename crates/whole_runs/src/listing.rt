@@ -3,11 +3,12 @@
 ghost use Rattle.std.specs.Prelude.{◌≡◌, ◌≢◌, IfOk, pos};
 ghost use Rattle.meaning.specs.Lists.{listed, trips_listed};
 ghost use Rattle.meaning.specs.Stores.{IsLater};
-ghost use Rattle.meaning.specs.Syntax.{expr_tree, limits_tree, list_item_tree, list_items_tree, loop_item, value_item};
+ghost use Rattle.meaning.specs.Syntax.{expr_tree, limits_tree, list_item_tree, list_items_tree};
+ghost use Rattle.meaning.specs.Syntax.{loop_item, value_item};
 ghost use Rattle.meaning.specs.Trips.{trips};
-ghost use Rattle.numbering.specs.Checked.{count_in};
-ghost use Rattle.programs.specs.Codes.{AreLimits, IsCell};
-ghost use Rattle.programs.specs.Items.{AreItems, IsItem};
+ghost use Rattle.storage.specs.Checked.{count_in};
+ghost use Rattle.program.specs.Codes.{AreLimits, IsCell};
+ghost use Rattle.program.specs.Items.{AreItems, IsItem};
 ghost use Rattle.values.specs.Programs.{scope_in};
 ghost use Rattle.evaluator.specs.Listing.{FindsOver, item_listed};
 ghost use Rattle.evaluator.specs.Over.{ListsOver};
@@ -16,14 +17,15 @@ use array_store::Store;
 use evaluator::{Span, add_to, count_of, set_variable, values_of_codes};
 use meaning::ending::{FaultKind, Value};
 use meaning::syntax::{Expr, Limits, ListItem, ListItems};
-use programs::{ListCode, ListCodes, Program, Repeat};
+use program::{ListCode, ListCodes, Program, Repeat};
 use std::alloc::{AllocError, Global};
 use values::{add_array, add_value};
 
 // How many items a list has at most.
 const LIMIT: usize = 65_536;
 
-// Puts the values of items behind those found before, once for each trip of an implied DO, whose variable has its first value.
+// Puts the values of items behind those found before, once for each trip of an implied DO, whose
+// variable has its first value.
 #[cycle(listing)]
 fn add_trips<S: Store>(
     found: &mut Vec<Value>,
@@ -59,7 +61,8 @@ fn add_trips<S: Store>(
     Ok(Ok(()))
 }
 
-// Puts the values of an implied DO behind those found before; F8 where it would be an item too many.
+// Puts the values of an implied DO behind those found before; F8 where it would be an item too
+// many.
 #[cycle(listing)]
 fn add_loop<S: Store>(
     found: &mut Vec<Value>,
@@ -127,7 +130,8 @@ fn add_repeated<S: Store>(
     }
 }
 
-// Puts the value of an item that is no implied DO, or the elements of a whole array, behind those found before.
+// Puts the value of an item that is no implied DO, or the elements of a whole array, behind those
+// found before.
 fn add_single<S: Store>(
     found: &mut Vec<Value>,
     room: &mut usize,
@@ -208,10 +212,12 @@ fn add_items<S: Store>(
     }
 }
 
-/// The values of an output list by the codes of its items, first to last: a whole array stands for its elements in their order, and an implied DO sets its
-/// variable and stands for its items once for each trip. The fault is the leftmost one: that of an expression, F2 where an
-/// addition to a variable leaves INTEGER, F5 where a step is zero, F8 where an item comes behind 65,536, an implied DO being one
-/// each time that it is reached. The `AllocError` comes where a growth was refused, or the store refused a write.
+/// The values of an output list by the codes of its items, first to last: a whole array stands for
+/// its elements in their order, and an implied DO sets its variable and stands for its items once
+/// for each trip. The fault is the leftmost one: that of an expression, F2 where an addition to a
+/// variable leaves INTEGER, F5 where a step is zero, F8 where an item comes behind 65,536, an
+/// implied DO being one each time that it is reached. The `AllocError` comes where a growth was
+/// refused, or the store refused a write.
 pub fn list_values<S: Store>(
     alloc: Global,
     program: &Program,

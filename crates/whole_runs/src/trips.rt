@@ -1,12 +1,13 @@
-//! Some trips of a DO statement without output, over a whole store (ANSI X3.9-1978, 11.10.4 to 11.10.7).
+//! Some trips of a DO statement without output, over a whole store (ANSI X3.9-1978, 11.10.4 to
+//! 11.10.7).
 
 ghost use Rattle.std.specs.Prelude.{◌≡◌, ◌<◌, ◌↔◌, ℕ, ℤ, List, [], true, length};
 ghost use Rattle.meaning.specs.declared.syntax.Loop.{out-Loop};
 ghost use Rattle.meaning.specs.Syntax.{shape_tree};
-ghost use Rattle.numbering.specs.Checked.{count_in};
-ghost use Rattle.numbering.specs.Starts.{map_of};
-ghost use Rattle.programs.specs.Acts.{Repeats};
-ghost use Rattle.programs.specs.Codes.{IsCell};
+ghost use Rattle.storage.specs.Checked.{count_in};
+ghost use Rattle.storage.specs.Starts.{map_of};
+ghost use Rattle.program.specs.Acts.{Repeats};
+ghost use Rattle.program.specs.Codes.{IsCell};
 ghost use Rattle.whole_runs.specs.Trips.{IsQuietLoop, LeavesIn, trips_in};
 
 use array_store::Whole;
@@ -14,9 +15,10 @@ use evaluator::{Span, run_further_trips};
 use meaning::cell::Cell;
 use meaning::ending::Outcome;
 use meaning::syntax::Loop;
-use programs::{Program, Repeat};
+use program::{Program, Repeat};
 
-/// What is left of a DO statement's trips: the values of its limits, how many trips were executed, and how many are left.
+/// What is left of a DO statement's trips: the values of its limits, how many trips were executed,
+/// and how many are left.
 #[derive(Clone, Copy)]
 pub struct Remaining {
     pub span: Span,
@@ -55,8 +57,8 @@ pub fn variable_whole(program: &Program, cell: usize, cells: &Whole) -> i32
     cells.read(Cell(cell))
 }
 
-/// Executes the range of a DO statement, which writes nothing, so often; its variable has its value in the first of these trips, and the
-/// step is added to it behind each.
+/// Executes the range of a DO statement, which writes nothing, so often; its variable has its value
+/// in the first of these trips, and the step is added to it behind each.
 pub fn trips_whole(
     program: &Program,
     repeated: &Loop,

@@ -7,16 +7,16 @@ ghost use Rattle.meaning.specs.Maps.{put};
 ghost use Rattle.meaning.specs.Syntax.{ExprTree, LimitsTree, list_items_tree, shape_tree};
 ghost use Rattle.meaning.specs.Trees.{item_tree};
 ghost use Rattle.meaning.specs.Trips.{span_of};
-ghost use Rattle.numbering.specs.Checked.{items_in, count_in};
-ghost use Rattle.numbering.specs.Starts.{map_of};
+ghost use Rattle.storage.specs.Checked.{items_in, count_in};
+ghost use Rattle.storage.specs.Starts.{map_of};
 ghost use Rattle.values.specs.Programs.{scope_in};
-ghost use Rattle.programs.specs.Codes.{AreLimits, IsCell, IsCode};
-ghost use Rattle.programs.specs.Items.{AreItems};
-ghost use Rattle.programs.specs.Programs.{IsStatement};
+ghost use Rattle.program.specs.Codes.{AreLimits, IsCell, IsCode};
+ghost use Rattle.program.specs.Items.{AreItems};
+ghost use Rattle.program.specs.Programs.{IsStatement};
 ghost use Rattle.evaluator.specs.Limited.{SpanIs};
 ghost use Rattle.evaluator.specs.Listing.{ListIs};
 ghost use Rattle.evaluator.specs.Over.{ConditionIn, MovesIn, TestsIn};
-ghost use Rattle.landmarks.specs.Quiet.{is_writing};
+ghost use Rattle.label_targets.specs.Quiet.{is_writing};
 ghost use Rattle.evaluator.specs.Statements.{Adds, Spends};
 
 use crate::listing::list_values;
@@ -25,7 +25,7 @@ use evaluator::{Span, add_to, run_item, set_variable, test_arm, test_condition, 
 use meaning::ending::{Fault, FaultKind, Outcome, Value};
 use meaning::syntax::{Item, ListItems};
 use postfix::Code;
-use programs::{ListCodes, Program, Repeat};
+use program::{ListCodes, Program, Repeat};
 use std::alloc::{AllocError, Global};
 
 /// Gives a variable a value, by its cell.
@@ -43,7 +43,8 @@ pub fn set_whole(program: &Program, cell: usize, x: i32, cells: &mut Whole)
     }
 }
 
-/// Executes one statement that stands by itself and writes nothing, or passes over one that isn't executable.
+/// Executes one statement that stands by itself and writes nothing, or passes over one that isn't
+/// executable.
 pub fn item_whole(program: &Program, item: &Item, cells: &mut Whole, turns: &mut u64) -> Outcome
     requires known { IsStatement program.now (item_tree item.now) }
     requires quiet { IsTrue (not (is_writing (shape_tree item.now.form.shape.value))) }
@@ -61,8 +62,9 @@ pub fn item_whole(program: &Program, item: &Item, cells: &mut Whole, turns: &mut
     }
 }
 
-/// Whether an arm of a block IF is executed, or the fault of its test. The block IF takes a turn, so its first arm does in any
-/// case; each ELSE IF that is tested takes another, and ELSE none. The cells keep their values.
+/// Whether an arm of a block IF is executed, or the fault of its test. The block IF takes a turn,
+/// so its first arm does in any case; each ELSE IF that is tested takes another, and ELSE none. The
+/// cells keep their values.
 pub fn test_whole(
     program: &Program,
     first: bool,
@@ -82,8 +84,8 @@ pub fn test_whole(
     test_arm(program, first, head, cells, turns)
 }
 
-/// Whether the condition of a statement at a line is true, or the fault of its test, which takes a turn. The cells keep their
-/// values.
+/// Whether the condition of a statement at a line is true, or the fault of its test, which takes a
+/// turn. The cells keep their values.
 pub fn condition_whole(
     program: &Program,
     line: u32,
@@ -139,8 +141,8 @@ pub fn limits_whole(
     values_of_codes(program, repeat, cells)
 }
 
-/// The values of an output list, first to last, or the leftmost fault, as `list_values` tells them. The `AllocError` comes where
-/// a growth was refused.
+/// The values of an output list, first to last, or the leftmost fault, as `list_values` tells them.
+/// The `AllocError` comes where a growth was refused.
 pub fn list_whole(
     alloc: Global,
     program: &Program,

@@ -1,5 +1,8 @@
--- Where a name or a number stands in the lines of a statement (ANSI X3.9-1978, 3.1 to 3.3): its own words.
-use Rattle.std.specs.Prelude.{ℕ, suc, ◌-◌, Bool, true, false, not, ◌&&◌, ◌||◌, ◌==◌, nat_lt, List, [], ◌∷◌, ◌++◌, drop, length, codes, if◌then◌else◌, Option, Some, None, option_map}
+-- Where a name or a number stands in the lines of a statement (ANSI X3.9-1978, 3.1 to 3.3): its own
+-- words.
+use Rattle.std.specs.Prelude.{ℕ, suc, ◌-◌, Bool, true, false, not, ◌&&◌, ◌||◌, ◌==◌, nat_lt, List}
+use Rattle.std.specs.Prelude.{[], ◌∷◌, ◌++◌, drop, length, codes, if◌then◌else◌, Option, Some, None}
+use Rattle.std.specs.Prelude.{option_map}
 use Rattle.std.specs.List.{list_all, list_any}
 use Rattle.std.specs.Option.{option_or}
 use Rattle.meaning.specs.Characters.{apostrophe, blank, is_alphanumeric, is_digit, raised}
@@ -20,7 +23,8 @@ marks_from line column (c ∷ cs) =
 abbrev pub marks_in : ℕ → List ℕ → List Mark
 marks_in line text = marks_from line 7 (statement_field (card text))
 
--- those of the lines before the next initial line, behind a line of this number; lines from 2^32 on have no number (own)
+-- those of the lines before the next initial line, behind a line of this number; lines from 2^32 on
+-- have no number (own)
 unfoldable pub marks_behind : ℕ → List (List ℕ) → List Mark
 marks_behind line [] = []
 marks_behind line (l ∷ ls) =
@@ -37,10 +41,13 @@ marks_of line source = marks_with line (drop (line - 1) (lines_of source))
 
 -- ---- whole words
 
--- the words that a name or a label may stand behind with nothing between, where a statement begins: a DO statement's with its label
+-- the words that a name or a label may stand behind with nothing between, where a statement begins:
+-- a DO statement's with its label
 abbrev pub leading_words : List (List ℕ)
 leading_words =
-    codes "INTEGER" ∷ (codes "LOGICAL" ∷ (codes "DIMENSION" ∷ (codes "DATA" ∷ (codes "GOTO" ∷ (codes "PRINT" ∷ (codes "DO" ∷ []))))))
+    codes "INTEGER" ∷
+    (codes "LOGICAL" ∷
+    (codes "DIMENSION" ∷ (codes "DATA" ∷ (codes "GOTO" ∷ (codes "PRINT" ∷ (codes "DO" ∷ []))))))
 
 -- such a word, and digits behind it or nothing
 abbrev pub leads_with : List ℕ → List Mark → Bool
@@ -50,7 +57,8 @@ leads_with (c ∷ cs) (m ∷ ms) = c == m.code && leads_with cs ms
 
 -- no letter or digit stands directly before, or such a word alone
 abbrev pub may_follow : Bool → List Mark → Bool
-may_follow leads run = (length run == 0) || (leads && list_any (λ w. leads_with w run) leading_words)
+may_follow leads run =
+    (length run == 0) || (leads && list_any (λ w. leads_with w run) leading_words)
 
 -- the word stands here, and behind it neither a letter nor a digit
 abbrev pub stands_here : List ℕ → List Mark → Bool
@@ -59,8 +67,9 @@ stands_here [] (m ∷ ms) = not (is_alphanumeric m.code)
 stands_here (c ∷ cs) [] = false
 stands_here (c ∷ cs) (m ∷ ms) = c == m.code && stands_here cs ms
 
--- ---- how far one has come in a statement: in a character constant; between the periods of an operator; the letters and digits
--- directly before begin at this place, and the statement with them, or what stands behind a closing parenthesis
+-- ---- how far one has come in a statement: in a character constant; between the periods of an
+-- operator; the letters and digits directly before begin at this place, and the statement with
+-- them, or what stands behind a closing parenthesis
 
 abbrev pub scan_start : Scan
 scan_start = record { quoted = false; dotted = false; leads = true; start = 0 }
@@ -68,9 +77,22 @@ scan_start = record { quoted = false; dotted = false; leads = true; start = 0 }
 -- behind a mark of this code at this place
 abbrev pub scan_behind : ℕ → ℕ → Scan → Scan
 scan_behind place code s =
-    if s.quoted then record { quoted = not (code == apostrophe); dotted = s.dotted; leads = false; start = suc place }
+    if s.quoted
+    then record {
+      quoted = not (code == apostrophe);
+      dotted = s.dotted;
+      leads = false;
+      start =
+          suc place;
+    }
     else (if is_alphanumeric code then s
-    else record { quoted = code == apostrophe; dotted = if code == 46 then not s.dotted else s.dotted; leads = code == 41; start = suc place })
+    else record {
+      quoted = code == apostrophe;
+      dotted = if code == 46 then not s.dotted
+          else s.dotted;
+      leads = code == 41;
+      start = suc place;
+    })
 
 -- a word may begin behind these marks
 abbrev pub may_begin : Scan → List Mark → Bool

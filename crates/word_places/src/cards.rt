@@ -1,7 +1,8 @@
 //! The columns of a line (ANSI X3.9-1978, 3.2).
 
 ghost use Rattle.std.specs.Prelude.{◌≡◌, ◌≤◌, ◌++◌, ◌&&◌, not, length, drop};
-ghost use Rattle.meaning.specs.Lines.{card, is_comment as is_comment_by, is_initial as is_initial_by};
+ghost use Rattle.meaning.specs.Lines.{card, is_comment as is_comment_by};
+ghost use Rattle.meaning.specs.Lines.{is_initial as is_initial_by};
 ghost use Rattle.meaning.specs.Statements.{is_blank_field};
 
 /// The columns of a line that are read.

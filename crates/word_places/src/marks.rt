@@ -3,7 +3,8 @@
 ghost use Rattle.std.specs.Prelude.{◌≡◌, ◌==◌, ◌++◌, ◌∷◌, [], if◌then◌else◌, IfOk, OnOk};
 ghost use Rattle.meaning.specs.Characters.{blank, raised as raised_code};
 ghost use Rattle.meaning.specs.Lines.{card, lines_of, statement_field};
-ghost use Rattle.word_places.specs.Columns.{marks_behind, marks_from, marks_in, marks_of as marks_at};
+ghost use Rattle.word_places.specs.Columns.{marks_behind, marks_from, marks_in};
+ghost use Rattle.word_places.specs.Columns.{marks_of as marks_at};
 
 use crate::cards::{COLUMNS, card_of, is_comment, is_start};
 use source_columns::line_at;
@@ -33,7 +34,10 @@ fn raised(code: u8) -> u8
 
 /// Puts a character behind others, unless it is a blank.
 fn add_mark(marks: &mut Vec<Mark>, line: u32, column: u32, code: u8) -> Result<(), AllocError>
-    ensures { OnOk result (marks.new.items ≡ marks.old.items ++ (if code == blank then [] else record { line = line; column = column; code = raised_code code } ∷ [])) }
+    ensures { OnOk result
+        (marks.new.items ≡ marks.old.items
+        ++ (if code == blank then []
+        else record { line = line; column = column; code = raised_code code } ∷ [])) }
 {
     if code == b' ' {
         return Ok(());
@@ -49,7 +53,8 @@ fn add_mark(marks: &mut Vec<Mark>, line: u32, column: u32, code: u8) -> Result<(
 /// Puts the characters in columns 7 to 72 of a line behind others.
 #[tactic(auto, using(crate::proofs::Marking::mark_more, crate::proofs::Marking::marks_end))]
 fn add_line(marks: &mut Vec<Mark>, line: u32, columns: &[u8; COLUMNS]) -> Result<(), AllocError>
-    ensures { OnOk result (marks.new.items ≡ marks.old.items ++ marks_from line 7 (statement_field columns.now)) }
+    ensures { OnOk result
+        (marks.new.items ≡ marks.old.items ++ marks_from line 7 (statement_field columns.now)) }
 {
     for index in 6..COLUMNS {
         add_mark(marks, line, index as u32 + 1, columns[index])?;
@@ -64,7 +69,9 @@ fn add_unless(
     is_comment: bool,
     columns: &[u8; COLUMNS],
 ) -> Result<(), AllocError>
-    ensures { OnOk result (marks.new.items ≡ marks.old.items ++ (if is_comment then [] else marks_from line 7 (statement_field columns.now))) }
+    ensures { OnOk result
+        (marks.new.items ≡ marks.old.items
+        ++ (if is_comment then [] else marks_from line 7 (statement_field columns.now))) }
 {
     if is_comment {
         return Ok(());
@@ -75,7 +82,8 @@ fn add_unless(
 /// Puts those of the lines before the next initial line behind others.
 #[tactic(auto, using(crate::proofs::Marking::line_more, crate::proofs::Marking::lines_start, crate::proofs::Marking::lines_last, crate::proofs::Marking::lines_none))]
 fn add_behind(marks: &mut Vec<Mark>, line: u32, source: &[u8]) -> Result<(), AllocError>
-    ensures { OnOk result (marks.new.items ≡ marks.old.items ++ marks_behind line (lines_of source.now)) }
+    ensures { OnOk result
+        (marks.new.items ≡ marks.old.items ++ marks_behind line (lines_of source.now)) }
 {
     let mut number = line;
     let mut rest = source;

@@ -1,9 +1,14 @@
-//! Where a name, a number or a label stands in the lines of a statement (ANSI X3.9-1978, 3.2 and 3.3).
+//! Where a name, a number or a label stands in the lines of a statement (ANSI X3.9-1978, 3.2 and
+//! 3.3).
 
 ghost use Rattle.std.specs.Prelude.{◌≡◌, ◌≤◌, ◌&&◌, [], length, take, drop, option_map, IfOk};
 ghost use Rattle.std.specs.List.{list_all, list_any};
 ghost use Rattle.meaning.specs.Characters.{is_digit as is_digit_code};
-ghost use Rattle.word_places.specs.Columns.{first_mark as first_of, first_word as first_word_in, leading_words, leads_with as leads_with_run, mark_at as mark_in, may_begin as may_begin_behind, may_follow as may_follow_run, place_at, scan_start, stands_here as stands_in};
+ghost use Rattle.word_places.specs.Columns.{first_mark as first_of, first_word as first_word_in};
+ghost use Rattle.word_places.specs.Columns.{leading_words, leads_with as leads_with_run};
+ghost use Rattle.word_places.specs.Columns.{mark_at as mark_in, may_begin as may_begin_behind};
+ghost use Rattle.word_places.specs.Columns.{may_follow as may_follow_run, place_at, scan_start};
+ghost use Rattle.word_places.specs.Columns.{stands_here as stands_in};
 
 use crate::marks::{Mark, marks_of};
 use crate::scan::{Scan, is_alphanumeric};
@@ -102,7 +107,9 @@ fn stands_here(word: &[u8], marks: &[Mark]) -> bool
 /// Whether a word begins at a place.
 fn begins_at(word: &[u8], scan: Scan, marks: &[Mark], place: usize) -> bool
     requires { place ≤ length marks.now }
-    ensures { result ≡ (may_begin_behind scan (take place marks.now) && stands_in word.now (drop place marks.now)) }
+    ensures { result
+        ≡ (may_begin_behind scan (take place marks.now)
+        && stands_in word.now (drop place marks.now)) }
 {
     may_begin(scan, &marks[..place]) && stands_here(word, &marks[place..])
 }
@@ -145,10 +152,11 @@ fn mark_at(word: Option<&[u8]>, marks: &[Mark]) -> Option<Mark>
     }
 }
 
-/// Where a word stands in a statement: its first character, where it stands first as a whole. Blanks in it have no meaning, it may be cut
-/// into lines, and what stands in a character constant, or between the periods of an operator, is none. Without a word, or where it stands
-/// nowhere, the first character of the statement. None only where the source has no such line, or it is blank in columns 7 to 72, as the
-/// lines of the statement behind it are.
+/// Where a word stands in a statement: its first character, where it stands first as a whole.
+/// Blanks in it have no meaning, it may be cut into lines, and what stands in a character constant,
+/// or between the periods of an operator, is none. Without a word, or where it stands nowhere, the
+/// first character of the statement. None only where the source has no such line, or it is blank in
+/// columns 7 to 72, as the lines of the statement behind it are.
 ///
 /// # Errors
 ///
@@ -159,7 +167,8 @@ pub fn place_of(
     line: u32,
     word: Option<&[u8]>,
 ) -> Result<Option<Place>, AllocError>
-    ensures { IfOk result (λ place. place ≡ place_at line (option_map (λ w. w.now) word.entry) source.now) }
+    ensures { IfOk
+        result (λ place. place ≡ place_at line (option_map (λ w. w.now) word.entry) source.now) }
 {
     let marks = marks_of(alloc, line, source)?;
     match mark_at(word, &marks) {

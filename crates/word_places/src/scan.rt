@@ -11,7 +11,8 @@ pub struct Scan {
     pub quoted: bool,
     /// Between the periods of an operator.
     pub dotted: bool,
-    /// The letters and digits directly before begin the statement, or stand behind a closing parenthesis.
+    /// The letters and digits directly before begin the statement, or stand behind a closing
+    /// parenthesis.
     pub leads: bool,
     /// The place at which they begin.
     pub start: usize,

@@ -20,7 +20,8 @@ fn finds_whole_words(rt: HostRuntime) -> Result<(), Fail> {
         ("      I=J+a B\n", 1, "AB", (1, 11)),
         ("      I=J+A\nC AB\n     1B\n", 1, "AB", (1, 11)),
         ("      I=J\n\n     1 +AB\n", 1, "AB", (3, 9)),
-        // neither in a character constant nor between the periods of an operator, nor behind column 72
+        // neither in a character constant nor between the periods of an operator, nor behind column
+        // 72
         ("      WRITE (6,'(1X)') X\n", 1, "X", (1, 24)),
         ("      I=J.EQ.EQ(1)\n", 1, "EQ", (1, 14)),
         (

@@ -11,8 +11,8 @@ use schedules::{Board, Numbered, Ticket};
 use std::sync::{Mutex, Wait};
 use std::thread::{Threads, join};
 
-/// What workers share under one lock: the board, and what no block has been handed yet of that in which runs can be kept. A spare
-/// is handed out in the section of a claim.
+/// What workers share under one lock: the board, and what no block has been handed yet of that in
+/// which runs can be kept. A spare is handed out in the section of a claim.
 #[derive(Drop)]
 pub struct Desk<T: Numbered + Drop, S: Drop> {
     /// The board.
@@ -100,8 +100,8 @@ fn is_missing(missing: u64, worker: u32) -> bool
     0 < worker && worker < 64 && missing >> worker & 1 == 1
 }
 
-// The workers up to one: it is in the calling thread if it is the first; each other is in a thread of its own where one can be made,
-// and in none if it is missing.
+// The workers up to one: it is in the calling thread if it is the first; each other is in a thread
+// of its own where one can be made, and in none if it is missing.
 #[cycle(line)]
 fn work_up_to<
     T: Numbered + Drop + Send,
@@ -128,9 +128,9 @@ fn work_up_to<
     );
 }
 
-// The workers up to one behind the first, and before their threads one that does nothing. Linux hands the first thread that a running
-// thread starts to the processor of that one, where it waits for some milliseconds, and those behind it to other processors: so no
-// worker waits there.
+// The workers up to one behind the first, and before their threads one that does nothing. Linux
+// hands the first thread that a running thread starts to the processor of that one, where it waits
+// for some milliseconds, and those behind it to other processors: so no worker waits there.
 fn work_apart<
     T: Numbered + Drop + Send,
     S: Drop + Send,
@@ -146,9 +146,10 @@ fn work_apart<
     );
 }
 
-/// Runs the blocks of a board by so many workers at once, each in a thread of its own where one can be made, and the first in the
-/// caller's; worker k, for k from 1 to 63, isn't started where bit k of `missing` is set. Each block's run is handed one of the spares,
-/// while there are any. Afterwards each block was posted or lost, once.
+/// Runs the blocks of a board by so many workers at once, each in a thread of its own where one can
+/// be made, and the first in the caller's; worker k, for k from 1 to 63, isn't started where bit k
+/// of `missing` is set. Each block's run is handed one of the spares, while there are any.
+/// Afterwards each block was posted or lost, once.
 pub fn run_all<
     T: Numbered + Drop + Send,
     S: Drop + Send,

@@ -1,4 +1,5 @@
-//! Workers of a stage (own): threads that claim blocks of one board, run them, and post the runs or give them up.
+//! Workers of a stage (own): threads that claim blocks of one board, run them, and post the runs or
+//! give them up.
 #![tactic(auto)]
 
 mod crew;

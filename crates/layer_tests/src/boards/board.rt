@@ -99,7 +99,8 @@ fn claims_posts_and_losses(rt: HostRuntime) -> Result<(), AllocError> {
     Ok(())
 }
 
-/// Another worker's ticket, another block, numbers that there are none of, and a block that came back.
+/// Another worker's ticket, another block, numbers that there are none of, and a block that came
+/// back.
 const REFUSED: &[Step] = &[
     Step::Idle(1, true),
     Step::Idle(2, false),

@@ -114,7 +114,8 @@ fn claims_of(events: &[Event], worker: u32) -> usize {
     count
 }
 
-// Each block is handed a spare while there are any, and the calling thread works whoever is missing.
+// Each block is handed a spare while there are any, and the calling thread works whoever is
+// missing.
 #[test]
 fn spares_are_handed_out(rt: HostRuntime) -> Result<(), AllocError> {
     let board: Board<Run<100>> = Board::new(rt.alloc(), 100, 64)?;

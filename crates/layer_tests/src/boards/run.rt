@@ -1,6 +1,6 @@
 //! Runs for tests.
 
-use schedules::{Board, Numbered, Place, Ticket};
+use schedules::{BlockSlot, Board, Numbered, Ticket};
 
 /// A run of a block of a stage of so many.
 #[derive(Drop, Debug)]
@@ -39,18 +39,22 @@ pub fn lose<const BLOCKS: u32>(board: &mut Board<Run<BLOCKS>>, worker: u32, bloc
     board.lose_in(Ticket { worker, block })
 }
 
-/// What a board has for a block: the value of its run, `None` where it is lost, 99 where it is neither.
-pub fn value_at<const BLOCKS: u32>(places: &[Place<Run<BLOCKS>>], block: usize) -> Option<u32> {
+/// What a board has for a block: the value of its run, `None` where it is lost, 99 where it is
+/// neither.
+pub fn value_at<const BLOCKS: u32>(places: &[BlockSlot<Run<BLOCKS>>], block: usize) -> Option<u32> {
     match places.get(block) {
-        Some(Place::Posted(run)) => Some(run.value),
-        Some(Place::Lost) => None,
-        Some(Place::Open) => Some(99),
+        Some(BlockSlot::Posted(run)) => Some(run.value),
+        Some(BlockSlot::Lost) => None,
+        Some(BlockSlot::Open) => Some(99),
         None => Some(99),
     }
 }
 
 /// Whether a board has these for its blocks, first to last.
-pub fn are_alike<const BLOCKS: u32>(places: &[Place<Run<BLOCKS>>], wanted: &[Option<u32>]) -> bool {
+pub fn are_alike<const BLOCKS: u32>(
+    places: &[BlockSlot<Run<BLOCKS>>],
+    wanted: &[Option<u32>],
+) -> bool {
     for (block, value) in wanted.iter().enumerate() {
         if value_at(places, block) != *value {
             return false;

@@ -6,7 +6,8 @@ use parser::form;
 use std::alloc::{AllocError, Global};
 use std::process::Abort;
 
-/// A front, a text and how often it stands behind it, an end, and how many parentheses are closed behind that.
+/// A front, a text and how often it stands behind it, an end, and how many parentheses are closed
+/// behind that.
 type Parts = (&'static str, &'static str, usize, &'static str, usize);
 
 fn text_of(alloc: Global, parts: Parts) -> Result<Vec<u8>, AllocError> {
@@ -65,13 +66,14 @@ fn parentheses(rt: HostRuntime) {
 }
 
 const LONGEST: &[Parts] = &[
-    // A value inside as many parentheses as may be open at once, each with a sign and operators before it too, or a name.
+    // A value inside as many parentheses as may be open at once, each with a sign and operators
+    // before it too, or a name.
     ("I=", "(", 64, "1", 64),
     ("I=", "-J+K*(", 64, "1", 64),
     ("I=", "A(", 64, "1", 64),
     ("I=", "-J+A(2)*B(", 64, "1", 64),
-    // The deepest expressions that 1320 characters can hold are read within the stack: 439 `**`, 659 operators of one
-    // level, 64 parentheses, and both together.
+    // The deepest expressions that 1320 characters can hold are read within the stack: 439 `**`,
+    // 659 operators of one level, 64 parentheses, and both together.
     ("I=A", "**A", 439, "", 0),
     ("I=-A", "-A", 658, "", 0),
     ("I=A", ".OR.A", 263, "", 0),

@@ -116,7 +116,8 @@ fn kinds(rt: HostRuntime) {
     }
 }
 
-/// What is seen outside apostrophes: an equals sign outside parentheses, and whether parentheses pair up.
+/// What is seen outside apostrophes: an equals sign outside parentheses, and whether parentheses
+/// pair up.
 const SCANS: &[(&str, bool, bool)] = &[
     ("A(I)=1", true, true),
     ("A(I=1)", false, true),

@@ -1,11 +1,13 @@
-//! Statements by their lines and columns; what breaks a rule stands in tests/columns.txt, which is run over the program.
+//! Statements by their lines and columns; what breaks a rule stands in tests/columns.txt, which is
+//! run over the program.
 
 use meaning::statement::Statement;
 use source_columns::statements;
 use std::alloc::Global;
 use std::process::Abort;
 
-/// A statement: its line, its label, and the texts in columns 7 to 72 of its lines, without blanks behind.
+/// A statement: its line, its label, and the texts in columns 7 to 72 of its lines, without blanks
+/// behind.
 type Found = (u32, Option<u32>, &'static [&'static [u8]]);
 
 /// Sources and their statements.

@@ -1,6 +1,6 @@
 //! Dimensions, and the cells that places lead to.
 
-use expressions::{Dimension, Place};
+use expressions::{Dimension, ElementAddress};
 use meaning::cell::Cell;
 
 const BOUNDS: &[Dimension] = &[
@@ -10,10 +10,10 @@ const BOUNDS: &[Dimension] = &[
 
 #[test]
 fn places(rt: HostRuntime) {
-    assert!(rt; Place::new(1, &[]).cell() == Some(Cell(1)));
-    assert!(rt; Place::new(2, BOUNDS).cell() == None);
-    assert!(rt; Place::new(2, BOUNDS).size() == 6);
-    assert!(rt; Place::nowhere().cell() == None);
+    assert!(rt; ElementAddress::new(1, &[]).cell() == Some(Cell(1)));
+    assert!(rt; ElementAddress::new(2, BOUNDS).cell() == None);
+    assert!(rt; ElementAddress::new(2, BOUNDS).size() == 6);
+    assert!(rt; ElementAddress::nowhere().cell() == None);
 }
 
 /// Bounds, a subscript, the extent and how far the subscript stands above the lower bound.

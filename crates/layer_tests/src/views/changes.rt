@@ -4,7 +4,7 @@ ghost use Rattle.std.specs.Prelude.{◌≡◌, ◌<◌, ◌≤◌, IfOk, length}
 
 use array_store::{Store, Whole};
 use meaning::cell::Cell;
-use private_view::{Changes, View};
+use private_view::{View, WriteSet};
 use std::alloc::{AllocError, Global};
 use std::process::Abort;
 use std::test::*;
@@ -61,8 +61,9 @@ fn write_page(view: &mut View<'_>) -> Result<(), AllocError>
     Ok(())
 }
 
-/// What a view wrote that read cell 65, and wrote cell 64 and all of the first page. It shows both pages.
-fn first_changes(rt: &impl Abort, alloc: Global, base: &Whole) -> Result<Changes, AllocError>
+/// What a view wrote that read cell 65, and wrote cell 64 and all of the first page. It shows both
+/// pages.
+fn first_changes(rt: &impl Abort, alloc: Global, base: &Whole) -> Result<WriteSet, AllocError>
     requires { length base.now ≡ 130 }
     ensures { IfOk result (λ c. c.cells ≡ 130) }
 {
@@ -89,7 +90,8 @@ fn check_first(rt: &impl Abort, cells: &[i32]) {
     }
 }
 
-/// Uses a view again: it reads what the base has, and writes cell 129, cell 2 and cell 64, so that pages are copied in another order.
+/// Uses a view again: it reads what the base has, and writes cell 129, cell 2 and cell 64, so that
+/// pages are copied in another order.
 fn use_again(rt: &impl Abort, view: &mut View<'_>) -> Result<(), AllocError>
     requires { length view.old.base ≡ 130 }
     ensures { length view.new.base ≡ 130 }
@@ -123,7 +125,7 @@ fn check_again(rt: &impl Abort, cells: &[i32]) {
 }
 
 /// Puts what was written into a store of sevens, and answers it.
-fn applied(rt: &impl Abort, alloc: Global, changes: &Changes) -> Result<Whole, AllocError>
+fn applied(rt: &impl Abort, alloc: Global, changes: &WriteSet) -> Result<Whole, AllocError>
     requires { changes.now.cells ≡ 130 }
 {
     let mut target = sevens(alloc, CELLS)?;

@@ -98,7 +98,8 @@ fn words(rt: HostRuntime) -> Result<(), Fail> {
 /// The last cell of the first eight words, the first one behind them, and the last of 16,777,216.
 const GROUPS: &[usize] = &[511, 512, 16_777_215];
 
-// A set that was cleared has no cell and meets none, its words stay and are 0, and cells can be set again.
+// A set that was cleared has no cell and meets none, its words stay and are 0, and cells can be set
+// again.
 #[test]
 fn clear(rt: HostRuntime) -> Result<(), Fail> {
     let mut marks = set_of(rt.alloc(), GROUPS)?;
@@ -132,7 +133,8 @@ fn check_first(rt: &impl Abort, marks: &Marks, count: usize) {
     }
 }
 
-/// Sets the next cell of a set, which stays as it was where an allocation is refused; then the cell can be set.
+/// Sets the next cell of a set, which stays as it was where an allocation is refused; then the cell
+/// can be set.
 fn set_next(rt: &impl Abort, marks: &mut Marks, number: usize) {
     if marks.set(Cell(number)).is_err() {
         check_first(rt, marks, number);
@@ -150,7 +152,8 @@ fn refused(rt: HostRuntime) {
     }
 }
 
-/// Cells that are to be set where words for the first 704 are there, and whether that takes no memory.
+/// Cells that are to be set where words for the first 704 are there, and whether that takes no
+/// memory.
 const AT_HAND: &[(usize, bool)] = &[
     (63, true),
     (511, true),

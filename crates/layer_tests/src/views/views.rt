@@ -42,8 +42,8 @@ const BASE: &[i32] = &[10, 11, 12, 13, 14, 15, 16, 17, 18, 19];
 
 const BEHIND: &[i32] = &[10, 100, 12, 13, 41, 15, 16, 17, 18, 2_147_483_647];
 
-/// Cell 1 is read twice and then written, cell 4 is written, read and written again, cell 9 is written and read, and cells
-/// 0 and 6 are read alone.
+/// Cell 1 is read twice and then written, cell 4 is written, read and written again, cell 9 is
+/// written and read, and cells 0 and 6 are read alone.
 const STORY: &[Step] = &[
     Reads(1, 11),
     Reads(1, 11),
@@ -59,7 +59,8 @@ const STORY: &[Step] = &[
     Finds(9, 2_147_483_647),
 ];
 
-/// Cells 1 and 2 are written; the value that cell 1 has in the base is read before, and nothing is read of cell 0.
+/// Cells 1 and 2 are written; the value that cell 1 has in the base is read before, and nothing is
+/// read of cell 0.
 const SHORT_STORY: &[Step] = &[
     Reads(1, 6),
     Writes(1, 9),
@@ -210,8 +211,9 @@ fn story_of_a_whole_store(rt: HostRuntime) -> Result<(), Fail> {
     Ok(())
 }
 
-/// What two blocks over the same three cells do, and whether the one behind exposes what the one before wrote. The block before
-/// writes cell 1, and the block behind writes it before it reads it, or only reads it.
+/// What two blocks over the same three cells do, and whether the one behind exposes what the one
+/// before wrote. The block before writes cell 1, and the block behind writes it before it reads it,
+/// or only reads it.
 const MEETINGS: &[(&[Step], &[Step], bool)] = &[
     (
         &[Writes(1, 20)],
@@ -370,7 +372,8 @@ fn last_pages(rt: HostRuntime) -> Result<(), Fail> {
 /// So many cells that several pages are copied.
 const MANY: usize = 300;
 
-/// Reads a cell, and asserts that the view is lost where the cell couldn't be marked, and only then.
+/// Reads a cell, and asserts that the view is lost where the cell couldn't be marked, and only
+/// then.
 fn reads(rt: &impl Abort, view: &mut View<'_>, number: usize, want: i32)
     requires { number < length view.old.base }
     ensures { length view.new.base ≡ length view.old.base }
@@ -382,7 +385,8 @@ fn reads(rt: &impl Abort, view: &mut View<'_>, number: usize, want: i32)
     assert!(rt; view.is_lost() == (was_lost || !is_marked), "{number}");
 }
 
-/// Writes a cell for the first time, and asserts that a refused write isn't told as written; then writes it again.
+/// Writes a cell for the first time, and asserts that a refused write isn't told as written; then
+/// writes it again.
 fn writes(rt: &impl Abort, view: &mut View<'_>, number: usize, value: i32)
     requires { number < length view.old.base }
     ensures { length view.new.base ≡ length view.old.base }
@@ -447,7 +451,8 @@ fn mark_and_apply(rt: &impl Abort, alloc: Global, base: &Whole, target: &mut Who
     view.apply(target);
 }
 
-// Where an allocation is refused, a write leaves the view as it was, and a read answers its value and loses the view.
+// Where an allocation is refused, a write leaves the view as it was, and a read answers its value
+// and loses the view.
 #[test]
 fn refused(rt: HostRuntime) -> Result<(), Fail> {
     let base = Whole::new(rt.alloc(), FIVES)?;

@@ -1,5 +1,6 @@
-//! The whole program over words, and over readers and writers in memory that fail: its exit status and its line on standard error. What it
-//! says of all else is asked of the program as it is built, by `tests/run`.
+//! The whole program over words, and over readers and writers in memory that fail: its exit status
+//! and its line on standard error. What it says of all else is asked of the program as it is built,
+//! by `tests/run`.
 
 use engine::engine;
 use std::env::{Env, FillError};
@@ -74,7 +75,8 @@ impl Write for Narrow {
 
 const ANSWER: &str = "      WRITE (6,10) 42\n   10 FORMAT (1X,I5)\n      END\n";
 
-// A value past the labels of a computed GO TO, a record, an arithmetic IF that goes past a STOP statement, and another.
+// A value past the labels of a computed GO TO, a record, an arithmetic IF that goes past a STOP
+// statement, and another.
 const NEXT_AND_STOP: &str =
     "      GO TO (30,40),3\n      WRITE (6,10)\n   10 FORMAT ('NEXT')\n   30 IF (0) 40,50,40\n   40 STOP 'WRONG'\n   50 STOP 7\n      END\n";
 
@@ -85,7 +87,8 @@ const ALONE: &str = "WRITE REFUSED\n";
 
 const EXPLAINED: &str = "WRITE REFUSED\n<stdout>: broken pipe\n";
 
-// Words, a source, how many bytes of what is written there is room for, or with the flush behind them, and what is told.
+// Words, a source, how many bytes of what is written there is room for, or with the flush behind
+// them, and what is told.
 const REFUSED: &[(&[&[u8]], &str, usize, &str)] = &[
     // in the record, and at the flush behind it
     (&[b"f77run"], ANSWER, 0, ALONE),
@@ -116,7 +119,8 @@ fn writes_that_are_refused(rt: HostRuntime) {
     }
 }
 
-// Words, a source, how many bytes of standard error there is room for, the exit status, and the records.
+// Words, a source, how many bytes of standard error there is room for, the exit status, and the
+// records.
 const UNTOLD: &[(&[&[u8]], &str, usize, u8, &str)] = &[
     (&[b"f77run"], NEXT_AND_STOP, 0, 0, "NEXT\n"),
     (&[b"f77run"], NEXT_AND_STOP, 4, 0, "NEXT\n"),

@@ -1,5 +1,6 @@
-//! What the words of command lines ask for. The expected values are worked from what `f77run --help` says; what is wrong with other words is
-//! asked of the program as it is built, by `tests/run`.
+//! What the words of command lines ask for. The expected values are worked from what `f77run
+//! --help` says; what is wrong with other words is asked of the program as it is built, by
+//! `tests/run`.
 
 use command_line::asked::{Mode, Options, OptionsFault, Setting, Speculation};
 use command_line::options::options;

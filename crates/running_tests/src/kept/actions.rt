@@ -1,7 +1,7 @@
 //! What a program keeps of each statement.
 
 use crate::kept::sources::program_of;
-use programs::{Action, ListCode, ListCodes, Target};
+use program::{Action, ListCode, ListCodes, Target};
 use std::test::*;
 
 /// What is kept, by a word.
@@ -54,7 +54,8 @@ fn kept_by_line(rt: HostRuntime) {
     drop(program);
 }
 
-/// A name is found in its cell: variables are numbered in the order of their first appearance, and then arrays.
+/// A name is found in its cell: variables are numbered in the order of their first appearance, and
+/// then arrays.
 #[test]
 fn cells_by_name(rt: HostRuntime) {
     let program = program_of(&rt, rt.alloc(), STATEMENTS);
@@ -74,8 +75,8 @@ const LISTED: &[&[u8]] = &[
     b"IF(I.EQ.0)PRINT'(I4)',I",
 ];
 
-/// Which item it is, with how many instructions the code of an expression has, with the first cell and the number of cells of an
-/// array, or with the cell of the variable of an implied DO.
+/// Which item it is, with how many instructions the code of an expression has, with the first cell
+/// and the number of cells of an array, or with the cell of the variable of an implied DO.
 fn item_told(item: &ListCode) -> (&'static str, usize, usize) {
     match item {
         ListCode::Value(code) => ("value", code.len(), 0),

@@ -2,7 +2,7 @@
 
 use crate::kept::sources::program_of;
 use postfix::Code;
-use programs::{Action, Program};
+use program::{Action, Program};
 use std::test::*;
 
 /// The code of the value of the assignment at a line.
@@ -13,12 +13,15 @@ fn value_at(program: &Program, line: u32) -> Option<&Code> {
     }
 }
 
-/// Constants and operators are an instruction each, but for an operator with a constant or a variable behind it, and `+`, `-` and `*` with
-/// an element of the last kind behind it, which are one together, unless it is `**` with a constant; and an operator on two variables, or
-/// on a variable and a constant, is one. A variable is one alone or as a subscript, and so is an element whose subscripts, up to three, are
-/// variables, or sums or differences of a variable and a constant behind it. Of more such subscripts the first three are one, and the
-/// others one for each two, or for one that is left; the load of the element is one more. `MOD` of a constant takes that along. An operator
-/// on two constants is a constant, and constants that are added and subtracted one after another are one instruction.
+/// Constants and operators are an instruction each, but for an operator with a constant or a
+/// variable behind it, and `+`, `-` and `*` with an element of the last kind behind it, which are
+/// one together, unless it is `**` with a constant; and an operator on two variables, or on a
+/// variable and a constant, is one. A variable is one alone or as a subscript, and so is an element
+/// whose subscripts, up to three, are variables, or sums or differences of a variable and a
+/// constant behind it. Of more such subscripts the first three are one, and the others one for each
+/// two, or for one that is left; the load of the element is one more. `MOD` of a constant takes
+/// that along. An operator on two constants is a constant, and constants that are added and
+/// subtracted one after another are one instruction.
 const LENGTHS: &[(&[u8], usize)] = &[
     (b"I=1", 1),
     (b"I=J", 1),
@@ -72,7 +75,8 @@ fn lengths(rt: HostRuntime) {
     }
 }
 
-/// 440 times 1 with `**` between: 1,320 characters with `I=`, on 20 lines. Each 1 and each `**` is an instruction.
+/// 440 times 1 with `**` between: 1,320 characters with `I=`, on 20 lines. Each 1 and each `**` is
+/// an instruction.
 #[test]
 fn powers(rt: HostRuntime) -> Result<(), Fail> {
     let mut text = Vec::new(rt.alloc());

@@ -1,7 +1,7 @@
 //! Programs from the texts of their statements.
 
 use in_order::program_in;
-use programs::Program;
+use program::Program;
 use std::alloc::{AllocError, Global};
 use std::process::Abort;
 

@@ -2,7 +2,7 @@
 
 ghost use Rattle.std.specs.Prelude.{◌≡◌, ◌<◌, length};
 ghost use Rattle.meaning.specs.Trees.{flat, members_tree};
-ghost use Rattle.numbering.specs.Checked.{count_in};
+ghost use Rattle.storage.specs.Checked.{count_in};
 ghost use Rattle.evaluator.specs.Known.{AreStatements};
 ghost use Rattle.program_runs.specs.Allowed.{IsAllowed};
 
@@ -11,7 +11,7 @@ use in_order::program_in;
 use meaning::ending::{Outcome, Run};
 use meaning::plan::Plan;
 use meaning::syntax::Member;
-use programs::Program;
+use program::Program;
 use stage_loop::{Open, run_loop};
 use std::alloc::Global;
 use std::process::Abort;
@@ -19,7 +19,8 @@ use std::sync::Wait;
 use std::test::*;
 use std::thread::Threads;
 
-/// I's cell is 0, those of A's elements are 1 to 10. The DO statement stands at place 1 of the body.
+/// I's cell is 0, those of A's elements are 1 to 10. The DO statement stands at place 1 of the
+/// body.
 const SOURCE: &str = "      INTEGER A(10)\n      DO 10 I=1,10\n   10 A(I)=I*I\n      END\n";
 
 const SQUARES: [i32; 11] = [11, 1, 4, 9, 16, 25, 36, 49, 64, 81, 100];
@@ -41,7 +42,7 @@ fn run_at<R: Abort + Threads + Wait + Sync>(
 {
     match &members[place] {
         Member::Loop(repeated) => {
-            if program.is_loud(repeated.head.line) {
+            if program.has_output(repeated.head.line) {
                 return None;
             }
             let run = run_loop(rt, alloc, program, repeated, cells, 1_000, plan, &Open);

@@ -1,4 +1,5 @@
-//! Single blocks of DO statements, and where their first stages are cut. The figures are worked by hand.
+//! Single blocks of DO statements, and where their first stages are cut. The figures are worked by
+//! hand.
 
 use crate::staged::row::{Row, check_row, run_row};
 use crate::staged::seen::Seen;
@@ -32,7 +33,8 @@ pub const PERMUTED: &[Seen] = &[
     },
 ];
 
-/// A recurrence: I has cell 0, A 1 to 9. Each trip adds 1 to the element before, which is 0 in the base.
+/// A recurrence: I has cell 0, A 1 to 9. Each trip adds 1 to the element before, which is 0 in the
+/// base.
 const RECURRENCE: &[Seen] = &[
     Seen {
         exposed: &[1],
@@ -382,7 +384,8 @@ const NESTED: &[Seen] = &[
     },
 ];
 
-/// I has cell 0, J 1, K 2. K is read where the condition is true alone, and STOP ends the last block.
+/// I has cell 0, J 1, K 2. K is read where the condition is true alone, and STOP ends the last
+/// block.
 const ONE_ARM: &[Seen] = &[
     Seen {
         exposed: &[],

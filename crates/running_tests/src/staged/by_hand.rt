@@ -8,7 +8,7 @@ use crate::staged::states::commit_checked;
 use crate::staged::watch::Watch;
 use array_store::Whole;
 use block_stage::{
-    Board, Cause, Event, Job, JobKey, Open, Posted, StageTold, Ticket, cut, run_block, told_of,
+    Board, Cause, Event, Job, JobKey, Open, Posted, StageStats, Ticket, cut, run_block, told_of,
 };
 use std::alloc::Global;
 use std::marker::Brand;
@@ -127,8 +127,8 @@ pub struct ByHand {
 }
 
 /// What is told of a stage of four blocks of two trips, one of which was lost.
-fn told_with_a_loss(by_hand: &ByHand) -> StageTold {
-    StageTold {
+fn told_with_a_loss(by_hand: &ByHand) -> StageStats {
+    StageStats {
         trips: 8,
         size: 2,
         blocks: 4,

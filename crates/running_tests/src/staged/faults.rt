@@ -1,4 +1,5 @@
-//! Single blocks that fault or meet the turn limit, and where their first stages are cut. The figures are worked by hand.
+//! Single blocks that fault or meet the turn limit, and where their first stages are cut. The
+//! figures are worked by hand.
 
 use crate::staged::row::{Row, check_row};
 use crate::staged::seen::Seen;
@@ -40,7 +41,8 @@ const NO_TURN_5: Fault = Fault {
     line: 5,
 };
 
-/// I has cell 0, A 1 to 3. The first trip misses A by its I, which is 0, and ends its block; trips 3 and 4 set A(2) and A(3).
+/// I has cell 0, A 1 to 3. The first trip misses A by its I, which is 0, and ends its block; trips
+/// 3 and 4 set A(2) and A(3).
 const FIRST_TRIP: &[Seen] = &[
     Seen {
         exposed: &[],
@@ -56,7 +58,8 @@ const FIRST_TRIP: &[Seen] = &[
     },
 ];
 
-/// Z has cell 0, I 1, A 2 to 5, B 6 to 9. Each block faults in its first trip, with B(I) and Z read, and A(I) not written.
+/// Z has cell 0, I 1, A 2 to 5, B 6 to 9. Each block faults in its first trip, with B(I) and Z
+/// read, and A(I) not written.
 const BOTH_FIRST_TRIPS: &[Seen] = &[
     Seen {
         exposed: &[0, 6],
@@ -88,8 +91,8 @@ const LAST_TRIP: &[Seen] = &[
     },
 ];
 
-/// I has cell 0, A 1 to 3. The trips have I = -2147483646, -2147483647 and -2147483648, so the addition behind the third, which
-/// is the last block's only one, leaves INTEGER, and I stays.
+/// I has cell 0, A 1 to 3. The trips have I = -2147483646, -2147483647 and -2147483648, so the
+/// addition behind the third, which is the last block's only one, leaves INTEGER, and I stays.
 const LAST_ADDITION: &[Seen] = &[
     Seen {
         exposed: &[],
@@ -105,8 +108,8 @@ const LAST_ADDITION: &[Seen] = &[
     },
 ];
 
-/// I has cell 0, K 1 to 100. The DO statement takes one of 6 turns, so each block has 5 for 7 trips: five of these are whole, and
-/// the sixth has its I and no turn.
+/// I has cell 0, K 1 to 100. The DO statement takes one of 6 turns, so each block has 5 for 7
+/// trips: five of these are whole, and the sixth has its I and no turn.
 const FIVE_OF_SEVEN: &[Seen] = &[
     Seen {
         exposed: &[],
@@ -144,8 +147,9 @@ const ONLY_TURN: &[Seen] = &[
     },
 ];
 
-/// I has cell 0, J 1, K 2 to 5. Trip I takes a turn for the inner DO statement, I turns for its range and one for CONTINUE, so 3, 4, 5
-/// and 6, and each block has 5: they are just enough for the third trip, and the fourth misses the last of its own.
+/// I has cell 0, J 1, K 2 to 5. Trip I takes a turn for the inner DO statement, I turns for its
+/// range and one for CONTINUE, so 3, 4, 5 and 6, and each block has 5: they are just enough for the
+/// third trip, and the fourth misses the last of its own.
 const UNEVEN: &[Seen] = &[
     Seen {
         exposed: &[],

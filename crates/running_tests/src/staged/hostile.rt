@@ -1,5 +1,6 @@
-//! Loops by stages between two requests of memory that nothing else makes. By these `checks/hostile` knows where a loop begins and ends, and
-//! refuses requests and threads in between, one or many, with which each of these tests must pass as it does by itself.
+//! Loops by stages between two requests of memory that nothing else makes. By these
+//! `checks/hostile` knows where a loop begins and ends, and refuses requests and threads in
+//! between, one or many, with which each of these tests must pass as it does by itself.
 
 ghost use Rattle.executor.specs.Calls.{IsAsked, IsGiven};
 
@@ -10,8 +11,8 @@ use executor::{Out, Staged, Unwatched};
 use meaning::ending::{Ending, Fault, FaultKind};
 use meaning::plan::Plan;
 use meaning::syntax::Loop;
-use programs::{Program, Repeat};
-use stage_loop::{Kept, StageTold, Watcher, run_some_trips};
+use program::{Program, Repeat};
+use stage_loop::{DoLoop, LoopHistory, Observer, Speculation, StageStats, run_some_trips};
 use std::alloc::Global;
 use std::cell::Cell;
 use std::process::Abort;
@@ -19,7 +20,8 @@ use std::sync::Wait;
 use std::thread::Threads;
 use whole_runs::{Advance, Remaining};
 
-/// Bytes that are asked for before a loop, and behind it, and nowhere else. `checks/hostile` has the same numbers.
+/// Bytes that are asked for before a loop, and behind it, and nowhere else. `checks/hostile` has
+/// the same numbers.
 const BEFORE: usize = 77_771;
 
 const BEHIND: usize = 77_773;
@@ -34,15 +36,16 @@ struct Worked {
     fault: Option<Fault>,
 }
 
-// Asks for so many bytes, and keeps them until bytes are asked for again, so that no compiler leaves the request out. Whether there are
-// any is nobody's business.
+// Asks for so many bytes, and keeps them until bytes are asked for again, so that no compiler
+// leaves the request out. Whether there are any is nobody's business.
 fn ask(alloc: Global, size: usize, asked: &Cell<Vec<u8>>) {
     if let Ok(bytes) = Vec::with_capacity(alloc, size) {
         asked.set(bytes);
     }
 }
 
-/// What comes of a run: how it ends, what it writes, how many loops there were, and how many blocks entered the gate.
+/// What comes of a run: how it ends, what it writes, how many loops there were, and how many blocks
+/// entered the gate.
 #[derive(Drop)]
 struct Ran {
     ending: Ending,
@@ -52,10 +55,21 @@ struct Ran {
 }
 
 // Runs a source whose loops are run by stages between two requests.
-fn run<R: Abort + Threads + Wait + Sync>(rt: &R, alloc: Global, source: &[u8], plan: &Plan) -> Ran {
+fn run<'x, R: Abort + Threads + Wait + Sync>(
+    rt: &'x R,
+    alloc: Global,
+    source: &[u8],
+    plan: &'x Plan,
+) -> Ran {
     let gate = Counting::new();
     let asked = Cell::new(Vec::new(alloc));
     let loops = Cell::new(0_u64);
+    let context = Speculation {
+        rt,
+        alloc,
+        plan,
+        gate: &gate,
+    };
     let staged = Staged {
         call: |program: &Program, repeated: &Loop, repeat: &Repeat, remaining: Remaining, cells: &mut Whole, turns: &mut u64| -> Advance
             requires { IsAsked program.now repeated.now repeat.now remaining cells.now }
@@ -63,11 +77,15 @@ fn run<R: Abort + Threads + Wait + Sync>(rt: &R, alloc: Global, source: &[u8], p
                 turns.old turns.new result }
         {
             loops.set(loops.get().saturating_add(1));
-            let mut kept = Kept::new(alloc);
+            let mut kept = LoopHistory::new(alloc);
             ask(alloc, BEFORE, &asked);
+            let statement = DoLoop {
+                program,
+                repeated,
+                repeat,
+            };
             let advance = run_some_trips(
-                rt, alloc, program, repeated, repeat, remaining, cells, turns, plan, &mut kept,
-                &gate, &Unwatched,
+                &context, &Unwatched, &statement, remaining, cells, turns, &mut kept,
             );
             ask(alloc, BEHIND, &asked);
             advance
@@ -156,13 +174,13 @@ impl Tally {
     }
 }
 
-impl Watcher for Tally {
+impl Observer for Tally {
     fn reached(&self, _line: u32, trips: u64) {
         self.reached.set(self.reached.get().saturating_add(1));
         self.trips.set(self.trips.get().saturating_add(trips));
     }
 
-    fn staged(&self, _line: u32, _done: u64, told: &StageTold) {
+    fn staged(&self, _line: u32, _done: u64, told: &StageStats) {
         let lost = told.blocks.saturating_sub(told.run);
         self.run.set(self.run.get().saturating_add(told.run as u64));
         self.lost.set(self.lost.get().saturating_add(lost as u64));
@@ -180,6 +198,12 @@ fn run_told<R: Abort + Threads + Wait + Sync>(
     let gate = Counting::new();
     let asked = Cell::new(Vec::new(alloc));
     let loops = Cell::new(0_u64);
+    let context = Speculation {
+        rt,
+        alloc,
+        plan,
+        gate: &gate,
+    };
     let staged = Staged {
         call: |program: &Program, repeated: &Loop, repeat: &Repeat, remaining: Remaining, cells: &mut Whole, turns: &mut u64| -> Advance
             requires { IsAsked program.now repeated.now repeat.now remaining cells.now }
@@ -187,11 +211,15 @@ fn run_told<R: Abort + Threads + Wait + Sync>(
                 turns.old turns.new result }
         {
             loops.set(loops.get().saturating_add(1));
-            let mut kept = Kept::new(alloc);
+            let mut kept = LoopHistory::new(alloc);
             ask(alloc, BEFORE, &asked);
+            let statement = DoLoop {
+                program,
+                repeated,
+                repeat,
+            };
             let advance = run_some_trips(
-                rt, alloc, program, repeated, repeat, remaining, cells, turns, plan, &mut kept,
-                &gate, tally,
+                &context, tally, &statement, remaining, cells, turns, &mut kept,
             );
             ask(alloc, BEHIND, &asked);
             advance

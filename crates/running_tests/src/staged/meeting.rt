@@ -14,7 +14,8 @@ use std::sync::Wait;
 use std::sync::atomic::{AtomicU64, Ordering};
 use std::thread::Threads;
 
-/// Block 0 waits until block 1 has entered, for so many looks at most. It counts the blocks that enter.
+/// Block 0 waits until block 1 has entered, for so many looks at most. It counts the blocks that
+/// enter.
 #[derive(Drop)]
 pub struct Meeting {
     entries: AtomicU64,
@@ -64,7 +65,8 @@ pub fn see_meeting<R: Abort + Threads + Wait + Sync>(
     assert!(rt; place == 4, "{place}");
 }
 
-/// Runs the blocks of a stage through a gate by 64 workers, none of which is started but the calling thread, and commits it.
+/// Runs the blocks of a stage through a gate by 64 workers, none of which is started but the
+/// calling thread, and commits it.
 pub fn see_alone<R: Abort + Threads + Wait + Sync>(
     rt: &R,
     alloc: Global,
@@ -84,7 +86,8 @@ pub fn see_alone<R: Abort + Threads + Wait + Sync>(
 pub const SOURCE: &str =
     "      INTEGER A(8),K(8)\n      DATA K/3,1,4,8,5,2,7,6/\n      DO 10 I=1,8\n   10 A(K(I))=I\n      END\n";
 
-/// The cells in front of the stage, where I has its first value, and behind each block of two trips.
+/// The cells in front of the stage, where I has its first value, and behind each block of two
+/// trips.
 pub const STATES: &[State] = &[
     State {
         cells: &[1, 0, 0, 0, 0, 0, 0, 0, 0, 3, 1, 4, 8, 5, 2, 7, 6],
@@ -132,7 +135,8 @@ fn two_blocks_at_once(rt: HostRuntime) {
     assert!(rt; meeting.entries.into_inner() == 4);
 }
 
-// The calling thread runs all blocks, one behind the other, so that the first one waits in vain for the second.
+// The calling thread runs all blocks, one behind the other, so that the first one waits in vain for
+// the second.
 #[test]
 fn one_thread_runs_all_blocks(rt: HostRuntime) {
     let meeting = new_meeting();

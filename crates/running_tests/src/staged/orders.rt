@@ -1,4 +1,5 @@
-//! The board of a job in one thread: all orders in which workers can post four blocks, also with a block that is lost.
+//! The board of a job in one thread: all orders in which workers can post four blocks, also with a
+//! block that is lost.
 
 ghost use Rattle.std.specs.Prelude.{◌≡◌};
 
@@ -17,7 +18,8 @@ use std::thread::Threads;
 /// How many blocks there are. Where a block of this number is to be lost, none is.
 const BLOCKS: u32 = 4;
 
-/// How many workers there are, when they claim, and how many orders of posting they can bring about.
+/// How many workers there are, when they claim, and how many orders of posting they can bring
+/// about.
 #[derive(Clone, Copy)]
 pub struct Orders {
     // 4 at most.
@@ -27,7 +29,8 @@ pub struct Orders {
     count: u64,
 }
 
-/// Four workers can post four blocks in any order. Two have two of them out at most, so that each of the first three posts is one of two.
+/// Four workers can post four blocks in any order. Two have two of them out at most, so that each
+/// of the first three posts is one of two.
 const ORDERS: &[Orders] = &[
     Orders {
         workers: 2,
@@ -103,7 +106,8 @@ fn give_back(hands: &mut Hands, block: u32, lost: u32) -> Result<bool, AllocErro
     Ok(true)
 }
 
-// The steps by which blocks are given back in this order, one of them lost; none where the workers can't bring it about.
+// The steps by which blocks are given back in this order, one of them lost; none where the workers
+// can't bring it about.
 fn steps_of(
     alloc: Global,
     orders: Orders,
@@ -142,7 +146,8 @@ fn cut_behind<R: Abort>(
     commit_checked(rt, posted, &mut target, STATES)
 }
 
-// Plays an order with each block lost in turn, and with none. It answers whether the workers can bring the order about.
+// Plays an order with each block lost in turn, and with none. It answers whether the workers can
+// bring the order about.
 fn plays<R: Abort>(
     rt: &R,
     alloc: Global,
@@ -167,8 +172,9 @@ fn plays<R: Abort>(
     true
 }
 
-/// Plays all orders of four blocks, each also with each block lost in turn: the stage is cut at the lost block, or behind the last one,
-/// and the blocks before that are committed. Of all lists of four blocks workers can bring about those alone in which none stands twice.
+/// Plays all orders of four blocks, each also with each block lost in turn: the stage is cut at the
+/// lost block, or behind the last one, and the blocks before that are committed. Of all lists of
+/// four blocks workers can bring about those alone in which none stands twice.
 pub fn see_orders<R: Abort>(
     rt: &R,
     alloc: Global,

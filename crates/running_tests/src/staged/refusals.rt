@@ -1,5 +1,6 @@
-//! Want of memory: blocks and stages of which one allocation at most is refused, as `rt try --test --fail-alloc N` refuses the Nth, and
-//! as `checks/hostile` refuses each in turn. What comes of them with ample memory, `blocks` and `meeting` look at.
+//! Want of memory: blocks and stages of which one allocation at most is refused, as `rt try --test
+//! --fail-alloc N` refuses the Nth, and as `checks/hostile` refuses each in turn. What comes of
+//! them with ample memory, `blocks` and `meeting` look at.
 
 ghost use Rattle.std.specs.Prelude.{◌≡◌};
 
@@ -41,8 +42,8 @@ pub fn see_blocks<R: Abort + Threads + Wait + Sync>(
     let _ = looked.refused.fetch_add(refused, Ordering::SeqCst);
 }
 
-/// Runs a stage by so many workers. What is committed of it are some first blocks, and the last of the states is that behind those before the
-/// wanted cut.
+/// Runs a stage by so many workers. What is committed of it are some first blocks, and the last of
+/// the states is that behind those before the wanted cut.
 #[derive(Drop)]
 pub struct Stage {
     workers: u32,
@@ -85,8 +86,8 @@ pub fn see_stage<R: Abort + Threads + Wait + Sync>(
     }
 }
 
-// How often want of memory was seen in a run, where a stage or its blocks were refused so often: where the run ended so, or its only DO
-// statement wasn't looked at.
+// How often want of memory was seen in a run, where a stage or its blocks were refused so often:
+// where the run ended so, or its only DO statement wasn't looked at.
 fn refused_in<R: Abort>(rt: &R, watched: &Watched, refused: u64) -> u64 {
     assert!(rt; refused <= 1, "{refused}");
     match watched.ending {
@@ -181,7 +182,8 @@ fn refused_blocks_are_lost(rt: HostRuntime) {
     assert!(rt; permuted == 0 || sixteen == 0);
 }
 
-/// Each element from two before, in six blocks of one trip. The third block exposes what the first one writes. I has cell 0, A 1 to 8.
+/// Each element from two before, in six blocks of one trip. The third block exposes what the first
+/// one writes. I has cell 0, A 1 to 8.
 const TWO_BEFORE: &[State] = &[
     State {
         cells: &[3, 0, 0, 0, 0, 0, 0, 0, 0],
@@ -200,7 +202,8 @@ const TWO_BEFORE: &[State] = &[
 const TWO_BEFORE_SOURCE: &str =
     "      INTEGER A(8)\n      DO 10 I=3,8\n   10 A(I)=A(I-2)+1\n      END\n";
 
-// There is no stage, or it is cut at a lost block at the latest, and some first blocks are committed.
+// There is no stage, or it is cut at a lost block at the latest, and some first blocks are
+// committed.
 #[test]
 fn refused_stages_are_cut(rt: HostRuntime) {
     let four = Stage {

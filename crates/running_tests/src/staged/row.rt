@@ -13,7 +13,8 @@ use std::process::Abort;
 use std::sync::Wait;
 use std::thread::Threads;
 
-/// A program, how its DO statement is cut into blocks, what comes of each, where the stage is cut, and how the program ends.
+/// A program, how its DO statement is cut into blocks, what comes of each, where the stage is cut,
+/// and how the program ends.
 pub struct Row {
     pub source: &'static str,
     pub turns: u64,

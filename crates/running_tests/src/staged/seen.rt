@@ -12,7 +12,8 @@ use std::alloc::Global;
 use std::marker::Brand;
 use std::process::Abort;
 
-/// What comes of a block by itself: the cells that it exposes, what it writes, how it ends and the turns that it uses.
+/// What comes of a block by itself: the cells that it exposes, what it writes, how it ends and the
+/// turns that it uses.
 #[derive(Clone, Copy, Debug)]
 pub struct Seen {
     pub exposed: &'static [usize],
@@ -70,7 +71,8 @@ fn compare_run<R: Abort>(rt: &R, run: Run, wanted: &Seen) {
     assert!(rt; run.turns_used == wanted.turns, "{wanted:?}");
 }
 
-// Runs a block by itself, and compares it with what is wanted. It answers false where memory was refused.
+// Runs a block by itself, and compares it with what is wanted. It answers false where memory was
+// refused.
 fn is_seen<J: JobKey, R: Abort>(
     rt: &R,
     alloc: Global,
@@ -116,7 +118,8 @@ fn refused_in<J: JobKey, R: Abort>(
     refused
 }
 
-/// Runs each block of a job by itself, and compares it with what is wanted. It answers how many of them were refused memory.
+/// Runs each block of a job by itself, and compares it with what is wanted. It answers how many of
+/// them were refused memory.
 pub fn refused_blocks<R: Abort>(
     rt: &R,
     alloc: Global,

@@ -6,15 +6,16 @@ use crate::staged::meeting::{STATES, see_only_stage};
 use crate::staged::states::are_alike;
 use crate::staged::watch::Watch;
 use array_store::Whole;
-use block_stage::{Changes, Job, Open, Posted, cut, run_stage_in};
+use block_stage::{Job, Open, Posted, WriteSet, cut, run_stage_in};
 use meaning::ending::Outcome;
 use std::alloc::Global;
 use std::process::Abort;
 use std::sync::Wait;
 use std::thread::Threads;
 
-// Takes all blocks of a stage, puts what they wrote into the cells, and compares these. It answers what the views were kept in.
-fn take_checked<R: Abort>(rt: &R, posted: Posted<'_>, target: &mut Whole) -> Vec<Changes>
+// Takes all blocks of a stage, puts what they wrote into the cells, and compares these. It answers
+// what the views were kept in.
+fn take_checked<R: Abort>(rt: &R, posted: Posted<'_>, target: &mut Whole) -> Vec<WriteSet>
     requires { target.old ≡ posted.job.base }
 {
     assert!(rt; posted.turns() == 8);
@@ -35,8 +36,8 @@ fn run_checked<R: Abort + Threads + Wait + Sync>(
     alloc: Global,
     job: &Job<'_>,
     base: &Whole,
-    spares: Vec<Changes>,
-) -> Vec<Changes>
+    spares: Vec<WriteSet>,
+) -> Vec<WriteSet>
     requires { base.now ≡ job.now.base }
 {
     let mut target = Whole::new(alloc, base.cells()).expect(rt, "memory");
@@ -45,7 +46,7 @@ fn run_checked<R: Abort + Threads + Wait + Sync>(
 }
 
 // Puts spares behind others.
-fn put_all<R: Abort>(rt: &R, all: &mut Vec<Changes>, spares: Vec<Changes>) {
+fn put_all<R: Abort>(rt: &R, all: &mut Vec<WriteSet>, spares: Vec<WriteSet>) {
     for spare in spares {
         assert!(rt; all.push(spare).is_ok());
     }

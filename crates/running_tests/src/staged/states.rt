@@ -8,7 +8,8 @@ use block_stage::{Posted, cut};
 use meaning::ending::{Outcome, Run};
 use std::process::Abort;
 
-/// The cells behind some first blocks of a stage, each of which ends normally, and the turns that these use.
+/// The cells behind some first blocks of a stage, each of which ends normally, and the turns that
+/// these use.
 #[derive(Clone, Copy, Debug)]
 pub struct State {
     pub cells: &'static [i32],
@@ -22,7 +23,7 @@ pub fn are_alike(cells: &[i32], wanted: &[i32]) -> bool {
 
 // Commits the blocks before the cut, if there are any.
 fn commit(posted: Posted<'_>, place: usize, target: &mut Whole) -> Run
-    requires cut { IsCut posted.job.turns posted.places place }
+    requires cut { IsCut posted.job.turns_left posted.places place }
     requires base { target.old ≡ posted.job.base }
 {
     if place > 0 {
@@ -35,7 +36,8 @@ fn commit(posted: Posted<'_>, place: usize, target: &mut Whole) -> Run
     }
 }
 
-/// Commits the blocks before the cut, and compares what they leave with the state behind so many blocks. It answers the cut.
+/// Commits the blocks before the cut, and compares what they leave with the state behind so many
+/// blocks. It answers the cut.
 pub fn commit_checked<R: Abort>(
     rt: &R,
     posted: Posted<'_>,

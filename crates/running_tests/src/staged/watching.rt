@@ -1,20 +1,21 @@
-//! Runs of a program in which the first stage of each DO statement is looked at, before the statement is executed.
+//! Runs of a program in which the first stage of each DO statement is looked at, before the
+//! statement is executed.
 
 ghost use Rattle.std.specs.Prelude.{◌≡◌, ◌≢◌, ◌-◌, ◌*◌, ◌<◌, pos, length};
-ghost use Rattle.numbering.specs.Checked.{count_in};
+ghost use Rattle.storage.specs.Checked.{count_in};
 ghost use Rattle.whole_runs.specs.Trips.{IsQuietLoop};
 ghost use Rattle.stage_loop.specs.Loops.{AreIntegers};
 ghost use Rattle.executor.specs.Calls.{IsAsked, IsGiven};
 
 use crate::staged::watch::{Watch, see};
 use array_store::Whole;
-use block_stage::Job;
+use block_stage::{Job, TripsLeft};
 use evaluator::{Span, count_of};
 use executor::run::run_by;
 use executor::{InOrder, Out, QuietLoops, Staged, Unwatched};
 use meaning::ending::Ending;
 use meaning::syntax::Loop;
-use programs::{Program, Repeat};
+use program::{Program, Repeat};
 use std::alloc::Global;
 use std::process::Abort;
 use std::sync::Wait;
@@ -22,7 +23,8 @@ use std::sync::atomic::{AtomicU64, Ordering};
 use std::thread::Threads;
 use whole_runs::{Advance, Remaining};
 
-/// How a source ended whose DO statements were looked at, what it wrote, and how many of them were looked at.
+/// How a source ended whose DO statements were looked at, what it wrote, and how many of them were
+/// looked at.
 #[derive(Drop)]
 pub struct Watched {
     pub ending: Ending,
@@ -44,24 +46,15 @@ struct Watching<'a, R: Abort> {
     looked: AtomicU64,
 }
 
-// The values of a DO statement's limits, how many trips it has, and the turns that are left for them.
-#[derive(Clone, Copy)]
-struct Course {
-    first: i32,
-    step: i32,
-    trips: u64,
-    turns: u64,
-}
-
 // How many blocks a stage has.
-fn blocks_of(left: u64, block: u64, window: u32) -> u32
+fn blocks_of(left: u64, block_size: u64, window: u32) -> u32
     requires left { 0 < left }
-    requires block { 0 < block }
+    requires block { 0 < block_size }
     requires window { 0 < window }
     ensures some { 0 < result }
-    ensures last { (result - 1) * block < left }
+    ensures last { (result - 1) * block_size < left }
 {
-    let whole = (left - 1) / block;
+    let whole = (left - 1) / block_size;
     if whole < u64::from(window) {
         return whole as u32 + 1;
     }
@@ -74,12 +67,13 @@ fn look_at<R: Abort + Threads + Wait + Sync>(
     program: &Program,
     repeated: &Loop,
     base: &Whole,
-    course: Course,
+    course: TripsLeft,
+    turns_left: u64,
 )
     requires quiet { IsQuietLoop program.now repeated.now }
     requires sized { length base.now ≡ count_in program.now }
     requires moves { course.step ≢ pos 0 }
-    requires fits { AreIntegers course.first course.step course.trips }
+    requires fits { AreIntegers course.value course.step course.trips }
 {
     let rt = watching.rt;
     assert!(rt; watching.block > 0);
@@ -90,12 +84,10 @@ fn look_at<R: Abort + Threads + Wait + Sync>(
         program,
         repeated,
         base,
-        course.first,
-        course.step,
-        course.trips,
+        course,
         watching.block,
         blocks,
-        course.turns,
+        turns_left,
     );
     see(rt, watching.alloc, &job, blocks, base, watching.watch);
     let _ = watching.looked.fetch_add(1, Ordering::SeqCst);
@@ -108,7 +100,7 @@ fn look<R: Abort + Threads + Wait + Sync>(
     repeated: &Loop,
     remaining: Remaining,
     cells: &Whole,
-    turns: u64,
+    turns_left: u64,
 )
     requires quiet { IsQuietLoop program.now repeated.now }
     requires sized { length cells.now ≡ count_in program.now }
@@ -118,13 +110,12 @@ fn look<R: Abort + Threads + Wait + Sync>(
     let Span { first, step, .. } = remaining.span;
     let trips = count_of(remaining.span);
     assert!(rt; trips == remaining.trips);
-    let course = Course {
-        first,
+    let course = TripsLeft {
+        value: first,
         step,
         trips,
-        turns,
     };
-    look_at(watching, program, repeated, cells, course);
+    look_at(watching, program, repeated, cells, course, turns_left);
 }
 
 // Looks at the first stage of a DO statement, and executes its trips in order.
@@ -164,7 +155,8 @@ fn run<R: Abort + Threads + Wait + Sync>(
     (report.ending, sink.into_inner())
 }
 
-/// The run of a source whose DO statements are looked at, each in blocks of so many trips, of which a stage has so many at most.
+/// The run of a source whose DO statements are looked at, each in blocks of so many trips, of which
+/// a stage has so many at most.
 pub fn run_watched<R: Abort + Threads + Wait + Sync>(
     rt: &R,
     alloc: Global,

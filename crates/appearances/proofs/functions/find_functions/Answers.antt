@@ -1,16 +1,16 @@
 use Rattle.std.proofs.Common.{arith, drop, subst, sym}
 use Rattle.std.proofs.lemmas.List.{drop_all}
-use Rattle.roles.specs.RolesAt.{roles_at}
+use Rattle.symbols.specs.SymbolsAt.{symbols_at}
 use Rattle.appearances.specs.FunctionsFound.{Finding, PassesMember, defined_in}
 use Rattle.appearances.proofs.Finding.{all_found, ended, few_more, none_found, none_left, passed_member}
 use Rattle.appearances.proofs.functions.find_functions.Goals as goal
 
 pub loop-member-init : goal.loop-member-init
-loop-member-init c = record { few = omega arith; finding = none_found (roles_at c.args.roles.now).names.arrays c.args.body.now c.args.functions.now c.requires.none }
+loop-member-init c = record { few = omega arith; finding = none_found (symbols_at c.args.symbols.now).names.arrays c.args.body.now c.args.functions.now c.requires.none }
 
 pub loop-member-preserved : goal.loop-member-preserved
 loop-member-preserved c =
-    let arrays = (roles_at c.args.roles.now).names.arrays in
+    let arrays = (symbols_at c.args.symbols.now).names.arrays in
     let body = c.args.body.now in
     let i = c.loop-member.member in
     let one = c.index-body-member.result in
@@ -26,7 +26,7 @@ loop-member-preserved c =
 
 pub returns-in-None : goal.returns-in-None
 returns-in-None c =
-    let arrays = (roles_at c.args.roles.now).names.arrays in
+    let arrays = (symbols_at c.args.symbols.now).names.arrays in
     let body = c.args.body.now in
     let i = c.loop-member.member in
     let one = c.index-body-member.result in
@@ -39,7 +39,7 @@ returns-in-None c =
 
 pub returns : goal.returns
 returns c =
-    let arrays = (roles_at c.args.roles.now).names.arrays in
+    let arrays = (symbols_at c.args.symbols.now).names.arrays in
     let body = c.args.body.now in
     let i = c.loop-member.member in
     all_found (defined_in arrays body) (defined_in arrays (drop i body)) body c.loop-member.functions c.loop-member.at (none_left arrays (drop i body) (drop_all i body (omega (arith, c.loop-member-test.false)))) c.loop-member.invariant.finding

@@ -1,6 +1,6 @@
-use Rattle.roles.specs.RolesAt.{roles_at}
-use Rattle.numbering.specs.Numbered.{is_variable}
+use Rattle.symbols.specs.SymbolsAt.{symbols_at}
+use Rattle.storage.specs.Numbered.{is_variable}
 use Rattle.appearances.proofs.numbers.add_variable.Goals as goal
 
 pub returns : goal.returns
-returns c = c.add_wanted.ensures (is_variable (roles_at c.args.roles.now)) c.is_variable.ensures
+returns c = c.add_wanted.ensures (is_variable (symbols_at c.args.symbols.now)) c.is_variable.ensures

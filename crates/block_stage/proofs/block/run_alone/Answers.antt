@@ -19,7 +19,7 @@ value_at-first-requires-clause-fits g c =
 pub returns-in-Ok-run_further_trips-clause-faithful : goal.returns-in-Ok-run_further_trips-clause-faithful
 returns-in-Ok-run_further_trips-clause-faithful g c =
     let p = c.parts-parts.result in
-    let j : JobParts = record { program = p.program.now; repeated = p.repeated.now; base = p.base.now; first = p.first; step = p.step; trips = p.trips; block = p.block; blocks = p.blocks; turns = p.turns } in
+    let j : JobParts = record { program = p.program.now; repeated = p.repeated.now; base = p.base.now; first = p.first; step = p.step; trips = p.trips; block_size = p.block_size; blocks = p.blocks; turns_left = p.turns_left } in
     let first = to_z w32 (of_z w32 c.value_at-first.result) in
     let step = to_z w32 (of_z w32 p.step) in
     let r = c.in-Ok-run_further_trips.run' in
@@ -30,8 +30,8 @@ returns-in-Ok-run_further_trips-clause-faithful g c =
     let below : c.args.block < j.blocks = search rules in
     let first_is : first ≡ start_of (data_of j) c.args.block = to_z-of_z w32 c.value_at-first.result first_fits ∙ c.value_at-first.ensures ∙ (λ i. to_z-of_z w32 p.first base_fits i +ℤ pos (c.place_of-place.ensures.place i) *ℤ to_z-of_z w32 p.step step_fits i) in
     let trips_are : c.min-trips.result ≡ count_of (data_of j) c.args.block = search rules in
-    let within : r.turns_used ≤ j.turns = search rules in
+    let within : r.turns_used ≤ j.turns_left = search rules in
     let fresh = c.requires.fresh ∙ ap (λ (q : JobParts). new_view q.base) c.parts-parts.ensures.parts in
     let sets = c.in-Ok.ensures.does (variable_in j.repeated) (counted_cell j.program p.repeat.now (shape_in j.repeated) c.parts-parts.ensures.repeats) in
     let so = faithful j c.run_further_trips.new.store r first step c.min-trips.result c.args.view c.set_variable.new.store fresh sets (c.in-Ok-run_further_trips.ensures.does first) kept c.args.block below first_is (to_z-of_z w32 p.step step_fits) trips_are within in
-    subst (λ t. IsFaithful (data_of c.args.job.now) t) (sym c.new.ensures) (subst (λ q. IsFaithful (data_of q) (record { block = c.args.block; outcome = r.outcome; used = r.turns_used; seen = c.run_further_trips.new.store })) (sym c.parts-parts.ensures.parts) so)
+    subst (λ t. IsFaithful (data_of c.args.job.now) t) (sym c.new.ensures) (subst (λ q. IsFaithful (data_of q) (record { index = c.args.block; outcome = r.outcome; used = r.turns_used; seen = c.run_further_trips.new.store })) (sym c.parts-parts.ensures.parts) so)

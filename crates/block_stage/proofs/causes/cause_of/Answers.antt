@@ -6,7 +6,7 @@ use Rattle.block_stage.proofs.Stopping.{behind_is, seen_at, later_at, ended_at, 
 use Rattle.block_stage.proofs.causes.cause_of.Goals as goal
 
 pub returns-in_default : goal.returns-in_default
-returns-in_default c = behind_is c.args.posted.now.job.turns c.args.posted.now.places c.places-places.result.now c.args.cut c.cause_behind.result c.places-places.ensures c.requires (omega (arith, c.in_default.ensures.lookup)) c.cause_behind.ensures
+returns-in_default c = behind_is c.args.posted.now.job.turns_left c.args.posted.now.places c.places-places.result.now c.args.cut c.cause_behind.result c.places-places.ensures c.requires (omega (arith, c.in_default.ensures.lookup)) c.cause_behind.ensures
 
 pub returns-in_default-place : goal.returns-in_default-place
 returns-in_default-place c =
@@ -17,14 +17,14 @@ returns-in_default-place c =
 pub returns-then-ended_early : goal.returns-then-ended_early
 returns-then-ended_early c =
     let within : c.args.cut < length c.places-places.result.now = omega (arith, c.in-Some.ensures.lookup) in
-    let later = later_at c.args.posted.now.job.turns c.args.posted.now.places c.places-places.result.now c.args.cut c.in-Some.place.now c.in-Some-place.trace c.places-places.ensures within c.in-Some.ensures.lookup.1 c.in-Some-place.is c.requires.here in
+    let later = later_at c.args.posted.now.job.turns_left c.args.posted.now.places c.places-places.result.now c.args.cut c.in-Some.place.now c.in-Some-place.trace c.places-places.ensures within c.in-Some.ensures.lookup.1 c.in-Some-place.is c.requires.here in
     let ended = ended_at c.args.posted.now.places c.places-places.result.now c.args.cut c.index-places-cut.result c.places-places.ensures within c.index-places-cut.is in
     (inr (some_at c.args.posted.now.places c.args.cut c.in-Some-place.trace later.0), ended ∙ sym c.ended_early.ensures ∙ c.if-ended_early.true)
 
 pub returns-in-Some-carried : goal.returns-in-Some-carried
 returns-in-Some-carried c =
     let within : c.args.cut < length c.places-places.result.now = omega (arith, c.in-Some.ensures.lookup) in
-    let later = later_at c.args.posted.now.job.turns c.args.posted.now.places c.places-places.result.now c.args.cut c.in-Some.place.now c.in-Some-place.trace c.places-places.ensures within c.in-Some.ensures.lookup.1 c.in-Some-place.is c.requires.here in
+    let later = later_at c.args.posted.now.job.turns_left c.args.posted.now.places c.places-places.result.now c.args.cut c.in-Some.place.now c.in-Some-place.trace c.places-places.ensures within c.in-Some.ensures.lookup.1 c.in-Some-place.is c.requires.here in
     let ended = ended_at c.args.posted.now.places c.places-places.result.now c.args.cut c.index-places-cut.result c.places-places.ensures within c.index-places-cut.is in
     let carried = subst (λ ps. IsCarried (take c.args.cut ps) c.in-Some-place.trace c.in-Some-carried.dependence) c.places-places.ensures c.in-Some-carried.ensures in
     (ended ∙ sym c.ended_early.ensures ∙ c.if-ended_early.false, broken_at c.args.posted.now.places c.args.cut c.in-Some-place.trace c.in-Some-carried.dependence later.0 carried)
@@ -32,8 +32,8 @@ returns-in-Some-carried c =
 pub returns-in-None : goal.returns-in-None
 returns-in-None c =
     let within : c.args.cut < length c.places-places.result.now = omega (arith, c.in-Some.ensures.lookup) in
-    let later = later_at c.args.posted.now.job.turns c.args.posted.now.places c.places-places.result.now c.args.cut c.in-Some.place.now c.in-Some-place.trace c.places-places.ensures within c.in-Some.ensures.lookup.1 c.in-Some-place.is c.requires.here in
+    let later = later_at c.args.posted.now.job.turns_left c.args.posted.now.places c.places-places.result.now c.args.cut c.in-Some.place.now c.in-Some-place.trace c.places-places.ensures within c.in-Some.ensures.lookup.1 c.in-Some-place.is c.requires.here in
     let ended = ended_at c.args.posted.now.places c.places-places.result.now c.args.cut c.index-places-cut.result c.places-places.ensures within c.index-places-cut.is in
     let none = ap (λ ps. list_any (reads_place c.in-Some-place.trace) (take c.args.cut ps)) (sym c.places-places.ensures) ∙ c.in-None.ensures in
     let normal = ended ∙ sym c.ended_early.ensures ∙ c.if-ended_early.false in
-    (normal, unbroken_at c.args.posted.now.places c.args.cut c.in-Some-place.trace later.0 none, turns_at_cut c.args.posted.now.job.turns c.args.posted.now.places c.args.cut c.in-Some-place.trace later.0 later.1.1 none normal)
+    (normal, unbroken_at c.args.posted.now.places c.args.cut c.in-Some-place.trace later.0 none, turns_at_cut c.args.posted.now.job.turns_left c.args.posted.now.places c.args.cut c.in-Some-place.trace later.0 later.1.1 none normal)

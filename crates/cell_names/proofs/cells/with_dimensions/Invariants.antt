@@ -1,7 +1,7 @@
 use Rattle.std.proofs.Common.{◌≡◌, take}
 use Rattle.declarations.specs.ArraysKept.{arrays_kept}
 use Rattle.name_maps.specs.NameSets.{texts}
-use Rattle.numbering.specs.Numbered.{named}
+use Rattle.storage.specs.Numbered.{named}
 use Rattle.cell_names.specs.Cells.{are_named}
 use Rattle.cell_names.proofs.cells.with_dimensions.Given as goal
 

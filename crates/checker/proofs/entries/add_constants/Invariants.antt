@@ -5,4 +5,4 @@ use Rattle.checker.proofs.entries.add_constants.Given as goal
 
 abbrev pub invariant-loop-constant : goal.invariant-loop-constant
 invariant-loop-constant l =
-    Adds l.initial.entries l.entries (described l.facts l.roles) (map (λ c. c.name) (map constant_tree (take l.constant-index l.constants)))
+    Adds l.initial.entries l.entries (described l.facts l.symbols) (map (λ c. c.name) (map constant_tree (take l.constant-index l.constants)))

@@ -19,7 +19,7 @@ add_stored-requires c =
     let added = ap (λ n. now + size (dimensions_in (arrays_in f n))) c.deref.ensures.value in
     record {
       countable = c.requires.arrays c.deref.result.now;
-      room = cells_count f names (i + 1) _ c.requires (next_more f c.args.roles.now names i c.name-item.result c.loop-name-test.true c.name-item.is now _ c.loop-name.invariant.next added);
+      room = cells_count f names (i + 1) _ c.requires (next_more f c.args.symbols.now names i c.name-item.result c.loop-name-test.true c.name-item.is now _ c.loop-name.invariant.next added);
     }
 
 pub loop-name-init : goal.loop-name-init
@@ -31,7 +31,7 @@ loop-name-init c = record {
 pub loop-name-preserved : goal.loop-name-preserved
 loop-name-preserved c =
     let f = c.args.facts.now in
-    let r = c.args.roles.now in
+    let r = c.args.symbols.now in
     let names = c.args.names.now in
     let i = c.loop-name.name-index in
     let x = c.name-item.result in

@@ -11,7 +11,7 @@ entries_with_starts-requires c =
 pub returns : goal.returns
 returns c =
     let f = c.args.facts.now in
-    let r = c.args.roles.now in
+    let r = c.args.symbols.now in
     record {
       started = subst (λ ns. AreStarted f r ns c.in_ok-entries.entries c.in_ok-entries.starts) (ap texts c.as_slice.ensures.keys ∙ c.in_ok-names.ensures) c.in_ok-entries.ensures;
       letters = c.in_ok-letters.ensures;

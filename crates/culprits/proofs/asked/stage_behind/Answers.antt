@@ -1,4 +1,4 @@
 use Rattle.culprits.proofs.asked.stage_behind.Goals as goal
 
 pub loop-item-init : goal.loop-item-init
-loop-item-init c = c.new-stage.ensures c.args.roles.now
+loop-item-init c = c.new-stage.ensures c.args.symbols.now

@@ -1,7 +1,7 @@
 use Rattle.std.proofs.Common.{◌≡◌, drop}
 use Rattle.std.specs.List.{find}
 use Rattle.meaning.specs.LabelRules.{has_label}
-use Rattle.roles.specs.Listed.{trees_at}
+use Rattle.symbols.specs.Listed.{trees_at}
 use Rattle.culprits.proofs.labels.first_labelled.Given as goal
 
 abbrev pub invariant-loop-item : goal.invariant-loop-item

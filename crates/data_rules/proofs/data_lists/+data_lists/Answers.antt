@@ -5,8 +5,8 @@ use Rattle.meaning.specs.declared.ending.Value.TheVariants.{Int}
 use Rattle.std.specs.Prelude.{if◌then◌else◌}
 use Rattle.meaning.specs.Initial.{and_also, is_counter, targets_in, with_value}
 use Rattle.meaning.specs.Syntax.{limits_tree, list_item_tree, list_items_tree}
-use Rattle.roles.specs.RolesAt.{roles_at}
-use Rattle.data_rules.specs.DataGiving.{known_there, roles_in, stage_of}
+use Rattle.symbols.specs.SymbolsAt.{symbols_at}
+use Rattle.data_rules.specs.DataGiving.{known_there, symbols_in, stage_of}
 use Rattle.data_rules.specs.DataItems.{item_targets, trips_targets}
 use Rattle.data_rules.specs.DataStages.{filled}
 use Rattle.data_rules.specs.DataTrips.{trips_by}
@@ -20,7 +20,7 @@ use Rattle.data_rules.proofs.data_lists.+data_lists.Goals as goal
 pub give_item-returns-in-None-clause-filled : goal.give_item-returns-in-None-clause-filled
 give_item-returns-in-None-clause-filled t c =
     let g = c.args.giving.now in
-    let r = roles_in g in
+    let r = symbols_in g in
     let none = sym c.trips_of.ensures.trips ∙ ap (option_map trips_by) c.in-None.is in
     ap (λ x. filled r.names (item_targets r (list_item_tree x) (known_there g)) (stage_of g)) c.in-Loop.is
     ∙ no_trips r (list_items_tree c.in-Loop.items.value) c.in-Loop.variable.items (limits_tree c.in-Loop.limits) (known_there g) (stage_of g) none
@@ -28,7 +28,7 @@ give_item-returns-in-None-clause-filled t c =
 pub give_item-returns-in-Some-clause-filled : goal.give_item-returns-in-Some-clause-filled
 give_item-returns-in-Some-clause-filled t c =
     let g = c.args.giving.now in
-    let r = roles_in g in
+    let r = symbols_in g in
     let k = known_there g in
     let s = stage_of g in
     let is = trips_by c.in-Some.trips in
@@ -43,14 +43,14 @@ give_item-returns-in-Some-clause-filled t c =
 pub give_items-returns-in-Empty-clause-filled : goal.give_items-returns-in-Empty-clause-filled
 give_items-returns-in-Empty-clause-filled t c =
     let g = c.args.giving.now in
-    let r = roles_in g in
+    let r = symbols_in g in
     ap (λ xs. filled r.names (targets_in r (list_items_tree xs) (known_there g)) (stage_of g)) c.in-Empty.is
     ∙ filled_none r (known_there g) (stage_of g)
 
 pub give_items-returns-then-not-branch-clause-filled : goal.give_items-returns-then-not-branch-clause-filled
 give_items-returns-then-not-branch-clause-filled t c =
     let g = c.args.giving.now in
-    let r = roles_in g in
+    let r = symbols_in g in
     let k = known_there g in
     let rest = list_items_tree c.in-More.rest.value in
     ap (λ xs. filled r.names (targets_in r (list_items_tree xs) k) (stage_of g)) c.in-More.is
@@ -61,7 +61,7 @@ pub give_items-returns-else-not-branch-clause-filled : goal.give_items-returns-e
 give_items-returns-else-not-branch-clause-filled t c =
     let g = c.args.giving.now in
     let h = c.give_item.new.giving in
-    let r = roles_in g in
+    let r = symbols_in g in
     let k = known_there g in
     let same = c.in_ok-give_item-in-More.ensures.same in
     let rest = list_items_tree c.in-More.rest.value in
@@ -69,9 +69,9 @@ give_items-returns-else-not-branch-clause-filled t c =
     (ap (λ xs. filled r.names (targets_in r (list_items_tree xs) k) (stage_of g)) c.in-More.is
     ∙ filled_more r k (list_item_tree c.in-More.item) rest (stage_of g)
     ∙ ap (λ o. and_also o (filled r.names (targets_in r rest k))) (c.in_ok-give_item-in-More.ensures.filled ∙ ap (λ b. if b then Some (stage_of h) else None) c.if-not-branch.false)
-    ∙ ap (λ tb. filled (roles_at tb.now.roles.now).names (targets_in (roles_at tb.now.roles.now) rest k) (stage_of h)) (sym same.table)
-    ∙ ap (λ j. filled (roles_in h).names (targets_in (roles_in h) rest j) (stage_of h)) (sym (same_known g.scope h.scope same))
-    ∙ ap (λ xs. filled (roles_in h).names (targets_in (roles_in h) (list_items_tree xs) (known_there h)) (stage_of h)) (sym c.deref.ensures))
+    ∙ ap (λ tb. filled (symbols_at tb.now.symbols.now).names (targets_in (symbols_at tb.now.symbols.now) rest k) (stage_of h)) (sym same.table)
+    ∙ ap (λ j. filled (symbols_in h).names (targets_in (symbols_in h) rest j) (stage_of h)) (sym (same_known g.scope h.scope same))
+    ∙ ap (λ xs. filled (symbols_in h).names (targets_in (symbols_in h) (list_items_tree xs) (known_there h)) (stage_of h)) (sym c.deref.ensures))
     c.give_items.ensures.filled
 
 pub give_trips-returns-then-not-given-clause-filled : goal.give_trips-returns-then-not-given-clause-filled
@@ -80,7 +80,7 @@ give_trips-returns-then-not-given-clause-filled t c =
     let before = c.loop.giving in
     let scope = c.enter_name.new.scope in
     let behind = c.give_items.new.giving in
-    let r = roles_in g in
+    let r = symbols_in g in
     let k = known_there g in
     let ys = list_items_tree c.args.items.now in
     let v = c.args.variable.now in
@@ -94,7 +94,7 @@ give_trips-returns-then-not-given-clause-filled t c =
     c.in_ok-enter_name.ensures.known ∙ ap (λ x. with_name v (Some (Int x)) (scope_known before.scope)) (to_z-of_z w32 c.value_of_trip-here.result fits ∙ c.value_of_trip-here.ensures ∙ kept.value)
     ∙ ap (with_value v (f i)) (same_known g.scope before.scope kept.same) in
     let one =
-    sym (ap (λ t. filled (roles_at t.now.roles.now).names (targets_in (roles_at t.now.roles.now) ys (scope_known scope)) (stage_of before)) table
+    sym (ap (λ t. filled (symbols_at t.now.symbols.now).names (targets_in (symbols_at t.now.symbols.now) ys (scope_known scope)) (stage_of before)) table
     ∙ ap (λ x. filled r.names (targets_in r ys x) (stage_of before)) known) ∙ c.in_ok-given.ensures.filled in
     let same : IsSameScope g.scope c.leave_name.new.scope = record {
       own = c.leave_name.ensures.own before.scope.own.items _ (c.in_ok-given.ensures.same.own ∙ c.in_ok-enter_name.ensures.own) ∙ kept.same.own;
@@ -109,7 +109,7 @@ give_trips-returns-then-not-given-clause-same t c =
     let before = c.loop.giving in
     let scope = c.enter_name.new.scope in
     let behind = c.give_items.new.giving in
-    let r = roles_in g in
+    let r = symbols_in g in
     let k = known_there g in
     let ys = list_items_tree c.args.items.now in
     let v = c.args.variable.now in
@@ -123,7 +123,7 @@ give_trips-returns-then-not-given-clause-same t c =
     c.in_ok-enter_name.ensures.known ∙ ap (λ x. with_name v (Some (Int x)) (scope_known before.scope)) (to_z-of_z w32 c.value_of_trip-here.result fits ∙ c.value_of_trip-here.ensures ∙ kept.value)
     ∙ ap (with_value v (f i)) (same_known g.scope before.scope kept.same) in
     let one =
-    sym (ap (λ t. filled (roles_at t.now.roles.now).names (targets_in (roles_at t.now.roles.now) ys (scope_known scope)) (stage_of before)) table
+    sym (ap (λ t. filled (symbols_at t.now.symbols.now).names (targets_in (symbols_at t.now.symbols.now) ys (scope_known scope)) (stage_of before)) table
     ∙ ap (λ x. filled r.names (targets_in r ys x) (stage_of before)) known) ∙ c.in_ok-given.ensures.filled in
     let same : IsSameScope g.scope c.leave_name.new.scope = record {
       own = c.leave_name.ensures.own before.scope.own.items _ (c.in_ok-given.ensures.same.own ∙ c.in_ok-enter_name.ensures.own) ∙ kept.same.own;
@@ -137,7 +137,7 @@ give_trips-loop-preserved t c =
     let before = c.loop.giving in
     let scope = c.enter_name.new.scope in
     let behind = c.give_items.new.giving in
-    let r = roles_in g in
+    let r = symbols_in g in
     let k = known_there g in
     let ys = list_items_tree c.args.items.now in
     let v = c.args.variable.now in
@@ -151,7 +151,7 @@ give_trips-loop-preserved t c =
     c.in_ok-enter_name.ensures.known ∙ ap (λ x. with_name v (Some (Int x)) (scope_known before.scope)) (to_z-of_z w32 c.value_of_trip-here.result fits ∙ c.value_of_trip-here.ensures ∙ kept.value)
     ∙ ap (with_value v (f i)) (same_known g.scope before.scope kept.same) in
     let one =
-    sym (ap (λ t. filled (roles_at t.now.roles.now).names (targets_in (roles_at t.now.roles.now) ys (scope_known scope)) (stage_of before)) table
+    sym (ap (λ t. filled (symbols_at t.now.symbols.now).names (targets_in (symbols_at t.now.symbols.now) ys (scope_known scope)) (stage_of before)) table
     ∙ ap (λ x. filled r.names (targets_in r ys x) (stage_of before)) known) ∙ c.in_ok-given.ensures.filled in
     let same : IsSameScope g.scope c.leave_name.new.scope = record {
       own = c.leave_name.ensures.own before.scope.own.items _ (c.in_ok-given.ensures.same.own ∙ c.in_ok-enter_name.ensures.own) ∙ kept.same.own;

@@ -3,7 +3,7 @@ use Rattle.std.specs.Prelude.{IfOk, if◌then◌else◌, is_some}
 use Rattle.std.specs.List.{range_with_len}
 use Rattle.std.specs.Str.{bytes_eq}
 use Rattle.indexmap.specs.IndexMap.{insert_entry}
-use Rattle.roles.specs.RolesAt.{roles_at}
+use Rattle.symbols.specs.SymbolsAt.{symbols_at}
 use Rattle.data_rules.specs.DataRuns.{values_left}
 use Rattle.data_rules.specs.DataSlots.{give_slots, slots_at}
 use Rattle.data_rules.specs.Filled.{Comes, stage_at}
@@ -13,7 +13,7 @@ use Rattle.data_rules.proofs.filling.give_places.Goals as goal
 
 pub returns-then-not-branch-clause-given : goal.returns-then-not-branch-clause-given
 returns-then-not-branch-clause-given c = λ i stands.
-    let types = (roles_at c.args.roles.now).names.types in
+    let types = (symbols_at c.args.symbols.now).names.types in
     let n = c.args.name.now in
     let is = range_with_len i c.args.count in
     let old = stage_at c.args.filling.now c.args.values.now in
@@ -24,7 +24,7 @@ returns-then-not-branch-clause-given c = λ i stands.
 
 pub returns-in-Some-clause-given : goal.returns-in-Some-clause-given
 returns-in-Some-clause-given c = λ i stands.
-    let types = (roles_at c.args.roles.now).names.types in
+    let types = (symbols_at c.args.symbols.now).names.types in
     let m = c.args.filling.now.given in
     let n = c.args.name.now in
     let is = range_with_len i c.args.count in
@@ -38,7 +38,7 @@ returns-in-Some-clause-given c = λ i stands.
 
 pub returns-in_ok-insert-in-None-clause-given : goal.returns-in_ok-insert-in-None-clause-given
 returns-in_ok-insert-in-None-clause-given c = λ i stands.
-    let types = (roles_at c.args.roles.now).names.types in
+    let types = (symbols_at c.args.symbols.now).names.types in
     let m = c.args.filling.now.given in
     let n = c.args.name.now in
     let is = range_with_len i c.args.count in

@@ -5,7 +5,7 @@ use Rattle.meaning.specs.Syntax.{exprs_tree}
 use Rattle.declarations.specs.ArraysKept.{dimensions_of}
 use Rattle.expressions.specs.Dimensions.{dimension}
 use Rattle.expressions.specs.Places.{capped}
-use Rattle.data_rules.specs.DataGiving.{known_there, roles_in, stage_of}
+use Rattle.data_rules.specs.DataGiving.{known_there, symbols_in, stage_of}
 use Rattle.data_rules.specs.DataPlaces.{place_known}
 use Rattle.data_rules.specs.DataStages.{filled}
 use Rattle.data_rules.specs.Filled.{stage_at}
@@ -15,7 +15,7 @@ use Rattle.data_rules.proofs.giving.give_element.Goals as goal
 pub returns-in-Some-place_in-clause-filled : goal.returns-in-Some-place_in-clause-filled
 returns-in-Some-place_in-clause-filled c =
     let g = c.args.giving.now in
-    let r = roles_in g in
+    let r = symbols_in g in
     let n = c.args.name.now in
     let k = known_there g in
     let es = exprs_tree c.args.subscripts.now in

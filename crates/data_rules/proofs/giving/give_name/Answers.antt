@@ -4,7 +4,7 @@ use Rattle.meaning.specs.Arrays.{size}
 use Rattle.meaning.specs.Initial.{whole_target}
 use Rattle.meaning.specs.Uses.{is_other}
 use Rattle.declarations.specs.ArraysKept.{dimensions_of}
-use Rattle.data_rules.specs.DataGiving.{roles_in, stage_of}
+use Rattle.data_rules.specs.DataGiving.{symbols_in, stage_of}
 use Rattle.data_rules.specs.DataStages.{filled}
 use Rattle.data_rules.specs.Filled.{stage_at}
 use Rattle.expressions.specs.Dimensions.{dimension}
@@ -14,7 +14,7 @@ use Rattle.data_rules.proofs.giving.give_name.Goals as goal
 pub returns-in-Some-clause-filled : goal.returns-in-Some-clause-filled
 returns-in-Some-clause-filled c =
     let g = c.args.giving.now in
-    let r = roles_in g in
+    let r = symbols_in g in
     let n = c.args.name.now in
     let k = c.size_of-size.result in
     let ds = map dimension c.in-Some.dimensions.now.items in
@@ -28,7 +28,7 @@ returns-in-Some-clause-filled c =
 pub returns-then-is_other_name-clause-filled : goal.returns-then-is_other_name-clause-filled
 returns-then-is_other_name-clause-filled c =
     let g = c.args.giving.now in
-    let r = roles_in g in
+    let r = symbols_in g in
     let n = c.args.name.now in
     let none = sym (c.requires n) ∙ ap (option_map dimensions_of) (sym c.in-None.ensures.value) in
     let other = sym c.is_other_name.ensures ∙ c.if-is_other_name.true in

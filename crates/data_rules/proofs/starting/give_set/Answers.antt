@@ -1,13 +1,13 @@
 use Rattle.std.proofs.Common.{Some, None, sym, ap, ◌∙◌}
 use Rattle.std.specs.Prelude.{if◌then◌else◌}
-use Rattle.roles.specs.RolesAt.{roles_at}
+use Rattle.symbols.specs.SymbolsAt.{symbols_at}
 use Rattle.data_rules.specs.DataSets.{stage_by}
 use Rattle.data_rules.proofs.DataSetsMore.{set_given}
 use Rattle.data_rules.proofs.starting.give_set.Goals as goal
 
 pub give_list-requires : goal.give_list-requires
 give_list-requires c =
-    λ n. c.requires n ∙ ap (λ t. (roles_at t.roles.now).names.arrays n) (sym c.scope_of.ensures.table)
+    λ n. c.requires n ∙ ap (λ t. (symbols_at t.symbols.now).names.arrays n) (sym c.scope_of.ensures.table)
 
 pub returns-then-given : goal.returns-then-given
 returns-then-given c =

@@ -1,11 +1,11 @@
 use Rattle.std.proofs.Common.{◌≡◌, drop, map}
 use Rattle.meaning.specs.Syntax.{data_set_tree}
-use Rattle.roles.specs.RolesAt.{roles_at}
+use Rattle.symbols.specs.SymbolsAt.{symbols_at}
 use Rattle.data_rules.specs.DataSets.{fill_sets, stage_by}
 use Rattle.declarations.specs.Tables.{known_at}
 use Rattle.data_rules.proofs.starting.give_sets.Given as goal
 
 abbrev pub invariant-loop-set : goal.invariant-loop-set
 invariant-loop-set l =
-    fill_sets (roles_at l.table.roles.now) (known_at l.table) (map data_set_tree (drop l.set-index l.sets)) (stage_by l.so_far)
-    ≡ fill_sets (roles_at l.table.roles.now) (known_at l.table) (map data_set_tree l.sets) (stage_by l.initial.so_far)
+    fill_sets (symbols_at l.table.symbols.now) (known_at l.table) (map data_set_tree (drop l.set-index l.sets)) (stage_by l.so_far)
+    ≡ fill_sets (symbols_at l.table.symbols.now) (known_at l.table) (map data_set_tree l.sets) (stage_by l.initial.so_far)

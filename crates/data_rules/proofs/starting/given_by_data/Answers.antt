@@ -7,7 +7,7 @@ use Rattle.meaning.specs.Scopes.{declarators_in}
 use Rattle.meaning.specs.Syntax.{DeclaratorTree, declarator_tree, shape_tree}
 use Rattle.meaning.specs.Values.{Known}
 use Rattle.meaning.specs.Trees.{item_tree}
-use Rattle.roles.specs.RolesAt.{roles_at}
+use Rattle.symbols.specs.SymbolsAt.{symbols_at}
 use Rattle.data_rules.specs.DataPassed.{IsPassed, IsSettled}
 use Rattle.rule_passes.specs.InOrder.{line_at}
 use Rattle.rule_passes.specs.Listed.{tree_at}
@@ -22,7 +22,7 @@ use Rattle.data_rules.proofs.starting.given_by_data.Goals as goal
 
 pub pass_data-requires-clause-arrays : goal.pass_data-requires-clause-arrays
 pass_data-requires-clause-arrays c =
-    λ n. c.requires.arrays n ∙ ap (λ q. (roles_at q).names.arrays n) (sym c.loop-item.invariant.roles)
+    λ n. c.requires.arrays n ∙ ap (λ q. (symbols_at q).names.arrays n) (sym c.loop-item.invariant.symbols)
 
 pub pass_data-requires-clause-settled : goal.pass_data-requires-clause-settled
 pass_data-requires-clause-settled c =
@@ -33,12 +33,12 @@ pass_data-requires-clause-settled c =
 
 pub loop-item-init : goal.loop-item-init
 loop-item-init c = record {
-  roles = c.table_of-table.ensures.roles;
+  symbols = c.table_of-table.ensures.symbols;
   behind = c.table_of-table.ensures.behind;
-  sizeless = ap names_kept c.new-sizeless.ensures.items ∙ sizeless_none (roles_at c.args.roles.now);
+  sizeless = ap names_kept c.new-sizeless.ensures.items ∙ sizeless_none (symbols_at c.args.symbols.now);
   settled = λ j from lt none. absurd cc;
   passed =
-      none_passed (roles_at c.args.roles.now) c.args.others (record { given = c.new-given.result })
+      none_passed (symbols_at c.args.symbols.now) c.args.others (record { given = c.new-given.result })
       (ap (λ es. stage (λ n i. slot_if (lookup (λ k. bytes_eq n k.items) es) i) []) c.new-given.ensures.empty);
 }
 
@@ -51,28 +51,28 @@ loop-item-preserved c =
     let more = sym (trees_more items i c.item-item.result c.loop-item-test.true c.item-item.is) in
     let p = c.in_ok-passed.passed in
     let x = item_tree c.item-item.result.now in
-    let q = c.loop-item.table.roles.now in
-    let sizeless : names_kept c.loop-item.sizeless.items ≡ sizeless_in (roles_at q) [] front = before.sizeless ∙ ap (λ r. sizeless_in (roles_at r) [] front) (sym before.roles) in
+    let q = c.loop-item.table.symbols.now in
+    let sizeless : names_kept c.loop-item.sizeless.items ≡ sizeless_in (symbols_at q) [] front = before.sizeless ∙ ap (λ r. sizeless_in (symbols_at r) [] front) (sym before.symbols) in
     let t = c.loop-item.table in
-    let at : Known → List DeclaratorTree → List (List ℕ) = λ k ds. map (λ d. d.name) (filter (lacks_bound (roles_at q).names.types k) ds) in
-    let here : names_kept c.add_sizeless.new.sizeless.items ≡ sizeless_in (roles_at q) [] (front ++ x ∷ []) =
+    let at : Known → List DeclaratorTree → List (List ℕ) = λ k ds. map (λ d. d.name) (filter (lacks_bound (symbols_at q).names.types k) ds) in
+    let here : names_kept c.add_sizeless.new.sizeless.items ≡ sizeless_in (symbols_at q) [] (front ++ x ∷ []) =
     c.in_ok-add_sizeless.ensures
     ∙ ap (λ ns. ns ++ at (known_at t) (map declarator_tree c.declarators_in.result.now)) sizeless
-    ∙ ap (λ ds. sizeless_in (roles_at q) [] front ++ at (known_at t) ds) (c.declarators_in.ensures ∙ ap (λ s. declarators_in (shape_tree s)) c.deref-in-loop-item.ensures)
-    ∙ ap (λ k. sizeless_in (roles_at q) [] front ++ at k (declarators_in x.shape)) before.behind
-    ∙ sym (sizeless_push (roles_at q) front x)
+    ∙ ap (λ ds. sizeless_in (symbols_at q) [] front ++ at (known_at t) ds) (c.declarators_in.ensures ∙ ap (λ s. declarators_in (shape_tree s)) c.deref-in-loop-item.ensures)
+    ∙ ap (λ k. sizeless_in (symbols_at q) [] front ++ at k (declarators_in x.shape)) before.behind
+    ∙ sym (sizeless_push (symbols_at q) front x)
     in
     record {
-      roles = ap (λ r. r.now) c.in_ok-pass_constants.ensures.roles ∙ before.roles;
+      symbols = ap (λ r. r.now) c.in_ok-pass_constants.ensures.symbols ∙ before.symbols;
       behind = subst (IsBehind c.pass_constants.new.table) more (c.in_ok-pass_constants.ensures.behind front before.behind);
-      sizeless = here ∙ ap (λ p. sizeless_in (roles_at p) [] (front ++ x ∷ [])) before.roles ∙ ap (sizeless_in (roles_at c.args.roles.now) []) more;
+      sizeless = here ∙ ap (λ p. sizeless_in (symbols_at p) [] (front ++ x ∷ [])) before.symbols ∙ ap (sizeless_in (symbols_at c.args.symbols.now) []) more;
       settled = λ j from lt.
           let le = c.requires.ordered i j (omega (arith, from)) (subst (λ n. j < n) (sym (length-map items tree_at)) lt) in
           c.in_ok-passed.ensures.settled (line_at (map tree_at items) j)
           (subst (λ n. n ≤ line_at (map tree_at items) j) (line_is items i c.item-item.result c.loop-item-test.true c.item-item.is) le);
       passed =
-          subst (λ xs. IsPassed (roles_at c.args.roles.now) c.args.others xs p) more
-          (subst (λ q. IsPassed (roles_at q) c.args.others (front ++ tree_at c.item-item.result ∷ []) p) before.roles
+          subst (λ xs. IsPassed (symbols_at c.args.symbols.now) c.args.others xs p) more
+          (subst (λ q. IsPassed (symbols_at q) c.args.others (front ++ tree_at c.item-item.result ∷ []) p) before.symbols
           (c.in_ok-passed.ensures.passed c.args.others front before.behind (ap names_kept c.deref.ensures.value ∙ sizeless)
-          (subst (λ q. IsPassed (roles_at q) c.args.others front c.loop-item.passed) (sym before.roles) before.passed)));
+          (subst (λ q. IsPassed (symbols_at q) c.args.others front c.loop-item.passed) (sym before.symbols) before.passed)));
     }

@@ -8,5 +8,5 @@ use Rattle.declarations.proofs.known.put_constants.Given as goal
 abbrev pub invariant-loop-constant : goal.invariant-loop-constant
 invariant-loop-constant l = record {
   known : known_at l.table ≡ fold (with_constant (types_in l.initial.table)) (known_at l.initial.table) (map constant_tree (take l.constant-index l.constants));
-  roles : l.table.roles ≡ l.initial.table.roles;
+  symbols : l.table.symbols ≡ l.initial.table.symbols;
 }

@@ -8,7 +8,7 @@ use Rattle.meaning.specs.Execution.{Next, by_sign}
 use Rattle.meaning.specs.Syntax.{arithmetic_if}
 use Rattle.meaning.specs.Values.{as_integer}
 use Rattle.meaning.proofs.Stores.{reads_nothing, reads_so}
-use Rattle.numbering.specs.Checked.{items_in}
+use Rattle.storage.specs.Checked.{items_in}
 use Rattle.values.specs.Programs.{map_at, scope_in}
 use Rattle.evaluator.proofs.Executed.{fault_at, simple_as}
 use Rattle.evaluator.proofs.Picked.{pick_unexecuted, pick_fails, pick_goes}

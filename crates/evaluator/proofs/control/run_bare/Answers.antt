@@ -2,8 +2,8 @@ use Rattle.std.proofs.Common.{◌≡◌, sym, subst}
 use Rattle.std.specs.Prelude.{◌⊎◌}
 use Rattle.meaning.specs.Syntax.{continuing, end_do, stopping}
 use Rattle.meaning.proofs.Stores.{reads_nothing}
-use Rattle.numbering.specs.Checked.{items_in}
-use Rattle.programs.specs.Acts.{Acts, GoesByCount}
+use Rattle.storage.specs.Checked.{items_in}
+use Rattle.program.specs.Acts.{Acts, GoesByCount}
 use Rattle.values.specs.Programs.{map_at}
 use Rattle.evaluator.specs.Parts.{IsBare}
 use Rattle.evaluator.proofs.Executed.{simple_as, continuing_as, pass_passes, output_passes, if_passes, test_passes, repeat_passes, while_passes_over}

@@ -1,6 +1,6 @@
 use Rattle.std.proofs.Common.{refl, subst}
-use Rattle.programs.specs.Acts.{Acts}
-use Rattle.programs.specs.Codes.{IsTarget}
+use Rattle.program.specs.Acts.{Acts}
+use Rattle.program.specs.Codes.{IsTarget}
 use Rattle.evaluator.proofs.Parted.{begins_variable, begins_element}
 use Rattle.evaluator.proofs.statement.assignment_part.Goals as goal
 

@@ -1,5 +1,5 @@
 use Rattle.meaning.specs.Execution.{simple, step}
-use Rattle.numbering.specs.Checked.{items_in}
+use Rattle.storage.specs.Checked.{items_in}
 use Rattle.meaning.proofs.Stores.{does_read}
 use Rattle.values.specs.Programs.{map_at}
 use Rattle.evaluator.proofs.Composed.{does_so, does_nothing, if_ok_so, moves_same}

@@ -6,7 +6,7 @@ use Rattle.meaning.specs.Values.{as_logical}
 use Rattle.meaning.proofs.Stores.{later-later, later-same}
 use Rattle.postfix.specs.Codes.{leaves_logical}
 use Rattle.values.specs.Stacked.{IsCellBy, value_at}
-use Rattle.numbering.specs.Checked.{count_in}
+use Rattle.storage.specs.Checked.{count_in}
 use Rattle.evaluator.specs.Parts.{codes_behind, IsSafe}
 use Rattle.evaluator.proofs.Assigned.{later_written}
 use Rattle.evaluator.proofs.Composed.{comes_none, does_nothing}

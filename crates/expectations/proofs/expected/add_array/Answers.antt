@@ -1,6 +1,6 @@
 use Rattle.meaning.specs.Syntax.{bounds_tree}
 use Rattle.meaning.specs.Typing.{in_bounds}
-use Rattle.roles.proofs.Passes.{joined_more}
+use Rattle.symbols.proofs.Passes.{joined_more}
 use Rattle.expectations.proofs.expected.add_array.Goals as goal
 
 pub loop-bounds-preserved : goal.loop-bounds-preserved

@@ -1,7 +1,7 @@
 use Rattle.std.specs.Prelude.{flat_map}
 use Rattle.meaning.specs.Syntax.{declarator_tree}
 use Rattle.meaning.specs.Typing.{in_bounds}
-use Rattle.roles.proofs.Passes.{joined_more}
+use Rattle.symbols.proofs.Passes.{joined_more}
 use Rattle.expectations.proofs.expected.add_arrays.Goals as goal
 
 pub loop-declarator-preserved : goal.loop-declarator-preserved

@@ -2,14 +2,14 @@ use Rattle.std.proofs.Common.{◌++◌, ◌∷◌, [], map, take, sym, ap, ◌�
 use Rattle.std.proofs.lemmas.List.{map-append}
 use Rattle.meaning.specs.Syntax.{ConstantTree, constant_tree}
 use Rattle.meaning.specs.Typing.{expected}
-use Rattle.roles.specs.RolesAt.{roles_at}
-use Rattle.roles.proofs.Passes.{map_more, pushed_more}
+use Rattle.symbols.specs.SymbolsAt.{symbols_at}
+use Rattle.symbols.proofs.Passes.{map_more, pushed_more}
 use Rattle.expectations.specs.Expected.{expected_list}
 use Rattle.expectations.proofs.expected.add_constants.Goals as goal
 
 pub loop-constant-preserved : goal.loop-constant-preserved
 loop-constant-preserved c =
-    let f = λ (x : ConstantTree). expected ((roles_at c.args.roles.now).names.types x.name) x.value in
+    let f = λ (x : ConstantTree). expected ((symbols_at c.args.symbols.now).names.types x.name) x.value in
     let cs = c.args.constants.now in
     let i = c.loop-constant.constant-index in
     let front = expected_list c.args.found.now.items in

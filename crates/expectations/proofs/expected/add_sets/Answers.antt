@@ -1,7 +1,7 @@
 use Rattle.std.proofs.Common.{true}
 use Rattle.meaning.specs.Syntax.{data_set_tree}
 use Rattle.meaning.specs.Typing.{in_items}
-use Rattle.roles.proofs.Passes.{joined_more}
+use Rattle.symbols.proofs.Passes.{joined_more}
 use Rattle.expectations.proofs.expected.add_sets.Goals as goal
 
 pub loop-set-preserved : goal.loop-set-preserved

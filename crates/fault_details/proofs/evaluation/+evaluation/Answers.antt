@@ -1,5 +1,5 @@
 use Rattle.std.proofs.Common.{rules, Some, arith}
-use Rattle.numbering.specs.Checked.{names_in}
+use Rattle.storage.specs.Checked.{names_in}
 use Rattle.expressions.specs.Calls.{IsCallable}
 use Rattle.fault_details.proofs.Rooms.{call_falls}
 use Rattle.fault_details.proofs.evaluation.+evaluation.Goals as goal

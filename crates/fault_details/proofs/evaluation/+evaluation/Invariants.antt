@@ -1,7 +1,7 @@
 use Rattle.std.proofs.Common.{◌+◌, ◌*◌}
 use Rattle.meaning.specs.Syntax.{expr_tree, exprs_tree}
 use Rattle.expressions.specs.Glossaries.{room, weight, weights}
-use Rattle.numbering.specs.Checked.{names_in}
+use Rattle.storage.specs.Checked.{names_in}
 use Rattle.fault_details.proofs.evaluation.+evaluation.Given as goal
 
 abbrev pub decreases-value_in : goal.decreases-value_in

@@ -1,19 +1,19 @@
 use Rattle.std.proofs.Common.{◌≡◌, sym, ◌∙◌, arith}
-use Rattle.roles.specs.RolesAt.{roles_at}
+use Rattle.symbols.specs.SymbolsAt.{symbols_at}
 use Rattle.function_culprits.proofs.Stepping.{defines_left, defines_none}
 use Rattle.function_culprits.proofs.functions.is_defined_before.Goals as goal
 
 pub returns-in-Some : goal.returns-in-Some
 returns-in-Some c =
-    sym (defines_left (roles_at c.args.roles.now) c.args.name.now c.args.before.now c.loop-item.item-index c.item-item.result _ c.loop-item-test.true c.item-item.is c.in-Some.ensures)
+    sym (defines_left (symbols_at c.args.symbols.now) c.args.name.now c.args.before.now c.loop-item.item-index c.item-item.result _ c.loop-item-test.true c.item-item.is c.in-Some.ensures)
     ∙ c.loop-item.invariant
 
 pub loop-item-preserved : goal.loop-item-preserved
 loop-item-preserved c =
-    sym (defines_left (roles_at c.args.roles.now) c.args.name.now c.args.before.now c.loop-item.item-index c.item-item.result _ c.loop-item-test.true c.item-item.is c.in-None.ensures)
+    sym (defines_left (symbols_at c.args.symbols.now) c.args.name.now c.args.before.now c.loop-item.item-index c.item-item.result _ c.loop-item-test.true c.item-item.is c.in-None.ensures)
     ∙ c.loop-item.invariant
 
 pub returns : goal.returns
 returns c =
-    sym (defines_none (roles_at c.args.roles.now) c.args.name.now c.args.before.now c.loop-item.item-index c.loop-item-test.false)
+    sym (defines_none (symbols_at c.args.symbols.now) c.args.name.now c.args.before.now c.loop-item.item-index c.loop-item-test.false)
     ∙ c.loop-item.invariant

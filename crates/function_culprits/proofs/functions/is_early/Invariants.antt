@@ -1,7 +1,7 @@
 use Rattle.std.proofs.Common.{take}
-use Rattle.roles.specs.Listed.{trees_at}
-use Rattle.roles.specs.Stages.{IsBehind}
+use Rattle.symbols.specs.Listed.{trees_at}
+use Rattle.symbols.specs.Stages.{IsBehind}
 use Rattle.function_culprits.proofs.functions.is_early.Given as goal
 
 abbrev pub invariant-loop-item : goal.invariant-loop-item
-invariant-loop-item l = IsBehind l.roles l.stage (trees_at (take l.item-index l.before))
+invariant-loop-item l = IsBehind l.symbols l.stage (trees_at (take l.item-index l.before))

@@ -1,4 +1,4 @@
 use Rattle.function_rules.proofs.arguments.add_miscounts.Goals as goal
 
 pub add_told-requires : goal.add_told-requires
-add_told-requires c = c.new.ensures c.args.roles.now
+add_told-requires c = c.new.ensures c.args.symbols.now

@@ -1,4 +1,4 @@
-use Rattle.numbering.specs.Checked.{tree_of}
+use Rattle.storage.specs.Checked.{tree_of}
 use Rattle.in_order.proofs.Promised.{keeps_refused, keeps_spelled}
 use Rattle.in_order.proofs.run.run_by.Goals as goal
 

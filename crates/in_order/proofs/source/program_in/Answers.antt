@@ -4,8 +4,8 @@ use Rattle.meaning.specs.Trees.{nested}
 use Rattle.rule_laws.specs.Units.{IsSpelled}
 use Rattle.in_order.proofs.source.program_in.Goals as goal
 
-pub coded-requires : goal.coded-requires
-coded-requires c =
+pub lowered-requires : goal.lowered-requires
+lowered-requires c =
     let program = c.in_ok-program.program in
     let same = sym c.in_ok-program.ensures.tree in
     record {

@@ -2,8 +2,8 @@ use Rattle.std.proofs.Common.{◌++◌, map, ap, ◌∙◌}
 use Rattle.std.proofs.lemmas.List.{map-append}
 use Rattle.meaning.specs.Surroundings.{head_of}
 use Rattle.meaning.specs.Trees.{arms_tree}
-use Rattle.roles.specs.Listed.{tree_at, trees_at}
-use Rattle.roles.proofs.Flattened.{then_one}
+use Rattle.symbols.specs.Listed.{tree_at, trees_at}
+use Rattle.symbols.proofs.Flattened.{then_one}
 use Rattle.list_culprits.proofs.Seating.{own_block, own_loop, own_more, own_plain}
 use Rattle.list_culprits.proofs.seats.add_own.Goals as goal
 use Rattle.list_culprits.proofs.seats.add_own.Goals.{in-Plain+in_ok-push-in-Plain, in-Loop+in_ok-push-in-Loop, in-Block+in_ok-add_first-in-Block+in_ok-push-in-Block}

@@ -1,7 +1,7 @@
 use Rattle.std.proofs.Common.{◌≡◌, ◌++◌, drop}
 use Rattle.meaning.specs.Surroundings.{own_items}
 use Rattle.meaning.specs.Trees.{members_tree}
-use Rattle.roles.specs.Listed.{trees_at}
+use Rattle.symbols.specs.Listed.{trees_at}
 use Rattle.list_culprits.proofs.seats.add_own.Given as goal
 
 abbrev pub invariant-loop-member : goal.invariant-loop-member

@@ -1,5 +1,5 @@
 use Rattle.std.proofs.Common.{◌≡◌, ◌≤◌, take}
-use Rattle.roles.specs.Listed.{trees_at}
+use Rattle.symbols.specs.Listed.{trees_at}
 use Rattle.list_culprits.specs.Transfers.{times}
 use Rattle.list_culprits.proofs.transfers.count_at.Given as goal
 

@@ -3,14 +3,14 @@ use Rattle.meaning.specs.NameRules.{given_by}
 use Rattle.meaning.specs.Syntax.{shape_tree}
 use Rattle.meaning.specs.Trees.{item_tree}
 use Rattle.meaning.specs.Uses.{is_defining, is_one_of}
-use Rattle.roles.specs.RolesAt.{roles_at}
+use Rattle.symbols.specs.SymbolsAt.{symbols_at}
 use Rattle.name_uses.specs.Held.{names_at}
 use Rattle.name_culprits.specs.Names.{names_by}
 use Rattle.name_culprits.proofs.given.gives.Goals as goal
 
 pub returns : goal.returns
 returns c = λ before known.
-    let r = roles_at c.args.roles.now in
+    let r = symbols_at c.args.symbols.now in
     let k = c.args.giving in
     let n = c.args.name.now in
     c.is_among.ensures ∙ ap (λ ns. is_one_of (names_at ns) n) c.deref-2.ensures.value

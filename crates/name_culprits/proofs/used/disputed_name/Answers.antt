@@ -5,8 +5,8 @@ use Rattle.meaning.specs.NameRules.{given_by}
 use Rattle.meaning.specs.Syntax.{ShapeTree, shape_tree}
 use Rattle.meaning.specs.Trees.{item_tree}
 use Rattle.meaning.specs.Uses.{is_defining}
-use Rattle.roles.specs.Listed.{trees_at}
-use Rattle.roles.specs.RolesAt.{roles_at}
+use Rattle.symbols.specs.Listed.{trees_at}
+use Rattle.symbols.specs.SymbolsAt.{symbols_at}
 use Rattle.name_uses.specs.UsesIn.{uses_in}
 use Rattle.name_culprits.specs.Names.{given_in, rival_in, used_in}
 use Rattle.name_culprits.specs.Told.{Told, tell}
@@ -14,7 +14,7 @@ use Rattle.name_culprits.proofs.used.disputed_name.Goals as goal
 
 pub returns : goal.returns
 returns c =
-    let r = roles_at c.args.roles.now in
+    let r = symbols_at c.args.symbols.now in
     let before = trees_at c.args.before.now in
     let x = item_tree c.args.item.now in
     let told : Bool → ShapeTree → Option Told = λ d s. option_or (given_in r before x.line (given_by r d s)) (option_or (used_in r (uses_in r d s) s) (rival_in before s)) in

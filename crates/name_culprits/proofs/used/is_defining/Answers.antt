@@ -1,4 +1,4 @@
-use Rattle.roles.specs.Listed.{trees_at}
+use Rattle.symbols.specs.Listed.{trees_at}
 use Rattle.name_culprits.proofs.used.is_defining.Goals as goal
 
 pub returns : goal.returns

@@ -1,7 +1,7 @@
 use Rattle.std.proofs.Common.{get_or, map, ap, ◌∙◌}
 use Rattle.std.proofs.lemmas.List.{map-append}
 use Rattle.meaning.specs.Syntax.{letters_tree}
-use Rattle.roles.proofs.Passes.{pushed_more}
+use Rattle.symbols.proofs.Passes.{pushed_more}
 use Rattle.name_rules.specs.Lettered.{letters_at}
 use Rattle.name_rules.proofs.Lettering.{letterless}
 use Rattle.name_uses.proofs.Seeing.{read_is}

@@ -1,7 +1,7 @@
 use Rattle.std.proofs.Common.{ℕ, Bool, ◌+◌, ◌||◌, map, drop, get_or, sym, ap, ◌∙◌}
 use Rattle.std.specs.Ordering.{nat_cmp}
 use Rattle.std.specs.BTreeSet.{contains}
-use Rattle.roles.proofs.Passes.{map_left}
+use Rattle.symbols.proofs.Passes.{map_left}
 use Rattle.name_rules.specs.Lettered.{clash_from, letters_at}
 use Rattle.name_rules.proofs.Lettering.{clash_found, clash_more, clash_start, lent, none_taken}
 use Rattle.name_uses.proofs.Seeing.{read_is}

@@ -1,6 +1,6 @@
 use Rattle.std.proofs.Common.{[], ◌++◌, map, ap, ◌∙◌}
 use Rattle.meaning.specs.Syntax.{ImplicitTree, implicit_tree, letters_tree}
-use Rattle.roles.proofs.Passes.{joined_more}
+use Rattle.symbols.proofs.Passes.{joined_more}
 use Rattle.name_rules.specs.Lettered.{letters_at}
 use Rattle.name_rules.proofs.letters.letters_of_parts.Goals as goal
 

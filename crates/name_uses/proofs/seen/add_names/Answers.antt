@@ -1,6 +1,6 @@
 use Rattle.std.proofs.Common.{[], ◌∷◌, get_or}
 use Rattle.std.proofs.lemmas.List.{map-append}
-use Rattle.roles.proofs.Passes.{names_more}
+use Rattle.symbols.proofs.Passes.{names_more}
 use Rattle.name_uses.specs.Held.{names_at}
 use Rattle.name_uses.proofs.Seeing.{nameless, read_is}
 use Rattle.name_uses.proofs.seen.add_names.Goals as goal

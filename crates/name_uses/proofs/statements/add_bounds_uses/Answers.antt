@@ -2,7 +2,7 @@ use Rattle.std.specs.Prelude.{flat_map}
 use Rattle.meaning.specs.Syntax.{bounds_tree}
 use Rattle.meaning.specs.Typing.{in_bounds}
 use Rattle.meaning.specs.Uses.{uses_in}
-use Rattle.roles.proofs.Passes.{joined_more}
+use Rattle.symbols.proofs.Passes.{joined_more}
 use Rattle.name_uses.proofs.statements.add_bounds_uses.Goals as goal
 
 pub loop-bounds-preserved : goal.loop-bounds-preserved

@@ -1,6 +1,6 @@
 use Rattle.meaning.specs.Syntax.{constant_tree}
 use Rattle.meaning.specs.Uses.{uses_in}
-use Rattle.roles.proofs.Passes.{joined_more}
+use Rattle.symbols.proofs.Passes.{joined_more}
 use Rattle.name_uses.proofs.statements.add_constant_uses.Goals as goal
 
 pub loop-constant-preserved : goal.loop-constant-preserved

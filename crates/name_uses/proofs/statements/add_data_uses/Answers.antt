@@ -1,6 +1,6 @@
 use Rattle.meaning.specs.Syntax.{data_set_tree}
 use Rattle.meaning.specs.Uses.{data_set_uses}
-use Rattle.roles.proofs.Passes.{joined_more}
+use Rattle.symbols.proofs.Passes.{joined_more}
 use Rattle.name_uses.proofs.statements.add_data_uses.Goals as goal
 
 pub loop-set-preserved : goal.loop-set-preserved

@@ -1,7 +1,7 @@
 use Rattle.std.specs.Prelude.{flat_map}
 use Rattle.meaning.specs.NumberRules.{numbers_in}
 use Rattle.expectations.specs.Expected.{expected_at}
-use Rattle.roles.proofs.Passes.{joined_more}
+use Rattle.symbols.proofs.Passes.{joined_more}
 use Rattle.number_culprits.proofs.great.add_expected.Goals as goal
 
 pub loop-one-preserved : goal.loop-one-preserved

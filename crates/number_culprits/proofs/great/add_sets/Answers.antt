@@ -3,7 +3,7 @@ use Rattle.std.specs.Prelude.{flat_map}
 use Rattle.meaning.specs.NumberRules.{in_data_value}
 use Rattle.meaning.specs.Syntax.{data_set_tree, data_value_tree}
 use Rattle.name_uses.specs.Held.{names_at}
-use Rattle.roles.proofs.Passes.{joined_more}
+use Rattle.symbols.proofs.Passes.{joined_more}
 use Rattle.number_culprits.proofs.great.add_sets.Goals as goal
 
 pub loop-set-preserved : goal.loop-set-preserved

@@ -1,7 +1,7 @@
 use Rattle.std.specs.Prelude.{flat_map}
 use Rattle.meaning.specs.NumberRules.{in_data_value}
 use Rattle.meaning.specs.Syntax.{data_value_tree}
-use Rattle.roles.proofs.Passes.{joined_more}
+use Rattle.symbols.proofs.Passes.{joined_more}
 use Rattle.number_culprits.proofs.great.add_values.Goals as goal
 
 pub loop-value-preserved : goal.loop-value-preserved

@@ -1,7 +1,7 @@
 use Rattle.std.proofs.Common.{ap, sym, ◌∙◌}
 use Rattle.meaning.specs.declared.ending.Ending.TheVariants as endings
 use Rattle.meaning.specs.Answers.{ending_of}
-use Rattle.numbering.specs.Checked.{items_in}
+use Rattle.storage.specs.Checked.{items_in}
 use Rattle.evaluator.specs.Statements.{outcome_of}
 use Rattle.program_runs.proofs.run.ending_by.Goals as goal
 

@@ -1,4 +1,4 @@
-use Rattle.numbering.specs.Checked.{tree_of}
+use Rattle.storage.specs.Checked.{tree_of}
 use Rattle.program_runs.proofs.Promised.{keeps_reported, keeps_front, keeps_broken}
 use Rattle.program_runs.proofs.run.run_program.Goals as goal
 

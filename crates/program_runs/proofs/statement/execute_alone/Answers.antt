@@ -1,6 +1,6 @@
 use Rattle.meaning.specs.Syntax.{shape_tree}
-use Rattle.numbering.specs.Checked.{items_in}
-use Rattle.numbering.specs.Starts.{map_of}
+use Rattle.storage.specs.Checked.{items_in}
+use Rattle.storage.specs.Starts.{map_of}
 use Rattle.program_runs.proofs.Composed.{steps_quietly, steps_same}
 use Rattle.program_runs.proofs.Told.{items_told}
 use Rattle.program_runs.proofs.Written.{outputs, quiet_alone}

@@ -3,8 +3,8 @@ use Rattle.meaning.specs.declared.ending.FaultKind.TheVariants.{F4}
 use Rattle.meaning.specs.declared.ending.Outcome.TheVariants as outcomes
 use Rattle.meaning.specs.Syntax.{expr_tree, format_tree, list_items_tree, logical_if}
 use Rattle.meaning.specs.Execution.{step}
-use Rattle.numbering.specs.Checked.{items_in}
-use Rattle.numbering.specs.Starts.{map_of}
+use Rattle.storage.specs.Checked.{items_in}
+use Rattle.storage.specs.Starts.{map_of}
 use Rattle.evaluator.specs.Statements.{Moves}
 use Rattle.evaluator.proofs.Executed.{fault_at, if_unexecuted, if_fails, if_false}
 use Rattle.program_runs.specs.Walk.{Steps, output_as}

@@ -3,8 +3,8 @@ use Rattle.std.proofs.lemmas.Result.{err_from_is_err_and}
 use Rattle.meaning.specs.Syntax.{format_tree, list_items_tree}
 use Rattle.meaning.specs.declared.ending.FaultKind.TheVariants.{F4}
 use Rattle.meaning.specs.Promise.{Took, IsBroken}
-use Rattle.numbering.specs.Checked.{items_in}
-use Rattle.numbering.specs.Starts.{map_of}
+use Rattle.storage.specs.Checked.{items_in}
+use Rattle.storage.specs.Starts.{map_of}
 use Rattle.evaluator.proofs.Executed.{fault_at}
 use Rattle.program_runs.proofs.Composed.{steps_quietly}
 use Rattle.program_runs.proofs.Written.{unwritten, write_fails, written_whole, written_in_part}

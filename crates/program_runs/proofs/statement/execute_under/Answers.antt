@@ -1,4 +1,4 @@
-use Rattle.numbering.specs.Starts.{map_of}
+use Rattle.storage.specs.Starts.{map_of}
 use Rattle.program_runs.proofs.Composed.{steps_quietly}
 use Rattle.program_runs.proofs.Written.{quiet_under}
 use Rattle.program_runs.proofs.statement.execute_under.Goals as goal

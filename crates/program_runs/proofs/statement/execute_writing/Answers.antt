@@ -1,8 +1,8 @@
 use Rattle.std.proofs.Common.{sym, subst}
 use Rattle.meaning.specs.Execution.{step}
 use Rattle.meaning.specs.Syntax.{format_tree, list_items_tree, shape_tree}
-use Rattle.numbering.specs.Checked.{items_in}
-use Rattle.numbering.specs.Starts.{map_of}
+use Rattle.storage.specs.Checked.{items_in}
+use Rattle.storage.specs.Starts.{map_of}
 use Rattle.program_runs.specs.Walk.{Steps}
 use Rattle.program_runs.proofs.Told.{items_told}
 use Rattle.program_runs.proofs.statement.execute_writing.Goals as goal

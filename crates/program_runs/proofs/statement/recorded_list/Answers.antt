@@ -2,8 +2,8 @@ use Rattle.std.proofs.Common.{subst}
 use Rattle.meaning.specs.Syntax.{format_tree, list_items_tree}
 use Rattle.meaning.specs.Execution.{parts_for}
 use Rattle.meaning.specs.Records.{edited}
-use Rattle.numbering.specs.Checked.{items_in}
-use Rattle.numbering.specs.Starts.{map_of}
+use Rattle.storage.specs.Checked.{items_in}
+use Rattle.storage.specs.Starts.{map_of}
 use Rattle.evaluator.proofs.Composed.{if_ok_so}
 use Rattle.program_runs.specs.Recorded.{AreEdited}
 use Rattle.program_runs.proofs.Written.{list_fails, list_recorded}

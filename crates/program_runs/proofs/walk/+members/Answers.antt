@@ -15,10 +15,10 @@ use Rattle.meaning.specs.Trips.{trip_count}
 use Rattle.meaning.specs.Maps.{put}
 use Rattle.meaning.specs.Execution.{onward, exec, looped, repeated, while_of, arms_from}
 use Rattle.meaning.specs.Promise.{Told}
-use Rattle.numbering.specs.Checked.{items_in}
-use Rattle.numbering.specs.Starts.{map_of}
+use Rattle.storage.specs.Checked.{items_in}
+use Rattle.storage.specs.Starts.{map_of}
 use Rattle.values.specs.Programs.{scope_in}
-use Rattle.programs.specs.Programs.{IsStatement}
+use Rattle.program.specs.Programs.{IsStatement}
 use Rattle.evaluator.specs.declared.passed.Passed.{Passed}
 use Rattle.evaluator.specs.Known.{AreStatements}
 use Rattle.evaluator.specs.Limited.{span_values}
@@ -862,10 +862,10 @@ walk_trip-returns-in-Err-clause-runs g t c =
 pub walk_some-run_trips-advance-requires-clause-quiet : goal.walk_some-run_trips-advance-requires-clause-quiet
 walk_some-run_trips-advance-requires-clause-quiet g t c =
     let w = c.requires.walked in
-    quiet_loop c.args.program.now c.args.repeated.now c.args.repeat.now c.requires.repeats w.head w.named w.allowed.kept (w.quiet (sym c.is_loud.ensures ∙ c.if-is_loud.false)) w.leaves
+    quiet_loop c.args.program.now c.args.repeated.now c.args.repeat.now c.requires.repeats w.head w.named w.allowed.kept (w.quiet (sym c.has_output.ensures ∙ c.if-has_output.false)) w.leaves
 
-pub walk_some-returns-then-is_loud-clause-runs : goal.walk_some-returns-then-is_loud-clause-runs
-walk_some-returns-then-is_loud-clause-runs g t c =
+pub walk_some-returns-then-has_output-clause-runs : goal.walk_some-returns-then-has_output-clause-runs
+walk_some-returns-then-has_output-clause-runs g t c =
     let p = c.args.program.now in
     let told = g.S.Sink.told in
     let step = c.args.remaining.span.step in

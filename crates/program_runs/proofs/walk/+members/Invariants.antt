@@ -1,8 +1,8 @@
 use Rattle.std.proofs.Common.{◌≡◌, ◌≤◌, ◌<◌, ◌+◌, ◌-◌, ◌*◌, suc, length, true, false}
 use Rattle.meaning.specs.Execution.{exec}
 use Rattle.meaning.specs.Trips.{trip_count}
-use Rattle.numbering.specs.Checked.{count_in, items_in}
-use Rattle.numbering.specs.Starts.{map_of}
+use Rattle.storage.specs.Checked.{count_in, items_in}
+use Rattle.storage.specs.Starts.{map_of}
 use Rattle.values.specs.Programs.{scope_in}
 use Rattle.evaluator.specs.Statements.{Comes}
 use Rattle.evaluator.proofs.Looped.{from_place, arms_left}

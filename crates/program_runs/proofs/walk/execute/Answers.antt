@@ -3,8 +3,8 @@ use Rattle.std.proofs.lemmas.Result.{err_from_is_err_and}
 use Rattle.meaning.specs.Trees.{flat, members_tree, nested}
 use Rattle.meaning.specs.Answers.{run_of}
 use Rattle.meaning.specs.Execution.{Ran, exec}
-use Rattle.numbering.specs.Checked.{tree_of, items_in}
-use Rattle.numbering.specs.Starts.{map_of}
+use Rattle.storage.specs.Checked.{tree_of, items_in}
+use Rattle.storage.specs.Starts.{map_of}
 use Rattle.meaning.proofs.Lasting.{leave_variables}
 use Rattle.evaluator.specs.Known.{AreStatements}
 use Rattle.evaluator.proofs.Parts.{all_statements}

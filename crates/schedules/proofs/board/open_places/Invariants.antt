@@ -1,5 +1,5 @@
 use Rattle.std.proofs.Common.{◌≡◌, replicate}
-use Rattle.schedules.specs.declared.place.Place.TheVariants.{Open}
+use Rattle.schedules.specs.declared.place.BlockSlot.TheVariants.{Open}
 use Rattle.schedules.proofs.board.open_places.Given as goal
 
 abbrev pub invariant-loop : goal.invariant-loop

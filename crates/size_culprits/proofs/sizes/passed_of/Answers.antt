@@ -1,7 +1,7 @@
 use Rattle.std.proofs.Common.{◌≡◌, [], take, sym, ap, subst, ◌∙◌}
-use Rattle.roles.specs.Listed.{tree_at, trees_at}
-use Rattle.roles.specs.RolesAt.{roles_at}
-use Rattle.roles.proofs.Passes.{map_more}
+use Rattle.symbols.specs.Listed.{tree_at, trees_at}
+use Rattle.symbols.specs.SymbolsAt.{symbols_at}
+use Rattle.symbols.proofs.Passes.{map_more}
 use Rattle.expressions.specs.Places.{capped}
 use Rattle.number_rules.specs.Sized.{AreBehind}
 use Rattle.number_rules.proofs.Sizing.{elements_none}
@@ -9,10 +9,10 @@ use Rattle.size_culprits.proofs.sizes.passed_of.Goals as goal
 
 pub loop-item-init : goal.loop-item-init
 loop-item-init c = record {
-  same = c.table_of.ensures.roles;
+  same = c.table_of.ensures.symbols;
   behind = record {
     table = c.table_of.ensures.behind;
-    elements = ap capped (sym (elements_none (roles_at c.table_of.result.roles.now)));
+    elements = ap capped (sym (elements_none (symbols_at c.table_of.result.symbols.now)));
   };
 }
 

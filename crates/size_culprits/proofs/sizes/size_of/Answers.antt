@@ -3,7 +3,7 @@ use Rattle.std.proofs.lemmas.List.{map-append}
 use Rattle.meaning.specs.Arrays.{extent}
 use Rattle.meaning.specs.Scopes.{dimension_of}
 use Rattle.meaning.specs.Syntax.{bounds_tree}
-use Rattle.roles.proofs.Passes.{map_more}
+use Rattle.symbols.proofs.Passes.{map_more}
 use Rattle.declarations.specs.Tables.{known_at, types_in}
 use Rattle.expressions.proofs.Capped.{size_more}
 use Rattle.size_culprits.proofs.sizes.size_of.Goals as goal

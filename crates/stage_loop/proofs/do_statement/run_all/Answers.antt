@@ -3,8 +3,8 @@ use Rattle.std.specs.Int.{w32}
 use Rattle.std.proofs.lemmas.Int.{to_z-of_z}
 use Rattle.std.proofs.lemmas.Bool.{false≢true}
 use Rattle.meaning.specs.declared.ending.Outcome.TheVariants as outcomes
-use Rattle.numbering.specs.Checked.{items_in}
-use Rattle.numbering.specs.Starts.{map_of}
+use Rattle.storage.specs.Checked.{items_in}
+use Rattle.storage.specs.Starts.{map_of}
 use Rattle.evaluator.specs.Statements.{Leaves}
 use Rattle.whole_runs.proofs.Advancing.{is_end}
 use Rattle.stage_loop.proofs.Advances.{on, trips_end, trips_then}

@@ -1,8 +1,8 @@
 use Rattle.meaning.specs.declared.ending.Outcome.TheVariants as outcomes
 use Rattle.meaning.specs.declared.syntax.Loop.{out-Loop}
 use Rattle.meaning.specs.Execution.{exec, onward}
-use Rattle.numbering.specs.Checked.{items_in}
-use Rattle.numbering.specs.Starts.{map_of}
+use Rattle.storage.specs.Checked.{items_in}
+use Rattle.storage.specs.Starts.{map_of}
 use Rattle.values.specs.Programs.{scope_in}
 use Rattle.evaluator.specs.Over.{loop_as}
 use Rattle.evaluator.proofs.Composed.{moves_same}

@@ -6,8 +6,8 @@ use Rattle.meaning.specs.declared.syntax.Loop.{out-Loop}
 use Rattle.meaning.specs.Execution.{exec, looped}
 use Rattle.meaning.specs.Maps.{Map, put}
 use Rattle.meaning.specs.Syntax.{doing}
-use Rattle.numbering.specs.Checked.{items_in}
-use Rattle.numbering.specs.Starts.{map_of}
+use Rattle.storage.specs.Checked.{items_in}
+use Rattle.storage.specs.Starts.{map_of}
 use Rattle.values.specs.Programs.{scope_in}
 use Rattle.evaluator.specs.Limited.{span_values}
 use Rattle.evaluator.specs.Over.{MovesIn, loop_as, trips_as}

@@ -1,5 +1,5 @@
 use Rattle.std.proofs.Common.{subst}
-use Rattle.numbering.specs.Checked.{items_in}
+use Rattle.storage.specs.Checked.{items_in}
 use Rattle.evaluator.specs.Over.{MovesIn, loop_as}
 use Rattle.block_stage.specs.Jobs.{shape_in}
 use Rattle.stage_loop.proofs.Advances.{left_by_used}

@@ -1,7 +1,7 @@
 use Rattle.std.proofs.Common.{◌≡◌, ◌+◌, ◌-◌, ◌<◌, pos, ◌+ℤ◌, ◌*ℤ◌, refl, sym, ap, subst, ◌∙◌, arith}
 use Rattle.meaning.specs.declared.ending.Outcome.TheVariants as outcomes
-use Rattle.numbering.specs.Checked.{items_in}
-use Rattle.numbering.specs.Starts.{map_of}
+use Rattle.storage.specs.Checked.{items_in}
+use Rattle.storage.specs.Starts.{map_of}
 use Rattle.evaluator.specs.Over.{repeated_as}
 use Rattle.evaluator.specs.Statements.{Leaves}
 use Rattle.stage_loop.specs.Loops.{AreIntegers}

@@ -1,7 +1,7 @@
 use Rattle.std.proofs.Common.{◌≡◌, ◌-◌, ◌<◌, ◌≤◌, [], length}
 use Rattle.meaning.specs.declared.ending.Outcome.TheVariants as outcomes
-use Rattle.numbering.specs.Checked.{items_in}
-use Rattle.numbering.specs.Starts.{map_of}
+use Rattle.storage.specs.Checked.{items_in}
+use Rattle.storage.specs.Starts.{map_of}
 use Rattle.evaluator.specs.Statements.{Leaves}
 use Rattle.block_stage.specs.Jobs.{variable_in}
 use Rattle.stage_loop.specs.Loops.{AreIntegers}

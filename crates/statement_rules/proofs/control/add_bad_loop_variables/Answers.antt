@@ -4,7 +4,7 @@ use Rattle.meaning.specs.declared.refusal.Rule.TheVariants.{K9}
 use Rattle.meaning.specs.LoopRules.{breaks_loops}
 use Rattle.meaning.specs.Surroundings.{Around, in_body, told_in}
 use Rattle.meaning.specs.Trees.{members_tree}
-use Rattle.roles.specs.RolesAt.{roles_at}
+use Rattle.symbols.specs.SymbolsAt.{symbols_at}
 use Rattle.statement_rules.specs.Counters.{counters}
 use Rattle.statement_rules.specs.Reached.{AddsInBody}
 use Rattle.rule_passes.proofs.Answering.{on_ok_then}
@@ -13,7 +13,7 @@ use Rattle.statement_rules.proofs.control.add_bad_loop_variables.Goals as goal
 pub returns : goal.returns
 returns c =
     let body = members_tree c.args.members.now in
-    let breaks = breaks_loops (roles_at c.args.roles.now) in
+    let breaks = breaks_loops (symbols_at c.args.symbols.now) in
     let old = c.args.pairs.now.items in
     let new = c.add_in.new.pairs.items in
     on_ok_then

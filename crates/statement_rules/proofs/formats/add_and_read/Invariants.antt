@@ -10,6 +10,6 @@ abbrev pub invariant-loop-item : goal.invariant-loop-item
 invariant-loop-item l = record {
   so_far : l.pairs.items ≡ l.initial.pairs.items ++ told (breaks_either l.initial.output) K11 [] (map tree_at (take l.item-index l.items));
   known : KnowsOutput l.output (map tree_at (take l.item-index l.items));
-  same : breaks_places l.output.table.roles.now ≡ breaks_places l.initial.output.table.roles.now;
+  same : breaks_places l.output.table.symbols.now ≡ breaks_places l.initial.output.table.symbols.now;
   held : HoldsFormats (map tree_at (take l.item-index l.items)) l.formats;
 }

@@ -3,9 +3,9 @@ use Rattle.meaning.specs.Stores.{World, IsLater}
 use Rattle.meaning.specs.declared.ending.FaultKind.TheVariants.{F2}
 use Rattle.meaning.specs.declared.syntax.Tree.{Tree}
 use Rattle.meaning.proofs.Stores.{reads_so}
-use Rattle.numbering.specs.Checked.{count_in}
+use Rattle.storage.specs.Checked.{count_in}
 use Rattle.postfix.specs.declared.code.Code.{Code}
-use Rattle.postfix.specs.declared.order.Order.{Order}
+use Rattle.postfix.specs.declared.order.Opcode.{Opcode}
 use Rattle.postfix.specs.declared.prepared.Reached.{Reached}
 use Rattle.postfix.specs.declared.prepared.Reached.TheVariants as reached
 use Rattle.postfix.specs.Endings.{ended}
@@ -13,13 +13,13 @@ use Rattle.postfix.specs.Machine.{calls_to, run}
 use Rattle.postfix.specs.Orders.{acts}
 use Rattle.postfix.specs.Within.{AreFew, AreReady, IsEndingWithin}
 use Rattle.postfix.specs.Reached.{ComesToCall, IsReached}
-use Rattle.programs.specs.Codes.{callable_in}
-use Rattle.programs.specs.Kept.{AreFunctions}
+use Rattle.program.specs.Codes.{callable_in}
+use Rattle.program.specs.Kept.{AreFunctions}
 use Rattle.values.specs.Ordered.{IsReachedIn}
 use Rattle.values.proofs.Running.{number_is}
 use Rattle.values.proofs.codes.number_in.Goals as goal
 
-reached_in : (t : Tree) (n k : ℕ) (fs : List Code) (u v : World) (os : List Order) (r : Reached) → n ≡ count_in t → k ≡ callable_in t → AreFunctions t fs → IsReached n u v os r → IsReachedIn t u v os r
+reached_in : (t : Tree) (n k : ℕ) (fs : List Code) (u v : World) (os : List Opcode) (r : Reached) → n ≡ count_in t → k ≡ callable_in t → AreFunctions t fs → IsReached n u v os r → IsReachedIn t u v os r
 reached_in t n k fs u v os (reached.Number x e rest) many all have h =
     record {
       reads = reads_so _ _ _ _ (h.reads (calls_to n fs k)) (λ m is c same. number_is t n k [] fs many all refl have c m (Ok x) (subst (λ l. run n (calls_to n fs k) [] l 0 (pos 0 ∷ []) m ≡ Ok x) same is));
@@ -42,7 +42,7 @@ returns-clause-reached g c =
     let f = c.frame_of-frame.ensures in
     reached_in c.args.program.now c.args.cells r.callable r.functions.now _ _ c.args.orders.now c.number_reached.result c.requires.counted f.callable f.functions c.number_reached.ensures.reached
 
-grown : (n : ℕ) (u v : World) (os : List Order) (r : Reached) → IsReached n u v os r → IsLater u v
+grown : (n : ℕ) (u v : World) (os : List Opcode) (r : Reached) → IsReached n u v os r → IsLater u v
 grown n u v os (reached.Number x e rest) h = (h.reads (λ at args m. Err F2)).grows
 grown n u v os reached.Otherwise (inl f) = (f.reads (λ at args m. Err F2)).grows
 grown n u v os reached.Otherwise (inr call) = (call.reads (λ at args m. Err F2)).grows

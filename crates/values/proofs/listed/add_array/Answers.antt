@@ -5,7 +5,7 @@ use Rattle.std.proofs.lemmas.Int.{to_z-of_z}
 use Rattle.meaning.specs.declared.ending.FaultKind.TheVariants.{F8}
 use Rattle.meaning.specs.Syntax.{expr_tree}
 use Rattle.expressions.proofs.Items.{array_item}
-use Rattle.numbering.specs.Checked.{count_in, names_in, numbers_in}
+use Rattle.storage.specs.Checked.{count_in, names_in, numbers_in}
 use Rattle.values.specs.Stacked.{value_at}
 use Rattle.values.proofs.Elements.{one_more}
 use Rattle.values.proofs.listed.add_array.Goals as goal

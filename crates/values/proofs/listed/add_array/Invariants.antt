@@ -1,5 +1,5 @@
 use Rattle.meaning.specs.Syntax.{expr_tree}
-use Rattle.programs.specs.Items.{IsWholeArray}
+use Rattle.program.specs.Items.{IsWholeArray}
 use Rattle.expressions.specs.Listed.{Partly}
 use Rattle.values.proofs.listed.add_array.Given as goal
 

@@ -1,6 +1,6 @@
 use Rattle.std.proofs.Common.{arith}
 use Rattle.meaning.specs.Syntax.{expr_tree}
-use Rattle.numbering.specs.Checked.{count_in, names_in, numbers_in}
+use Rattle.storage.specs.Checked.{count_in, names_in, numbers_in}
 use Rattle.expressions.proofs.Items.{value_adds, value_fails}
 use Rattle.values.proofs.listed.add_value.Goals as goal
 

@@ -2,7 +2,7 @@ use Rattle.std.proofs.Common.{◌≡◌}
 use Rattle.meaning.specs.Lists.{listed}
 use Rattle.meaning.specs.Syntax.{list_items_tree}
 use Rattle.meaning.specs.Trips.{trip_count}
-use Rattle.numbering.specs.Checked.{count_in}
+use Rattle.storage.specs.Checked.{count_in}
 use Rattle.values.specs.Programs.{scope_in}
 use Rattle.whole_runs.proofs.Listed.{Listing_so_far}
 use Rattle.whole_runs.proofs.listing.+listing.Given as goal

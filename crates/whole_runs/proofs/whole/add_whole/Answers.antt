@@ -1,7 +1,7 @@
 use Rattle.std.proofs.Common.{subst, to_z, of_z}
 use Rattle.std.specs.Int.{w32}
 use Rattle.std.proofs.lemmas.Int.{to_z-of_z}
-use Rattle.numbering.specs.Starts.{map_of}
+use Rattle.storage.specs.Starts.{map_of}
 use Rattle.values.specs.Programs.{map_at}
 use Rattle.evaluator.specs.Statements.{Adds}
 use Rattle.whole_runs.proofs.Wholes.{does_whole}

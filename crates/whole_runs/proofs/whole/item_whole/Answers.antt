@@ -1,6 +1,6 @@
 use Rattle.meaning.specs.Execution.{step}
 use Rattle.meaning.specs.Syntax.{shape_tree}
-use Rattle.numbering.specs.Checked.{items_in}
+use Rattle.storage.specs.Checked.{items_in}
 use Rattle.evaluator.specs.Over.{MovesAt}
 use Rattle.whole_runs.proofs.Wholes.{does_whole}
 use Rattle.whole_runs.proofs.whole.item_whole.Goals as goal

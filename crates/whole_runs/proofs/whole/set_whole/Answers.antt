@@ -2,7 +2,7 @@ use Rattle.std.proofs.Common.{◌≡◌, [], ap, ◌∙◌, to_z, of_z}
 use Rattle.std.specs.Int.{w32}
 use Rattle.std.proofs.lemmas.Int.{to_z-of_z}
 use Rattle.meaning.specs.Maps.{put}
-use Rattle.numbering.specs.Starts.{map_of}
+use Rattle.storage.specs.Starts.{map_of}
 use Rattle.values.specs.Programs.{map_at}
 use Rattle.whole_runs.proofs.Wholes.{does_whole}
 use Rattle.whole_runs.proofs.whole.set_whole.Goals as goal

@@ -15,8 +15,8 @@ run_before-run-requires-clause-fits c =
     let d = data_of s.job in
     let same = c.deref.ensures.value ∙ ap (λ (t : PostedParts). t.places) c.self.view_is in
     let le = turns_fit d known_of.job.long known_of.job.last known_of.job.unset s.places known_of.faithful c.args.cut c.requires.some c.requires.cut.least in
-    let turns : c.parts-parts.result.turns ≡ s.job.turns = sym (ap (λ (j : JobParts). j.turns) c.parts-parts.ensures.parts) ∙ ap (λ (t : PostedParts). t.job.turns) c.self.view_is in
-    let small : c.parts-parts.result.turns < 2 ^ 64 = search rules in
+    let turns : c.parts-parts.result.turns_left ≡ s.job.turns_left = sym (ap (λ (j : JobParts). j.turns_left) c.parts-parts.ensures.parts) ∙ ap (λ (t : PostedParts). t.job.turns_left) c.self.view_is in
+    let small : c.parts-parts.result.turns_left < 2 ^ 64 = search rules in
     subst (λ ps. turns_to ps c.args.cut < 2 ^ 64) (sym same) (omega (arith, le, turns, small))
 
 pub new-requires-clause-sized : goal.new-requires-clause-sized
@@ -32,13 +32,13 @@ pub new-requires-clause-within : goal.new-requires-clause-within
 new-requires-clause-within c =
     let s = c.args.self in
     let wrote = c.changes_of-changes.ensures ∙ ap (λ (t : PostedParts). wrote_in t.places) c.self.view_is in
-    subst (λ (ws : _). c.args.cut ≤ length ws) (sym wrote) (as_many c.args.cut s.places (have_runs s.job.turns s.places c.args.cut c.requires.cut.least))
+    subst (λ (ws : _). c.args.cut ≤ length ws) (sym wrote) (as_many c.args.cut s.places (have_runs s.job.turns_left s.places c.args.cut c.requires.cut.least))
 
 pub returns-clause-map : goal.returns-clause-map
 returns-clause-map c = λ m.
     let s = c.args.self in
     let wrote = c.changes_of-changes.ensures ∙ ap (λ (t : PostedParts). wrote_in t.places) c.self.view_is in
-    let runs = have_runs s.job.turns s.places c.args.cut c.requires.cut.least in
+    let runs = have_runs s.job.turns_left s.places c.args.cut c.requires.cut.least in
     let written = ap (λ (t : TakenParts). t.written) c.new.ensures ∙ ap (take c.args.cut) wrote ∙ first_wrote c.args.cut s.places runs in
     ap (overlay_each m) written ∙ each_is_all m (take c.args.cut s.places)
 
@@ -49,8 +49,8 @@ returns-clause-fold c =
     let d = data_of s.job in
     let same = c.deref.ensures.value ∙ ap (λ (t : PostedParts). t.places) c.self.view_is in
     let wrote = c.changes_of-changes.ensures ∙ ap (λ (t : PostedParts). wrote_in t.places) c.self.view_is in
-    let runs = have_runs s.job.turns s.places c.args.cut c.requires.cut.least in
-    let run = committed d known_of.job.long known_of.job.last known_of.job.unset s.places known_of.faithful c.args.cut c.requires.some (let e = cut_within s.job.turns s.places c.args.cut c.requires.cut in let w = known_of.whole in omega arith) c.requires.cut.least in
+    let runs = have_runs s.job.turns_left s.places c.args.cut c.requires.cut.least in
+    let run = committed d known_of.job.long known_of.job.last known_of.job.unset s.places known_of.faithful c.args.cut c.requires.some (let e = cut_within s.job.turns_left s.places c.args.cut c.requires.cut in let w = known_of.whole in omega arith) c.requires.cut.least in
     let outcome = ap (λ (t : TakenParts). t.outcome) c.new.ensures ∙ c.run_before-run.ensures.outcome ∙ ap (λ ps. outcome_to ps c.args.cut) same in
     let turns = ap (λ (t : TakenParts). t.used) c.new.ensures ∙ c.run_before-run.ensures.turns ∙ ap (λ ps. turns_to ps c.args.cut) same in
     let written = ap (λ (t : TakenParts). t.written) c.new.ensures ∙ ap (take c.args.cut) wrote ∙ first_wrote c.args.cut s.places runs in

@@ -1,8 +1,8 @@
 use Rattle.std.proofs.Common.{[], ◌∷◌, ◌++◌, option_map}
 use Rattle.meaning.specs.Trees.{item_tree}
-use Rattle.roles.specs.Functions.{definition_at}
-use Rattle.roles.specs.RolesAt.{roles_at}
-use Rattle.roles.specs.Stages.{IsBehind}
+use Rattle.symbols.specs.Functions.{definition_at}
+use Rattle.symbols.specs.SymbolsAt.{symbols_at}
+use Rattle.symbols.specs.Stages.{IsBehind}
 use Rattle.function_rules.specs.Measured.{level_at, nodes_at}
 use Rattle.function_rules.proofs.Describing.{described}
 use Rattle.function_rules.proofs.definitions.DefinitionsBehind.pass.Goals as goal
@@ -12,4 +12,4 @@ returns-clause-knows c = λ before known.
     let s = c.args.self.now in
     let x = item_tree c.args.item.now in
     let new = c.keep_function.new.kept in
-    described (roles_at s.roles.now) (IsBehind s.roles.now c.pass.new.self (before ++ x ∷ [])) before x (option_map definition_at c.function_here-function.result) (level_at s.kept) (level_at new) (nodes_at s.kept) (nodes_at new) (c.pass.ensures before known.stage) (c.function_here-function.ensures before known.stage) known.levels known.nodes c.in_ok-keep_function.ensures.levels c.in_ok-keep_function.ensures.nodes
+    described (symbols_at s.symbols.now) (IsBehind s.symbols.now c.pass.new.self (before ++ x ∷ [])) before x (option_map definition_at c.function_here-function.result) (level_at s.kept) (level_at new) (nodes_at s.kept) (nodes_at new) (c.pass.ensures before known.stage) (c.function_here-function.ensures before known.stage) known.levels known.nodes c.in_ok-keep_function.ensures.levels c.in_ok-keep_function.ensures.nodes

@@ -9,7 +9,7 @@ use Rattle.meaning.specs.NameRules.{letters_in}
 use Rattle.meaning.specs.Syntax.{ItemTree, shape_tree}
 use Rattle.meaning.specs.Trees.{item_tree}
 use Rattle.meaning.specs.Types.{is_among}
-use Rattle.roles.proofs.Passes.{flat_map_last}
+use Rattle.symbols.proofs.Passes.{flat_map_last}
 use Rattle.name_rules.specs.Lettered.{letters_of, letters_at}
 use Rattle.rule_passes.proofs.Answering.{on_ok_then}
 use Rattle.name_rules.proofs.letters.ImpliedBehind.pass.Goals as goal

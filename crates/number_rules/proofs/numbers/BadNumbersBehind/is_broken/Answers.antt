@@ -2,14 +2,14 @@ use Rattle.std.proofs.Common.{◌||◌, sym, ap, ap₂, ◌∙◌}
 use Rattle.meaning.specs.NumberRules.{has_bad_bound, has_too_great, is_bad_constant, known_behind_all}
 use Rattle.meaning.specs.Scopes.{constants_in, declarators_in}
 use Rattle.meaning.specs.Syntax.{shape_tree}
-use Rattle.roles.specs.RolesAt.{roles_at}
+use Rattle.symbols.specs.SymbolsAt.{symbols_at}
 use Rattle.declarations.specs.Tables.{known_at}
 use Rattle.number_rules.proofs.numbers.BadNumbersBehind.is_broken.Goals as goal
 
 pub returns-then-has_too_great : goal.returns-then-has_too_great
 returns-then-has_too_great c = λ before known.
     let table = c.args.self.now.table in
-    let r = roles_at table.roles.now in
+    let r = symbols_at table.symbols.now in
     let s = shape_tree c.deref-shape.result.now in
     let k = known_behind_all r before in
     c.if-has_too_great.true
@@ -19,7 +19,7 @@ returns-then-has_too_great c = λ before known.
 pub returns-else-is_bad : goal.returns-else-is_bad
 returns-else-is_bad c = λ before known.
     let table = c.args.self.now.table in
-    let r = roles_at table.roles.now in
+    let r = symbols_at table.symbols.now in
     let s = shape_tree c.deref-shape.result.now in
     let k = known_behind_all r before in
     let bounds = has_bad_bound r.names.types (known_at table) (declarators_in s) in

@@ -2,7 +2,7 @@ use Rattle.std.proofs.Common.{rules, sym, ap, ◌∙◌, subst, to_z, of_z}
 use Rattle.std.specs.Int.{w32}
 use Rattle.std.proofs.lemmas.Int.{to_z-of_z}
 use Rattle.meaning.specs.Stores.{after_write}
-use Rattle.private_view.specs.declared.front.Front.{Front}
+use Rattle.private_view.specs.declared.front.FirstCells.{FirstCells}
 use Rattle.private_view.specs.Fronts.{IsFront, world_with_first}
 use Rattle.private_view.specs.Views.{world_seen}
 use Rattle.private_view.proofs.Fronts.{put_now, same_now, world_first, world_now}
@@ -15,7 +15,7 @@ pub invariant_of-self-2 : goal.invariant_of-self-2
 invariant_of-self-2 c =
     let p = c.self.inside.paged in
     let h = c.note.new.self in
-    let before = subst (λ (g : Front). IsFront g.shown g.written g.values (world_seen p)) (sym (c.put.ensures.other c.if-put.false)) c.self.invariant in
+    let before = subst (λ (g : FirstCells). IsFront g.shown g.written g.values (world_seen p)) (sym (c.put.ensures.other c.if-put.false)) c.self.invariant in
     subst (IsFront h.shown h.written h.values) (sym c.in_ok-write.ensures.ok) (c.note.ensures.front (world_seen p) before)
 
 pub returns-then-put-clause-ok : goal.returns-then-put-clause-ok
@@ -30,7 +30,7 @@ returns-in_err-write-clause-err c =
     let f = c.self.inside.front in
     let g = c.put.new.self in
     let other = c.put.ensures.other c.if-put.false in
-    let same = same_now f.written f.values c.self.inside.paged c.args.self.now c.self.view_is g.written g.values c.write.new.self (ap (λ (h : Front). h.written) other) (ap (λ (h : Front). h.values) other) c.in_err-write.ensures.err in
+    let same = same_now f.written f.values c.self.inside.paged c.args.self.now c.self.view_is g.written g.values c.write.new.self (ap (λ (h : FirstCells). h.written) other) (ap (λ (h : FirstCells). h.values) other) c.in_err-write.ensures.err in
     search (rules, same)
 
 pub returns-clause-ok : goal.returns-clause-ok
@@ -42,4 +42,4 @@ returns-clause-ok c =
     let h = c.note.new.self in
     let n = c.write.new.self in
     let now = world_now f.written f.values p c.args.self.now c.self.view_is in
-    world_first h.written h.values n ∙ ap (world_with_first h.written h.values) c.in_ok-write.ensures.ok ∙ c.note.ensures.world (world_seen p) ∙ ap (λ (g : Front). after_write k x (world_with_first g.written g.values (world_seen p))) (c.put.ensures.other c.if-put.false) ∙ ap (after_write k x) (sym now) ∙ ap (λ y. after_write k y (world_seen c.args.self.now)) (to_z-of_z w32 c.args.value c.ranges.value)
+    world_first h.written h.values n ∙ ap (world_with_first h.written h.values) c.in_ok-write.ensures.ok ∙ c.note.ensures.world (world_seen p) ∙ ap (λ (g : FirstCells). after_write k x (world_with_first g.written g.values (world_seen p))) (c.put.ensures.other c.if-put.false) ∙ ap (after_write k x) (sym now) ∙ ap (λ y. after_write k y (world_seen c.args.self.now)) (to_z-of_z w32 c.args.value c.ranges.value)

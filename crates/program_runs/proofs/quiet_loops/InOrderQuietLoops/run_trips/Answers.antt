@@ -6,8 +6,8 @@ use Rattle.meaning.specs.declared.syntax.Loop.{out-Loop}
 use Rattle.meaning.specs.Execution.{exec}
 use Rattle.meaning.specs.Syntax.{shape_tree}
 use Rattle.meaning.specs.Trees.{members_tree}
-use Rattle.numbering.specs.Checked.{items_in}
-use Rattle.numbering.specs.Starts.{map_of}
+use Rattle.storage.specs.Checked.{items_in}
+use Rattle.storage.specs.Starts.{map_of}
 use Rattle.evaluator.specs.Quiet.{variable_of}
 use Rattle.evaluator.specs.Statements.{Leaves}
 use Rattle.whole_runs.specs.Trips.{trips_in}

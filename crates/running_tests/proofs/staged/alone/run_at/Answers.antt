@@ -1,5 +1,5 @@
 use Rattle.std.proofs.Common.{sym, ◌∙◌}
-use Rattle.programs.specs.Programs.{IsStatement}
+use Rattle.program.specs.Programs.{IsStatement}
 use Rattle.evaluator.proofs.Looped.{head_known, known_at, range_known}
 use Rattle.program_runs.proofs.Allowing.{allowed_at, allowed_range, leaves_its_variable, quiet_unless_loud}
 use Rattle.running_tests.proofs.staged.alone.run_at.Goals as goal
@@ -20,7 +20,7 @@ pub run_loop-run-requires-clause-quiet : goal.run_loop-run-requires-clause-quiet
 run_loop-run-requires-clause-quiet g c = λ κs h.
     let p = c.args.program.now in
     let x = c.index-members-place.result in
-    quiet_unless_loud p x c.in-Loop.repeated c.in-Loop.is (allowed_at p c.args.members.now c.args.place x c.requires.inside c.index-members-place.is c.requires.allowed) (sym c.is_loud.ensures ∙ c.if-is_loud.false)
+    quiet_unless_loud p x c.in-Loop.repeated c.in-Loop.is (allowed_at p c.args.members.now c.args.place x c.requires.inside c.index-members-place.is c.requires.allowed) (sym c.has_output.ensures ∙ c.if-has_output.false)
 
 pub run_loop-run-requires-clause-leaves : goal.run_loop-run-requires-clause-leaves
 run_loop-run-requires-clause-leaves g c = λ κs h.

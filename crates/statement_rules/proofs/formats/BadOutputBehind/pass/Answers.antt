@@ -5,4 +5,4 @@ use Rattle.statement_rules.proofs.formats.BadOutputBehind.pass.Goals as goal
 
 pub returns-clause-same : goal.returns-clause-same
 returns-clause-same c =
-    on_ok_then _ _ c.pass_constants.result c.pass_constants.ensures.roles (λ same. ap (λ r. breaks_places r.now) same)
+    on_ok_then _ _ c.pass_constants.result c.pass_constants.ensures.symbols (λ same. ap (λ r. breaks_places r.now) same)

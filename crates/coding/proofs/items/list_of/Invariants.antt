@@ -1,9 +1,0 @@
-use Rattle.std.proofs.Common.{◌≡◌, ◌++◌, length}
-use Rattle.coding.specs.Lists.{codes_in}
-use Rattle.coding.proofs.items.list_of.Given as goal
-
-abbrev pub invariant-loop-code : goal.invariant-loop-code
-invariant-loop-code l = l.codes.items ++ codes_in l.list ≡ l.initial.codes.items
-
-abbrev pub decreases-loop-code : goal.decreases-loop-code
-decreases-loop-code l = length l.codes.items

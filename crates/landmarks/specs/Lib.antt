@@ -1,8 +1,0 @@
-pub mod Quiet
-pub mod Places
-pub mod Entries
-pub mod Loud
-pub mod Lists
-pub mod Kept
-pub mod Puts
-pub mod Landmarked

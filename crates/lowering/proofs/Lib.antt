@@ -1,0 +1,11 @@
+pub mod Assigned
+pub mod Settings
+pub mod Places
+pub mod Kept
+pub mod Listing
+pub mod Ordered
+pub mod Adding
+pub mod LoweredLists
+pub mod Turned
+pub mod Filled
+pub mod Arrays

@@ -1,8 +1,0 @@
-use Rattle.std.proofs.Common.{subst}
-use Rattle.expressions.specs.Names.{IsFunction}
-use Rattle.numbering.specs.Checked.{names_in}
-use Rattle.numbering.proofs.program.ProgramNumbering.function.Goals as goal
-
-pub returns : goal.returns
-returns c =
-    subst (λ t. IsFunction (names_in t).definitions c.args.name.now c.function_in.result) c.self.view_is c.function_in.ensures

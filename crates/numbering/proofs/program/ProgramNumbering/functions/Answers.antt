@@ -1,7 +1,0 @@
-use Rattle.std.proofs.Common.{◌≡◌, length, subst}
-use Rattle.numbering.specs.Checked.{names_in}
-use Rattle.numbering.proofs.program.ProgramNumbering.functions.Goals as goal
-
-pub returns : goal.returns
-returns c =
-    subst (λ t. c.self.inside.parts.function_count ≡ length (names_in t).definitions) c.self.view_is c.self.invariant.counted

@@ -1,0 +1,5 @@
+pub mod Told
+pub mod Pieces
+pub mod Outputs
+pub mod Texts
+pub mod Witness

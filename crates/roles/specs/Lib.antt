@@ -1,9 +1,0 @@
-pub mod Listed
-pub mod TypedNames
-pub mod RankBy
-pub mod RanksAt
-pub mod Functions
-pub mod RolesBy
-pub mod RolesAt
-pub mod Stages
-pub mod Sameness

@@ -1,8 +1,0 @@
--- The arrays of statements behind references.
-use Rattle.meaning.specs.Values.{Arrays}
-use Rattle.meaning.specs.Scopes.{arrays_of}
-use Rattle.roles.specs.Listed.{trees_at}
-use Rattle.roles.specs.declared.arrays.Ranks.{Ranks}
-
-abbrev pub arrays_at : Ranks → Arrays
-arrays_at a = arrays_of (trees_at a.items.now)

@@ -1,0 +1,4 @@
+      INTEGER A(10)
+      DO 10 I=1,11
+   10 A(I)=1
+      END

@@ -1,0 +1,7 @@
+use Rattle.std.proofs.Common.{◌≡◌, drop}
+use Rattle.meaning.specs.Types.{has_implicit_none}
+use Rattle.symbols.specs.Listed.{trees_at}
+use Rattle.symbols.proofs.declared.has_implicit_none.Given as goal
+
+abbrev pub invariant-loop-item : goal.invariant-loop-item
+invariant-loop-item l = has_implicit_none (trees_at (drop l.item-index l.items)) ≡ has_implicit_none (trees_at l.items)

@@ -1,0 +1,9 @@
+pub mod Listed
+pub mod TypedNames
+pub mod RankBy
+pub mod RanksAt
+pub mod Functions
+pub mod SymbolsBy
+pub mod SymbolsAt
+pub mod Stages
+pub mod Sameness
