@@ -6,6 +6,8 @@ mod arrays;
 #[cfg(test)]
 mod asking;
 #[cfg(test)]
+mod data;
+#[cfg(test)]
 mod functions;
 #[cfg(test)]
 mod lists;

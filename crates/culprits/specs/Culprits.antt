@@ -6,7 +6,7 @@ use Rattle.std.specs.List.{find}
 use Rattle.std.specs.Option.{option_or}
 use Rattle.meaning.specs.declared.refusal.Rule.{Rule}
 use Rattle.meaning.specs.declared.refusal.Rule.TheVariants.{K1, K2, K3, K4, K5, K6, K7, K8, K9}
-use Rattle.meaning.specs.declared.refusal.Rule.TheVariants.{K11, K12, K13}
+use Rattle.meaning.specs.declared.refusal.Rule.TheVariants.{K10, K11, K12, K13}
 use Rattle.meaning.specs.LabelRules.{has_label}
 use Rattle.meaning.specs.NameRules.{is_real, is_real_use, is_unknown_function, names_defined}
 use Rattle.meaning.specs.NameRules.{names_used}
@@ -18,11 +18,12 @@ use Rattle.name_uses.specs.UsesIn.{reads_in, uses_in}
 use Rattle.culprits.specs.Counts.{miscounted_in}
 use Rattle.culprits.specs.Placing.{at_line, seat_line}
 use Rattle.culprits.specs.Told.{Told, repeated, real, mistyped, numbered, sized, disputed}
-use Rattle.culprits.specs.Told.{misformed, defined, unknown, listed}
+use Rattle.culprits.specs.Told.{misgiven, misformed, defined, unknown, listed}
 use Rattle.function_culprits.specs.Functions.{misdefined_at}
 use Rattle.name_culprits.specs.Names.{disputed_in as disputed_part}
 use Rattle.size_culprits.specs.Sizes.{large_in as sized_part}
 use Rattle.number_culprits.specs.Numbers.{bad_in as numbered_part}
+use Rattle.data_culprits.specs.Sets.{bad_in as misgiven_part}
 use Rattle.output_culprits.specs.Outputs.{bad_in as misformed_part}
 use Rattle.type_culprits.specs.Clashes.{wrong_in as mistyped_part}
 use Rattle.list_culprits.specs.Loops.{looped_in}
@@ -61,6 +62,10 @@ sized_in r before x = option_map sized (sized_part r before x)
 abbrev pub disputed_in : Symbols → List ItemTree → ItemTree → Option Told
 disputed_in r before x = option_map disputed (disputed_part r before x)
 
+-- K10: what breaks the rule on DATA statements, where those before keep it
+abbrev pub misgiven_in : Symbols → List ItemTree → ItemTree → Option Told
+misgiven_in r before x = option_map misgiven (misgiven_part r before x)
+
 -- K11: what breaks the rule on units and formats
 abbrev pub misformed_in : Symbols → List ItemTree → List ItemTree → ItemTree → Option Told
 misformed_in r all before x = option_map misformed (misformed_part r all before x)
@@ -88,6 +93,7 @@ item_culprit_in K5 all before x =
 item_culprit_in K6 all before x = numbered_in (symbols_of all) before x
 item_culprit_in K7 all before x = sized_in (symbols_of all) before x
 item_culprit_in K4 all before x = disputed_in (symbols_of all) before x
+item_culprit_in K10 all before x = misgiven_in (symbols_of all) before x
 item_culprit_in K11 all before x = misformed_in (symbols_of all) all before x
 item_culprit_in K12 all before x = misdefined_function_in (symbols_of all) before x
 item_culprit_in K13 all before x =

@@ -6,9 +6,10 @@ use Rattle.culprits.specs.declared.culprit.Wanted.{Wanted}
 use Rattle.culprits.specs.declared.culprit.Wanted.TheVariants.{Subscripts, Arguments}
 use Rattle.culprits.specs.declared.culprit.Wanted.TheVariants.{ArgumentsOrMore}
 use Rattle.culprits.specs.Told.{Told, repeated, real, miscounted, mistyped, numbered, sized}
-use Rattle.culprits.specs.Told.{disputed, misformed, defined, unknown, listed}
+use Rattle.culprits.specs.Told.{disputed, misgiven, misformed, defined, unknown, listed}
 use Rattle.function_culprits.specs.Texts.{told_text as function_text, word_of as function_word}
 use Rattle.number_culprits.specs.Texts.{told_text as number_text, word_of as number_word}
+use Rattle.data_culprits.specs.Texts.{told_text as data_text, word_of as data_word}
 use Rattle.output_culprits.specs.Texts.{told_text as output_text, word_of as output_word}
 use Rattle.type_culprits.specs.Texts.{told_text as type_text, word_of as type_word}
 use Rattle.size_culprits.specs.Texts.{told_text as size_text, word_of as size_word}
@@ -41,6 +42,7 @@ told_text (mistyped k) = type_text k
 told_text (numbered k) = number_text k
 told_text (sized k) = size_text k
 told_text (disputed k) = name_text k
+told_text (misgiven k) = data_text k
 told_text (misformed k) = output_text k
 told_text (defined k) = function_text k
 told_text (unknown name) = name ++ codes " is neither an array nor a function"
@@ -55,6 +57,7 @@ word_of (mistyped k) = Some (type_word k)
 word_of (numbered k) = Some (number_word k)
 word_of (sized k) = Some (size_word k)
 word_of (disputed k) = name_word k
+word_of (misgiven k) = data_word k
 word_of (misformed k) = output_word k
 word_of (defined k) = Some (function_word k)
 word_of (unknown name) = Some name

@@ -3,6 +3,7 @@ use Rattle.std.specs.Prelude.{ℕ, Bool, List, Option, option_map}
 use Rattle.culprits.specs.declared.culprit.Culprit.{Culprit}
 use Rattle.culprits.specs.declared.culprit.Culprit.TheVariants as culprits
 use Rattle.culprits.specs.declared.culprit.Wanted.{Wanted}
+use Rattle.data_culprits.specs.Told.{Told as DataTold, told_at as data_told_at}
 use Rattle.function_culprits.specs.Told.{Told as FunctionTold, told_at as function_told_at}
 use Rattle.number_culprits.specs.Told.{Told as NumberTold, told_at as number_told_at}
 use Rattle.output_culprits.specs.Told.{Told as OutputTold, told_at as output_told_at}
@@ -27,6 +28,8 @@ pub data Told : Type 0 where
   sized : SizeTold → Told
   -- K4: what breaks the rule on what names are
   disputed : NameTold → Told
+  -- K10: what breaks the rule on DATA statements
+  misgiven : DataTold → Told
   -- K11: what breaks the rule on units and formats
   misformed : OutputTold → Told
   -- K12: what breaks the rule on statement functions
@@ -45,6 +48,7 @@ told_at (culprits.Type culprit) = mistyped (type_told_at culprit)
 told_at (culprits.Number culprit) = numbered (number_told_at culprit)
 told_at (culprits.Size culprit) = sized (size_told_at culprit)
 told_at (culprits.Name culprit) = disputed (name_told_at culprit)
+told_at (culprits.Data culprit) = misgiven (data_told_at culprit)
 told_at (culprits.Output culprit) = misformed (output_told_at culprit)
 told_at (culprits.Function culprit) = defined (function_told_at culprit)
 told_at (culprits.Unknown name) = unknown name.now

@@ -4,7 +4,8 @@ use Rattle.std.specs.Prelude.{option_map, IsTrue, ◌⊎◌}
 use Rattle.std.specs.List.{Contains, list_any}
 use Rattle.meaning.specs.declared.refusal.Rule.{Rule}
 use Rattle.meaning.specs.declared.refusal.Rule.TheVariants.{K1, K2, K3, K4, K5, K6, K7, K8, K9}
-use Rattle.meaning.specs.declared.refusal.Rule.TheVariants.{K11, K12, K13}
+use Rattle.meaning.specs.declared.refusal.Rule.TheVariants.{K10, K11, K12, K13}
+use Rattle.meaning.specs.Initial.{has_bad_data}
 use Rattle.meaning.specs.LabelRules.{has_bad_output, has_repeated_label}
 use Rattle.meaning.specs.NameRules.{breaks_function_rules, has_misuse, has_real_name}
 use Rattle.meaning.specs.NameRules.{has_unknown_function, is_disputed, is_misused_array}
@@ -19,7 +20,8 @@ use Rattle.culprits.specs.declared.culprit.Wanted.{Wanted}
 use Rattle.culprits.specs.Counts.{arguments_of, capped, subscripts_of}
 use Rattle.culprits.specs.Culprits.{culprit_at, items_in, names_in}
 use Rattle.culprits.specs.Told.{Told, repeated, real, miscounted, mistyped, numbered, sized}
-use Rattle.culprits.specs.Told.{disputed, misformed, defined, unknown, listed}
+use Rattle.culprits.specs.Told.{disputed, misgiven, misformed, defined, unknown, listed}
+use Rattle.data_culprits.specs.Witness.{IsBy as IsDataBy, is_first_bad}
 use Rattle.number_culprits.specs.Witness.{IsBy as IsNumberBy}
 use Rattle.output_culprits.specs.Witness.{IsBy as IsOutputBy}
 use Rattle.type_culprits.specs.Witness.{IsBy as IsTypeBy}
@@ -42,6 +44,7 @@ is_covered K7 = true
 is_covered K4 = true
 is_covered K8 = true
 is_covered K9 = true
+is_covered K10 = true
 is_covered K11 = true
 is_covered K12 = true
 is_covered K13 = true
@@ -56,6 +59,7 @@ item_breaks K6 all before x = has_bad_number (symbols_of all) before x
 item_breaks K7 all before x = has_large_array (symbols_of all) before x
 item_breaks K4 all before x = is_disputed (symbols_of all) before x
 item_breaks K8 all before x = has_misuse (symbols_of all) before x
+item_breaks K10 all before x = has_bad_data (symbols_of all) before x
 item_breaks K11 all before x = has_bad_output (symbols_of all) all before x
 item_breaks K12 all before x = breaks_function_rules (symbols_of all) before x
 item_breaks K13 all before x = has_unknown_function (symbols_of all) before x
@@ -68,10 +72,11 @@ breaks K9 t before z = is_loop_broken t z
 breaks rule t before z = item_breaks rule (flatten t) before z.item
 
 -- what of a rule is covered is broken: of K4 all but letters, variables that are functions too, and
--- LOGICAL intrinsic functions, of K12 all but how deep statement functions go and how large they
--- become
+-- LOGICAL intrinsic functions, of K10 the first statement that breaks it, of K12 all but how deep
+-- statement functions go and how large they become
 abbrev pub breaks_covered : Rule → Nested → List ItemTree → Seat → Bool
 breaks_covered K4 t before z = breaks_in_part (symbols_of (flatten t)) before z.item
+breaks_covered K10 t before z = is_first_bad (symbols_of (flatten t)) before z.item
 breaks_covered K12 t before z = breaks_but_deep (symbols_of (flatten t)) before z.item
 breaks_covered rule t before z = breaks rule t before z
 
@@ -129,6 +134,7 @@ IsItemBy K7 all before x (sized k) = IsSizeBy (symbols_of all) before x k
 IsItemBy K4 all before x (disputed k) = IsNameBy (symbols_of all) before x k
 IsItemBy K8 all before x (miscounted name wanted given) =
     IsMiscountedHere (symbols_of all) before x name wanted given
+IsItemBy K10 all before x (misgiven k) = IsDataBy (symbols_of all) before x k
 IsItemBy K11 all before x (misformed k) = IsOutputBy (symbols_of all) all before x k
 IsItemBy K12 all before x (defined k) = IsFunctionBy (symbols_of all) before x k
 IsItemBy K13 all before x (unknown name) = IsUnknownHere (symbols_of all) before x name

@@ -17,7 +17,9 @@ use crate::culprit::Culprit;
 use crate::functions::misdefined_function;
 use crate::labels::repeated_label;
 use crate::names::{real_name, unknown_function};
-use crate::others::{name_culprit, number_culprit, output_culprit, size_culprit, type_culprit};
+use crate::others::{
+    data_culprit, name_culprit, number_culprit, output_culprit, size_culprit, type_culprit,
+};
 use list_culprits::{ItemTest, ListCulprit, Seat, looped_name, missed_label, seat_of};
 use meaning::refusal::Rule;
 use meaning::syntax::{Item, Tree};
@@ -65,13 +67,14 @@ fn culprit_in<'a>(
         Rule::K7 => size_culprit(alloc, symbols, before, item),
         Rule::K4 => name_culprit(alloc, symbols, before, item),
         Rule::K8 => miscounted_name(alloc, symbols, is_defining(symbols, before, item), shape),
+        Rule::K10 => data_culprit(alloc, symbols, before, item),
         Rule::K11 => output_culprit(alloc, symbols, before, item),
         Rule::K12 => misdefined_function(alloc, symbols, before, item),
         Rule::K13 => unknown_function(alloc, symbols, is_defining(symbols, before, item), shape),
         Rule::C1 | Rule::C2 | Rule::C3 | Rule::C4 | Rule::C5 | Rule::C6 | Rule::C7 => Ok(None),
         Rule::G1 | Rule::G2 | Rule::G3 => Ok(None),
         Rule::N1 | Rule::N2 | Rule::N3 | Rule::N4 | Rule::N5 => Ok(None),
-        Rule::K2 | Rule::K9 | Rule::K10 => Ok(None),
+        Rule::K2 | Rule::K9 => Ok(None),
     }
 }
 

@@ -2,6 +2,7 @@
 
 ghost use Rattle.std.specs.Prelude.{◌≡◌, option_map};
 
+use data_culprits::DataCulprit;
 use function_culprits::FunctionCulprit;
 use list_culprits::ListCulprit;
 use name_culprits::NameCulprit;
@@ -56,6 +57,10 @@ pub enum Culprit<'a> {
         wanted: Wanted,
         given: Option<usize>,
     },
+    /// K10: what breaks the rule on DATA statements (chapter 9).
+    Data {
+        culprit: DataCulprit<'a>,
+    },
     /// K11: what breaks the rule on units and formats (12.3, 12.4 and 13.1).
     Output {
         culprit: OutputCulprit<'a>,
@@ -91,6 +96,7 @@ impl<'a> Culprit<'a> {
             Culprit::Size { culprit } => Some(culprit.word()),
             Culprit::Name { culprit } => culprit.word(),
             Culprit::Miscounted { name, .. } => Some(name),
+            Culprit::Data { culprit } => culprit.word(),
             Culprit::Output { culprit } => culprit.word(),
             Culprit::Function { culprit } => Some(culprit.word()),
             Culprit::Unknown { name } => Some(name),

@@ -1,16 +1,17 @@
 //! What other crates tell of a statement behind others, among the culprits of all rules (ANSI
-//! X3.9-1978, chapters 4 to 8, 12 and 13).
+//! X3.9-1978, chapters 4 to 9, 12 and 13).
 
 ghost use Rattle.std.specs.Prelude.{◌≡◌, IfOk};
 ghost use Rattle.meaning.specs.Syntax.{shape_tree};
 ghost use Rattle.meaning.specs.Trees.{item_tree};
 ghost use Rattle.symbols.specs.Listed.{trees_at};
 ghost use Rattle.symbols.specs.SymbolsAt.{symbols_at};
-ghost use Rattle.culprits.specs.Culprits.{disputed_in, misformed_in, mistyped_in, numbered_in};
-ghost use Rattle.culprits.specs.Culprits.{sized_in};
+ghost use Rattle.culprits.specs.Culprits.{disputed_in, misformed_in, misgiven_in, mistyped_in};
+ghost use Rattle.culprits.specs.Culprits.{numbered_in, sized_in};
 ghost use Rattle.culprits.specs.Told.{tell};
 
 use crate::culprit::Culprit;
+use data_culprits::bad_data;
 use meaning::syntax::{Item, Shape};
 use name_culprits::disputed_name;
 use number_culprits::bad_number;
@@ -35,6 +36,23 @@ pub fn type_culprit<'a>(
     match wrong_type(alloc, symbols, defines, shape)? {
         None => Ok(None),
         Some(culprit) => Ok(Some(Culprit::Type { culprit })),
+    }
+}
+
+/// K10: what breaks the rule on DATA statements, where those before keep it (chapter 9).
+pub fn data_culprit<'a>(
+    alloc: Global,
+    symbols: &Symbols,
+    before: &[&Item],
+    item: &'a Item,
+) -> Result<Option<Culprit<'a>>, AllocError>
+    ensures { IfOk
+        result (λ c. tell c
+        ≡ misgiven_in (symbols_at symbols.now) (trees_at before.now) (item_tree item.now)) }
+{
+    match bad_data(alloc, symbols, before, item)? {
+        None => Ok(None),
+        Some(culprit) => Ok(Some(Culprit::Data { culprit })),
     }
 }
 

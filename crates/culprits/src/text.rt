@@ -7,6 +7,7 @@ ghost use Rattle.culprits.specs.Texts.{given_text, miscounted_text, told_text, u
 ghost use Rattle.culprits.specs.Texts.{wanted_text};
 
 use crate::culprit::{Culprit, Wanted};
+use data_culprits::add_data_text;
 use function_culprits::add_function_text;
 use itoa::Buffer;
 use list_culprits::add_list_text;
@@ -146,6 +147,7 @@ pub fn add_text(bytes: &mut Vec<u8>, culprit: Culprit) -> Result<(), AllocError>
         Culprit::Number { culprit } => add_number_text(bytes, culprit),
         Culprit::Size { culprit } => add_size_text(bytes, culprit),
         Culprit::Name { culprit } => add_name_text(bytes, culprit),
+        Culprit::Data { culprit } => add_data_text(bytes, culprit),
         Culprit::Output { culprit } => add_output_text(bytes, culprit),
         Culprit::Function { culprit } => add_function_text(bytes, culprit),
         Culprit::Unknown { name } => {

@@ -58,7 +58,7 @@ module _ (ns : Names) where
       ap (λ o. and_also (and_also o (λ i. give ns.types n i s)) (λ r. Some r)) (ap (λ a. place (dimensions_in a) []) none)
 
   module _ (known : Known) (n : List ℕ) (ds : List Dimension) (es : ExprsTree) (s : Stage) (is : ns.arrays n ≡ Some ds) where
-    by_subscripts : (o : Option (List ℤ)) → filled ns (and_also o (λ ss. Some (target n ss ∷ []))) s ≡ and_also (and_also o (place ds)) (λ i. give ns.types n i s)
+    pub by_subscripts : (o : Option (List ℤ)) → filled ns (and_also o (λ ss. Some (target n ss ∷ []))) s ≡ and_also (and_also o (place ds)) (λ i. give ns.types n i s)
     by_subscripts None = refl
     by_subscripts (Some ss) =
         filled_one (target n ss) s ∙ ap (λ a. and_also (place (dimensions_in a) ss) (λ i. give ns.types n i s)) is

@@ -213,7 +213,7 @@ module _ (r : Symbols) where
 
   -- ---- sets
 
-  set_filled : (known : Known) (x : DataSetTree) (g : Found) → fill_set r known x (stage g []) ≡ and_also (set_starts r known x) (λ ss. accept r.names ss g)
+  pub set_filled : (known : Known) (x : DataSetTree) (g : Found) → fill_set r known x (stage g []) ≡ and_also (set_starts r known x) (λ ss. accept r.names ss g)
   set_filled known x g =
       by_targets (targets_in r x.list known) (items_places r x.list known) (data_values known x.values) (values_of known x.values) (mirror known x.values)
     where

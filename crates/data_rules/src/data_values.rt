@@ -28,7 +28,7 @@ fn number_by(digits: &[u8]) -> u64
 }
 
 /// How often a constant stands, if that is 1 or more.
-fn count_of(table: &Table, repeat_count: &Option<RepeatCount>) -> Option<u64>
+pub fn count_of(table: &Table, repeat_count: &Option<RepeatCount>) -> Option<u64>
     ensures value { result ≡ count_at table.now repeat_count.now }
     ensures some { IfSome result (λ n. 0 < n) }
 {
@@ -60,7 +60,7 @@ fn integer_by(sign: Option<Sign>, digits: &[u8]) -> i32
 }
 
 /// The value of a constant in a DATA statement, if it has one.
-fn constant_of(table: &Table, constant: &DataConstant) -> Option<Value>
+pub fn constant_of(table: &Table, constant: &DataConstant) -> Option<Value>
     ensures { result ≡ constant_at table.now constant.now }
 {
     match constant {

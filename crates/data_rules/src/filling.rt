@@ -52,7 +52,7 @@ fn put(slots: &mut Vec<Option<Value>>, place: u64, value: Value) -> Result<(), A
 }
 
 /// Whether a value is of another type, where the type is known.
-fn differs(data_type: Option<DataType>, value: Value) -> bool
+pub fn differs(data_type: Option<DataType>, value: Value) -> bool
     ensures { result ≡ clash data_type (value_type value) }
 {
     match data_type {

@@ -27,7 +27,7 @@ pub struct Giving<'a> {
 }
 
 /// How many elements an array of these dimensions has, or 2^64-1 where it has more.
-fn size_of(dimensions: &[Dimension]) -> u64
+pub fn size_of(dimensions: &[Dimension]) -> u64
     ensures { result ≡ min (size (map dimension dimensions.now)) (2 ^ 64 - 1) }
 {
     match dimensions.split_first() {

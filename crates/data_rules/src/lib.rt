@@ -11,5 +11,11 @@ mod lacking;
 mod starting;
 mod trips;
 
-pub use filling::Filling;
-pub use starting::{Passed, given_by_data};
+pub use data_lists::is_counter;
+pub use data_values::{Run, Values, constant_of, count_of, is_used_up, next_value, values_in};
+pub use elements::{known_value, place_in};
+pub use filling::{Filling, differs, give_places};
+pub use giving::{Giving, size_of};
+pub use lacking::{Known, add_sizeless};
+pub use starting::{Passed, counted_sets, give_sets, given_by_data};
+pub use trips::{Trips, next_trip, trips_of, value_of_trip};

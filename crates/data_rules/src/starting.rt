@@ -85,7 +85,7 @@ fn give_set<'a>(
 }
 
 /// Fills sets, unless one of them doesn't fit.
-fn give_sets<'a>(
+pub fn give_sets<'a>(
     filling: Filling,
     alloc: Global,
     table: &'a Table<'a>,
@@ -117,7 +117,7 @@ fn sets_in(shape: &Shape) -> &[DataSet]
 
 /// The sets of a DATA statement that count: none where a constant among them has no value, or an
 /// array no size.
-fn counted_sets<'a>(known: &Known, shape: &'a Shape) -> &'a [DataSet]
+pub fn counted_sets<'a>(known: &Known, shape: &'a Shape) -> &'a [DataSet]
     ensures { map data_set_tree result.now ≡ sets_counted known.now (shape_tree shape.now) }
 {
     let sets = sets_in(shape);

@@ -11,11 +11,12 @@ use Rattle.word_places.specs.declared.places.Place.{Place}
 use Rattle.messages.specs.declared.explaining.Known.{Known}
 use Rattle.messages.specs.declared.explaining.Matter.{Matter}
 use Rattle.messages.specs.Explained.{IsAbout, explained}
-use Rattle.messages.specs.Knowing.{IsKnownOf, IsNothing}
+use Rattle.messages.specs.Knowing.{IsKnownOf, IsKnownUnread, IsNothing}
 use Rattle.messages.specs.Shown.{told_line}
 
 -- ---- what is known of a matter: what breaks the rule at its line, where the source spells a
--- program unit; of a fault it may be any
+-- program unit, and else as what the statement is read that has no reading; of a fault it may be
+-- any
 
 abbrev pub IsUnit : List ℕ → Option Nested → Type 0
 IsUnit source (Some t) = Spells source t
@@ -26,7 +27,7 @@ abbrev pub IsUnitRead : List ℕ → Result Tree Refusal → Type 0
 IsUnitRead source unit = Gives nested unit (unit_of source)
 
 abbrev pub IsKnownIf : List ℕ → Rule → ℕ → Option Nested → Known → Type 0
-IsKnownIf source rule line None known = IsNothing known
+IsKnownIf source rule line None known = IsKnownUnread source rule line known
 IsKnownIf source rule line (Some t) known = IsKnownOf source t rule line known
 
 abbrev pub IsKnownIn : List ℕ → Rule → ℕ → Known → Type 0

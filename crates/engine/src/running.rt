@@ -12,7 +12,9 @@ ghost use Rattle.meaning.specs.Answers.{program_of};
 use crate::lines::{tell_ending, tell_turns};
 use crate::notes::{Noted, Notes};
 use crate::remembering::Remembering;
-use crate::telling::{is_alone, is_further, is_staged, tell_further, tell_matter, tell_stages};
+use crate::telling::{
+    explained_first, is_alone, is_further, is_staged, tell_further, tell_matter, tell_stages,
+};
 use command_line::asked::{Options, OptionsFault, Speculation};
 use command_line::help::{HELP, NAMES, VERSION};
 use command_line::options::options;
@@ -356,6 +358,7 @@ fn tell<S: Sink>(
     let cause = cause_of(&ending);
     let is_staged = is_staged(asked, &ending);
     let is_further = is_further(asked, &ending);
+    let first = explained_first(asked, &ending);
     let status = tell_ending(ending, err);
     tell_turns(asked.count, turns, err);
     let is_alone = is_alone(asked);
@@ -363,7 +366,7 @@ fn tell<S: Sink>(
     let file = file_name(asked.file);
     tell_matter(asked.explain, alloc, file, source, matter, detail, err);
     tell_hint(asked.explain, alloc, source, cause, err);
-    tell_further(is_further, asked.explain, alloc, file, source, err);
+    tell_further(is_further, first, alloc, file, source, err);
     status
 }
 

@@ -1,13 +1,15 @@
 //! What flags ask for behind the ending of a run, or of a check: what became of loops, what there
 //! is to explain, and further rules.
 
-ghost use Rattle.std.specs.Prelude.{◌≡◌, IfOk, true};
+ghost use Rattle.std.specs.Prelude.{◌≡◌, [], IfOk, true};
+ghost use Rattle.std.specs.List.{list_any};
 ghost use Rattle.cell_names.specs.Cells.{are_named};
 ghost use Rattle.messages.specs.Shown.{Adds, IsTold};
 ghost use Rattle.engine.specs.Explained.{Explains, IsExplained, IsExplainedBy, IsKnownFor};
 ghost use Rattle.engine.specs.Explained.{IsKnownIn, IsUnitRead};
 ghost use Rattle.engine.specs.Told.{AreAlso, ArePairs, AreStages, IsOutline, IsOutlineOf, IsPair};
-ghost use Rattle.engine.specs.Told.{is_alone, is_further, is_staged, not_told};
+ghost use Rattle.engine.specs.Told.{IsPairMatter, explained_first, has_name, is_alone};
+ghost use Rattle.engine.specs.Told.{is_explained, is_further, is_named, is_staged, not_told};
 
 use crate::lines::put_at;
 use all_breaches::further_pairs;
@@ -20,8 +22,8 @@ use meaning::ending::Ending;
 use meaning::refusal::{Broken, Refusal, Rule};
 use meaning::syntax::Tree;
 use messages::{
-    Cause, Known, Matter, about_of, known_of, matter_of_rule, put, put_about, put_bytes, put_line,
-    tell_hint,
+    Cause, Known, Matter, about_of, known_of, known_unread, matter_of_rule, put, put_about,
+    put_bytes, put_line, tell_hint,
 };
 use record_sinks::Sink;
 use std::alloc::{AllocError, Global};
@@ -44,6 +46,16 @@ pub fn is_further(asked: &Options<'_>, ending: &Ending) -> bool
     match ending {
         Ending::Refused(_, _) => asked.check,
         _ => false,
+    }
+}
+
+/// The rule that is explained before all others, if rules are explained.
+pub fn explained_first(asked: &Options<'_>, ending: &Ending) -> Option<Rule>
+    ensures { result ≡ explained_first asked.now ending.now }
+{
+    match ending {
+        Ending::Refused(rule, _) => if asked.explain { Some(*rule) } else { None },
+        _ => None,
     }
 }
 
@@ -217,7 +229,8 @@ fn known_by(
     }
 }
 
-// What breaks a rule at a line of a source, where it spells a program unit.
+// What breaks a rule at a line of a source that spells a program unit, or as what the statement
+// there is read that has no reading.
 fn known_in(
     alloc: Global,
     source: &[u8],
@@ -231,7 +244,7 @@ fn known_in(
     match unit {
         Ok(unit) => known_of(alloc, source, unit, rule, line),
         Err(refusal) => match *refusal {
-            Refusal::Rule { rule: _, line: _ } => Ok(Known::nothing(alloc)),
+            Refusal::Rule { rule: _, line: _ } => known_unread(alloc, source, rule, line),
             Refusal::Memory => Err(AllocError),
         },
     }
@@ -267,31 +280,30 @@ fn put_by<S: Sink>(file: &str, source: &[u8], matter: Matter, known: &Known, err
 }
 
 /// Writes the pairs that a source breaks besides the least one, if that is wanted, and explains
-/// each, if that is.
+/// each, if the least one was explained, whose rule this is: the sentence of each rule once.
 pub fn tell_further<S: Sink>(
     is_wanted: bool,
-    explain: bool,
+    first: Option<Rule>,
     alloc: Global,
     file: &str,
     source: &[u8],
     err: &mut S,
 )
-    ensures { Adds is_wanted (AreAlso explain file.now source.now) (S.told err.old)
-        (S.told err.new) }
+    ensures { Adds is_wanted (AreAlso first file.now source.now) (S.told err.old) (S.told err.new) }
 {
     if is_wanted {
-        put_further(explain, alloc, file, source, err);
+        put_further(first, alloc, file, source, err);
     }
 }
 
 // Writes each pair that a source breaks besides the least one.
-fn put_further<S: Sink>(explain: bool, alloc: Global, file: &str, source: &[u8], err: &mut S)
-    ensures { Adds true (AreAlso explain file.now source.now) (S.told err.old) (S.told err.new) }
+fn put_further<S: Sink>(first: Option<Rule>, alloc: Global, file: &str, source: &[u8], err: &mut S)
+    ensures { Adds true (AreAlso first file.now source.now) (S.told err.old) (S.told err.new) }
 {
     match further_pairs(alloc, source) {
         Ok(pairs) => {
             let unit = unit_in(alloc, source);
-            put_pairs(explain, alloc, file, source, &unit, &pairs, err);
+            put_pairs(first, alloc, file, source, &unit, &pairs, err);
             drop(unit);
         }
         Err(_) => put_untold(err),
@@ -300,7 +312,7 @@ fn put_further<S: Sink>(explain: bool, alloc: Global, file: &str, source: &[u8],
 
 // Writes each of some pairs.
 fn put_pairs<S: Sink>(
-    explain: bool,
+    first: Option<Rule>,
     alloc: Global,
     file: &str,
     source: &[u8],
@@ -309,52 +321,99 @@ fn put_pairs<S: Sink>(
     err: &mut S,
 )
     requires { IsUnitRead source.now unit.now }
-    ensures { Adds true (ArePairs explain file.now source.now pairs.now) (S.told err.old)
+    ensures { Adds true (ArePairs first file.now source.now [] pairs.now) (S.told err.old)
         (S.told err.new) }
 {
-    for pair in pairs {
-        put_pair(explain, alloc, file, source, unit, *pair, err);
+    for (at, pair) in pairs.iter().enumerate() {
+        let matter = matter_of_pair(first, &pairs[..at], *pair);
+        put_pair(alloc, file, source, unit, *pair, matter, err);
     }
 }
 
-// Writes a line for a pair, and what there is to explain of it, if that is wanted.
+// What there is to explain of a pair behind others, if rules are explained.
+fn matter_of_pair(first: Option<Rule>, before: &[Broken], pair: Broken) -> Option<Matter>
+    ensures { IsPairMatter first before.now pair result }
+{
+    match first {
+        None => None,
+        Some(first) => {
+            let is_told = is_explained(first, before, pair.rule);
+            Some(matter_of_rule(pair.rule, pair.line, is_told))
+        }
+    }
+}
+
+// Whether a rule was explained, at the least pair or at one of those behind it.
+fn is_explained(first: Rule, before: &[Broken], rule: Rule) -> bool
+    ensures { result ≡ is_explained first before.now rule }
+{
+    is_named(rule.name(), first, before)
+}
+
+// Whether the first rule has a name, or that of one of these pairs.
+fn is_named(name: &str, first: Rule, before: &[Broken]) -> bool
+    ensures { result ≡ is_named name.now first before.now }
+{
+    has_name(name, first) || has_rule_named(name, before)
+}
+
+// Whether the rule of one of these pairs has a name.
+fn has_rule_named(name: &str, before: &[Broken]) -> bool
+    ensures { result ≡ list_any (λ b. has_name name.now b.rule) before.now }
+{
+    for pair in before {
+        if has_name(name, pair.rule) {
+            return true;
+        }
+    }
+    false
+}
+
+// Whether a rule has a name.
+fn has_name(name: &str, rule: Rule) -> bool
+    ensures { result ≡ has_name name.now rule }
+{
+    rule.name() == name
+}
+
+// Writes a line for a pair, and what there is to explain of it.
 fn put_pair<S: Sink>(
-    explain: bool,
     alloc: Global,
     file: &str,
     source: &[u8],
     unit: &Result<Tree, Refusal>,
     pair: Broken,
+    matter: Option<Matter>,
     err: &mut S,
 )
     requires { IsUnitRead source.now unit.now }
-    ensures { Adds true (IsPair explain file.now source.now pair) (S.told err.old)
+    ensures { Adds true (IsPair file.now source.now pair matter) (S.told err.old)
         (S.told err.new) }
 {
     put_at("  ALSO ", pair.rule.name(), pair.line, err);
-    let matter = matter_of_rule(pair.rule, pair.line);
-    put_explained(explain, alloc, file, source, unit, matter, err);
+    put_explained(alloc, file, source, unit, matter, err);
     let cause = Some(Cause::Rule(pair.rule, pair.line));
-    tell_hint(explain, alloc, source, cause, err);
+    tell_hint(matter.is_some(), alloc, source, cause, err);
 }
 
-// Writes what there is to explain of a rule, if that is wanted.
+// Writes what there is to explain of a rule.
 fn put_explained<S: Sink>(
-    is_wanted: bool,
     alloc: Global,
     file: &str,
     source: &[u8],
     unit: &Result<Tree, Refusal>,
-    matter: Matter,
+    matter: Option<Matter>,
     err: &mut S,
 )
     requires { IsUnitRead source.now unit.now }
-    ensures { Adds is_wanted (IsExplained file.now source.now matter) (S.told err.old)
-        (S.told err.new) }
+    ensures { Adds true (Explains file.now source.now matter) (S.told err.old) (S.told err.new) }
 {
-    if is_wanted {
-        let known = known_by(alloc, source, unit, matter);
-        put_known(alloc, file, source, matter, known, err);
+    match matter {
+        Some(matter) => {
+            let known = known_by(alloc, source, unit, matter);
+            put_known(alloc, file, source, matter, known, err);
+        }
+        None => {}
     }
 }
 

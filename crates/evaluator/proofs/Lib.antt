@@ -18,3 +18,4 @@ pub mod Counted
 pub mod Standing
 pub mod Parted
 pub mod Parts
+pub mod Ranged

@@ -10,6 +10,7 @@ pub mod Passed
 pub mod Places
 pub mod Prepared
 pub mod Quiet
+pub mod Ranges
 pub mod Repeating
 pub mod Slices
 pub mod Statements

@@ -9,6 +9,8 @@ mod passed;
 mod places;
 mod prepared;
 mod quiet;
+mod ranges;
+mod shaped;
 mod shapes;
 mod slices;
 mod statement;

@@ -1,6 +1,6 @@
 -- What is told of an ending behind its line.
 use Rattle.std.specs.Prelude.{◌≡◌, ◌⊎◌, ℕ, Bool, true, false, List, [], ◌∷◌, ◌++◌, map, Option}
-use Rattle.std.specs.Prelude.{Some, None, codes, decimal, take}
+use Rattle.std.specs.Prelude.{Some, None, codes, decimal, if◌then◌else◌, take}
 use Rattle.meaning.specs.declared.ending.Ending.{Ending}
 use Rattle.meaning.specs.declared.ending.Ending.TheVariants as endings
 use Rattle.meaning.specs.declared.ending.Fault.{Fault}
@@ -25,18 +25,21 @@ pub record IsFaultMatter (fault : Fault) (matter : Matter) : Type 0 where
   pub name : matter.name.now ≡ fault_name fault.kind
   pub sentence : matter.sentence ≡ row.sentence
   pub no_rule : matter.rule ≡ None
+  pub is_first : matter.is_told ≡ false
 
-pub record IsRuleMatter (rule : Rule) (at : ℕ) (matter : Matter) : Type 0 where
+-- of a rule, whose sentence may be told before
+pub record IsRuleMatter (rule : Rule) (at : ℕ) (is_told : Bool) (matter : Matter) : Type 0 where
   pub row : RuleText
   pub is_row : row.rule ≡ rule
   pub line : matter.line ≡ at
   pub name : matter.name.now ≡ rule_name rule
   pub sentence : matter.sentence ≡ row.sentence
   pub has_rule : matter.rule ≡ Some rule
+  pub told_before : matter.is_told ≡ is_told
 
 abbrev pub IsMatter : Ending → Option Matter → Type 0
 IsMatter (endings.Fault fault) (Some matter) = IsFaultMatter fault matter
-IsMatter (endings.Refused rule line) (Some matter) = IsRuleMatter rule line matter
+IsMatter (endings.Refused rule line) (Some matter) = IsRuleMatter rule line false matter
 IsMatter (endings.Fault fault) None = ⊥
 IsMatter (endings.Refused rule line) None = ⊥
 IsMatter ending None = Unit {0}
@@ -69,7 +72,7 @@ lines_at false source place = []
 -- the sentence, where it isn't told yet
 abbrev pub sentence_behind : Matter → List ℕ → List ℕ
 sentence_behind matter [] = []
-sentence_behind matter (c ∷ cs) = told_line matter.sentence.now
+sentence_behind matter (c ∷ cs) = if matter.is_told then [] else told_line matter.sentence.now
 
 -- where it is, what is wrong there, the lines of the statement, and the sentence
 abbrev pub explained : List ℕ → List ℕ → Matter → Place → List ℕ → List ℕ

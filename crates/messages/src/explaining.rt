@@ -28,6 +28,8 @@ pub struct Matter {
     pub name: &'static str,
     /// The rule or the fault in a sentence.
     pub sentence: &'static str,
+    /// Whether the sentence is told before, so that it isn't told behind what is wrong.
+    pub is_told: bool,
 }
 
 /// What is told of it: where a message points, and what is wrong there, empty where that is the
@@ -50,21 +52,24 @@ pub fn matter_of(ending: &Ending) -> Option<Matter>
             rule: None,
             name: fault.kind.name(),
             sentence: text_of_fault(fault.kind).sentence,
+            is_told: false,
         }),
-        Ending::Refused(rule, line) => Some(matter_of_rule(*rule, *line)),
+        Ending::Refused(rule, line) => Some(matter_of_rule(*rule, *line, false)),
         _ => None,
     }
 }
 
-/// What there is to explain of a rule that is broken at a line.
-pub fn matter_of_rule(rule: Rule, line: u32) -> Matter
-    ensures { IsRuleMatter rule line result }
+/// What there is to explain of a rule that is broken at a line, and whether its sentence is told
+/// before.
+pub fn matter_of_rule(rule: Rule, line: u32, is_told: bool) -> Matter
+    ensures { IsRuleMatter rule line is_told result }
 {
     Matter {
         line,
         rule: Some(rule),
         name: rule.name(),
         sentence: text_of_rule(rule).sentence,
+        is_told,
     }
 }
 
@@ -133,7 +138,7 @@ fn about_characters(source: &[u8], line: u32) -> About<'static>
 }
 
 /// Writes the line that editors jump to, the lines of the statement, and behind what is wrong the
-/// sentence.
+/// sentence, unless it is told before.
 pub fn put_about<S: Sink>(file: &str, source: &[u8], matter: Matter, about: About<'_>, err: &mut S)
     ensures { IsTold (explained file.now source.now matter about.entry.place about.entry.text.now)
         (S.told err.old) (S.told err.new) }
@@ -159,11 +164,11 @@ fn put_lines<S: Sink>(is_shown: bool, source: &[u8], place: Place, err: &mut S)
     }
 }
 
-// Writes the sentence behind what is wrong.
+// Writes the sentence behind what is wrong, unless it is told before.
 fn put_sentence<S: Sink>(matter: Matter, text: &[u8], err: &mut S)
     ensures { IsTold (sentence_behind matter text.now) (S.told err.old) (S.told err.new) }
 {
-    if !text.is_empty() {
+    if !text.is_empty() && !matter.is_told {
         put_line(matter.sentence.as_bytes(), err);
     }
 }

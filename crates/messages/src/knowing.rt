@@ -3,12 +3,13 @@
 ghost use Rattle.std.specs.Prelude.{IfOk};
 ghost use Rattle.meaning.specs.Trees.{nested};
 ghost use Rattle.culprits.specs.Told.{told_at};
-ghost use Rattle.messages.specs.Knowing.{IsKnownBy, IsKnownOf};
+ghost use Rattle.messages.specs.Knowing.{IsKnownAsKind, IsKnownBy, IsKnownOf, IsKnownUnread};
 
 use crate::explaining::Known;
 use culprits::{Culprit, add_text, culprit_of};
 use meaning::refusal::Rule;
-use meaning::syntax::Tree;
+use meaning::syntax::{Kind, Tree};
+use readings::{kind_at, reading_text};
 use std::alloc::{AllocError, Global};
 use word_places::place_of;
 
@@ -46,4 +47,37 @@ fn known_by(
     let mut text = Vec::new(alloc);
     add_text(&mut text, culprit)?;
     Ok(Known { place, text })
+}
+
+/// What is known of a rule that is broken at a line of a source that spells no program unit: of G1
+/// as what the statement is read whose initial line it is, and of other rules nothing.
+///
+/// # Errors
+///
+/// `AllocError` only where a growth was refused.
+pub fn known_unread(
+    alloc: Global,
+    source: &[u8],
+    rule: Rule,
+    line: u32,
+) -> Result<Known, AllocError>
+    ensures { IfOk result (IsKnownUnread source.now rule line) }
+{
+    match rule {
+        Rule::G1 => known_by_kind(alloc, kind_at(alloc, source, line)?),
+        _ => Ok(Known::nothing(alloc)),
+    }
+}
+
+// As what a statement is read, by its kind.
+fn known_by_kind(alloc: Global, kind: Option<Kind>) -> Result<Known, AllocError>
+    ensures { IfOk result (IsKnownAsKind kind) }
+{
+    match kind {
+        None => Ok(Known::nothing(alloc)),
+        Some(kind) => Ok(Known {
+            place: None,
+            text: Vec::from_slice(alloc, reading_text(kind).as_bytes())?,
+        }),
+    }
 }

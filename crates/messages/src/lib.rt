@@ -12,6 +12,6 @@ mod putting;
 
 pub use explaining::{About, Known, Matter, about_of, matter_of, matter_of_rule, put_about};
 pub use hinting::{Cause, cause_of, tell_hint};
-pub use knowing::known_of;
+pub use knowing::{known_of, known_unread};
 pub use naming::file_name;
 pub use putting::{Texts, put, put_bytes, put_line, put_shown};

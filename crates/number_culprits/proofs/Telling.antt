@@ -26,7 +26,7 @@ either_answer {K} p q a b o u h g =
     or_answer all a b o u (weaker_answer p all a o (λ k w. inl w) h) (weaker_answer q all b u (λ k w. inr w) g)
 
 module _ (types : Types) where
-  none_answer : (known : Known) (fault : Told) (e : ExprTree) → IsAnswer (IsNoneBy types known fault e) (is_no_constant types known e) (none_in types known fault e)
+  pub none_answer : (known : Known) (fault : Told) (e : ExprTree) → IsAnswer (IsNoneBy types known fault e) (is_no_constant types known e) (none_in types known fault e)
   none_answer known fault e =
       let by = IsNoneBy types known fault e in
       or_answer by (list_any (is_unknown known) (uses_in e)) (is_none (constant_value types known e)) (unknown_in known e) (valueless_in types known fault e) (find_answer by unknown_told (is_unknown known) (uses_in e) (λ u at. inl (u, at.stands, at.passes, refl))) (test_answer by (is_none (constant_value types known e)) fault (λ h. inr (refl, h)))

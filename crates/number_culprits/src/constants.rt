@@ -67,7 +67,11 @@ fn valueless<'a>(
 }
 
 /// What makes an expression none of constants that are known, or what is told where it faults.
-fn none_of<'a>(
+///
+/// # Errors
+///
+/// `AllocError` only where a growth was refused.
+pub fn none_of<'a>(
     alloc: Global,
     scope: &Scope,
     faulty: NumberCulprit<'a>,

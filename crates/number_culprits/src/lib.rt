@@ -8,7 +8,7 @@ mod great;
 mod laws;
 mod text;
 
-pub use constants::{bad_number, table_behind};
+pub use constants::{bad_number, none_of, table_behind};
 pub use culprit::NumberCulprit;
 pub use laws::tells_number_witnesses;
 pub use text::add_number_text;

@@ -4,7 +4,7 @@ use Rattle.engine.specs.Lines.{line_of, lines_of, turns_line}
 use Rattle.engine.specs.Explained.{Explains}
 use Rattle.messages.specs.Hinted.{IsHinted}
 use Rattle.messages.specs.Shown.{Adds}
-use Rattle.engine.specs.Told.{AreAlso, AreStages, is_alone, is_further}
+use Rattle.engine.specs.Told.{AreAlso, AreStages, explained_first, is_alone, is_further}
 use Rattle.engine.proofs.running.tell.Goals as goal
 
 pub returns-clause-lines : goal.returns-clause-lines
@@ -18,8 +18,9 @@ returns-clause-lines g c =
     let explained = subst (λ f. Adds c.args.asked.now.explain (Explains f c.args.source.now c.matter_of-matter.result) (told c.tell_stages.new.err) (told c.tell_matter.new.err)) named c.tell_matter.ensures in
     let hint = subst (λ o. Adds c.args.asked.now.explain (IsHinted c.args.source.now o) (told c.tell_matter.new.err) (told c.tell_hint.new.err)) c.cause_of-cause.ensures c.tell_hint.ensures in
     let further =
-    subst (λ f. Adds (is_further c.args.asked.now c.args.report.ending) (AreAlso c.args.asked.now.explain f c.args.source.now) (told c.tell_hint.new.err) (told c.tell_further.new.err)) named
-    (subst (λ b. Adds b (AreAlso c.args.asked.now.explain c.file_name-file.result.now c.args.source.now) (told c.tell_hint.new.err) (told c.tell_further.new.err)) c.is_further-is_further.ensures c.tell_further.ensures) in
+    subst (λ f. Adds (is_further c.args.asked.now c.args.report.ending) (AreAlso (explained_first c.args.asked.now c.args.report.ending) f c.args.source.now) (told c.tell_hint.new.err) (told c.tell_further.new.err)) named
+    (subst (λ r. Adds (is_further c.args.asked.now c.args.report.ending) (AreAlso r c.file_name-file.result.now c.args.source.now) (told c.tell_hint.new.err) (told c.tell_further.new.err)) c.explained_first-first.ensures
+    (subst (λ b. Adds b (AreAlso c.explained_first-first.result c.file_name-file.result.now c.args.source.now) (told c.tell_hint.new.err) (told c.tell_further.new.err)) c.is_further-is_further.ensures c.tell_further.ensures)) in
     record {
       stages = stages.0;
       matter = c.matter_of-matter.result;

@@ -12,4 +12,4 @@ pub returns-in-Rule : goal.returns-in-Rule
 returns-in-Rule c =
     let told = rw c.in-Err.is at c.requires in
     let refused = rw c.in-Rule.is at told in
-    (None, (_, refused), c.nothing.ensures)
+    IfOk-weaker c.known_unread.result _ _ (λ known h. (None, (_, refused), h)) c.known_unread.ensures

@@ -1,13 +1,13 @@
-use Rattle.std.proofs.Common.{[], refl, sym, subst}
+use Rattle.std.proofs.Common.{[], refl, sym, subst, true}
 use Rattle.messages.proofs.Told.{told_none}
 use Rattle.messages.specs.Shown.{Adds}
-use Rattle.engine.specs.Explained.{IsExplained}
+use Rattle.engine.specs.Explained.{Explains}
 use Rattle.engine.proofs.telling.put_explained.Goals as goal
 
-pub returns-then-is_wanted : goal.returns-then-is_wanted
-returns-then-is_wanted g c =
-    subst (λ b. Adds b (IsExplained c.args.file.now c.args.source.now c.args.matter) (g.S.Sink.told c.args.err.now) (g.S.Sink.told c.put_known.new.err)) (sym c.if-is_wanted.true) c.put_known.ensures
+pub returns-in-Some : goal.returns-in-Some
+returns-in-Some g c =
+    subst (λ m. Adds true (Explains c.args.file.now c.args.source.now m) (g.S.Sink.told c.args.err.now) (g.S.Sink.told c.put_known.new.err)) (sym c.in-Some.is) c.put_known.ensures
 
-pub returns-else-is_wanted : goal.returns-else-is_wanted
-returns-else-is_wanted g c =
-    subst (λ b. Adds b (IsExplained c.args.file.now c.args.source.now c.args.matter) (g.S.Sink.told c.args.err.now) (g.S.Sink.told c.args.err.now)) (sym c.if-is_wanted.false) ([], refl, told_none _)
+pub returns-in-None : goal.returns-in-None
+returns-in-None g c =
+    subst (λ m. Adds true (Explains c.args.file.now c.args.source.now m) (g.S.Sink.told c.args.err.now) (g.S.Sink.told c.args.err.now)) (sym c.in-None.is) ([], refl, told_none _)

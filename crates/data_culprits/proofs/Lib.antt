@@ -1,0 +1,4 @@
+pub mod Valueless
+pub mod Witnessing
+pub mod Telling
+pub mod Steps

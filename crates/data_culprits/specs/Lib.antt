@@ -1,0 +1,9 @@
+pub mod Told
+pub mod Outcomes
+pub mod Faults
+pub mod Values
+pub mod Lists
+pub mod Sets
+pub mod Behind
+pub mod Texts
+pub mod Witness

@@ -1,0 +1,9 @@
+//! That what is told of DATA statements is a witness.
+
+ghost use Rattle.data_culprits.specs.Witness.{TellsWitnesses};
+
+/// By what is told of K10 a statement breaks that rule behind others, which keep it; where nothing
+/// is told, it or one of the others does so.
+pub fn tells_data_witnesses()
+    ensures { TellsWitnesses }
+{}
