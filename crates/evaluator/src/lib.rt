@@ -4,7 +4,9 @@
 
 mod assignment;
 mod control;
+mod forms;
 mod limits;
+mod listed;
 mod passed;
 mod places;
 mod prepared;
