@@ -6,7 +6,6 @@ mod assignment;
 mod control;
 mod forms;
 mod limits;
-mod listed;
 mod passed;
 mod places;
 mod prepared;
