@@ -172,7 +172,7 @@ impl<'a> View<'a> {
 impl<'a> Store for View<'a> {
     ghost world = { world_seen };
 
-    #[inline(always)]
+    #[inline]
     fn read(&mut self, cell: Cell) -> i32 {
         match self.front.value(cell.0) {
             Some(value) => value,
@@ -180,7 +180,7 @@ impl<'a> Store for View<'a> {
         }
     }
 
-    #[inline(always)]
+    #[inline]
     fn read_element(&mut self, cell: Cell) -> i32 {
         if cell.0 < 64 {
             return self.read(cell);
