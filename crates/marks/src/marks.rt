@@ -6,7 +6,7 @@ ghost use Rattle.std.specs.Ordering.{nat_cmp};
 ghost use Rattle.std.specs.FinSet as set;
 ghost use Rattle.std.specs.Coded.{coded_ℕ};
 ghost use Rattle.std.specs.Int.{bit_at};
-ghost use Rattle.marks.specs.Cells.{Share};
+ghost use Rattle.marks.specs.Cells.{Share, is_within};
 ghost use Rattle.marks.specs.Words.{AreBehind, AreLeft, IsSummed, MeetIn, MeetTold, SomeMeet};
 ghost use Rattle.marks.specs.Words.{tells, set_of, word_at};
 
@@ -221,6 +221,43 @@ fn clear_by(words: &mut Vec<u64>, groups: &[u64])
     }
 }
 
+// Gives words from a place up to another all their bits.
+fn fill_words(words: &mut [u64], from: usize, to: usize)
+    requires order { from ≤ to }
+    requires within { to ≤ length words.old }
+    ensures told { (q : ℕ) → tells words.new q
+        ≡ (is_within (64 * from) (64 * to) q || tells words.old q) }
+    ensures len { length words.new ≡ length words.old }
+{
+    for at in from..to {
+        words[at] = u64::MAX;
+    }
+}
+
+// The same of words that can grow.
+fn fill_in(words: &mut Vec<u64>, from: usize, to: usize)
+    requires order { from ≤ to }
+    requires within { to ≤ vec_len words.old }
+    ensures told { (q : ℕ) → tells words.new.items q
+        ≡ (is_within (64 * from) (64 * to) q || tells words.old.items q) }
+    ensures len { vec_len words.new ≡ vec_len words.old }
+{
+    fill_words(words, from, to);
+}
+
+// Puts groups from one on up to another in.
+fn raise_groups(groups: &mut Vec<u64>, from: usize, to: usize)
+    requires order { from ≤ to }
+    requires within { to ≤ 64 * vec_len groups.old }
+    ensures told { (q : ℕ) → tells groups.new.items q
+        ≡ (is_within from to q || tells groups.old.items q) }
+    ensures len { vec_len groups.new ≡ vec_len groups.old }
+{
+    for group in from..to {
+        put(groups, group);
+    }
+}
+
 impl Marks {
     /// No cells. It takes no memory.
     pub fn new(alloc: Global) -> Marks
@@ -282,6 +319,25 @@ impl Marks {
         grow_to(&mut self.groups, cell.0 / 512 / 64)?;
         put(&mut self.groups, cell.0 / 512);
         put(&mut self.words, cell.0);
+        Ok(())
+    }
+
+    /// Adds the cells of whole groups, each of which has 512 cells: those of the groups from one on
+    /// up to another. The `AllocError` comes where memory was refused, and the set stays as it was.
+    /// Its time is that of the groups.
+    pub fn set_groups(&mut self, from: usize, to: usize) -> Result<(), AllocError>
+        requires { to ≤ 2 ^ 55 }
+        ensures ok { OnOk result ((c : ℕ) → set.contains self.new c
+            ≡ (is_within (512 * from) (512 * to) c || set.contains self.old c)) }
+        ensures err { OnErr result (self.new ≡ self.old) }
+    {
+        if from >= to {
+            return Ok(());
+        }
+        grow_to(&mut self.words, 8 * to - 1)?;
+        grow_to(&mut self.groups, (to - 1) / 64)?;
+        raise_groups(&mut self.groups, from, to);
+        fill_in(&mut self.words, 8 * from, 8 * to);
         Ok(())
     }
 
