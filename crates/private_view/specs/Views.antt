@@ -1,12 +1,13 @@
 -- What a view of a whole store is among stores (own).
 use Rattle.std.specs.Prelude.{◌≡◌, true, pos, Some, map as list_map, slice_get, slice_index_or, ◌*◌}
 use Rattle.std.specs.Prelude.{◌/◌, ◌%◌, ◌+◌, ◌-◌, min, ℕ, ℤ, ◌<◌, ◌==◌, ◌&&◌, if◌then◌else◌, Bool}
-use Rattle.std.specs.Prelude.{false, List, length, IsSome, refl}
+use Rattle.std.specs.Prelude.{false, List, length, IsSome, refl, ◌≤◌, ◌||◌}
 use Rattle.std.specs.Ordering.{nat_cmp}
 use Rattle.std.specs.FinSet as set
 use Rattle.std.specs.FinMap as map
 use Rattle.std.specs.Coded.{Coded, code_by, coded×, coded_list, coded_ℕ, coded_ℤ, coded_bool}
 use Rattle.std.specs.Int.{bit_at}
+use Rattle.marks.specs.Cells.{is_within}
 use Rattle.marks.specs.Words.{tells}
 use Rattle.meaning.specs.Stores.{World, known}
 use Rattle.array_store.specs.Whole.{world_of}
@@ -39,6 +40,12 @@ world_seen s = record {
   lost = s.lost;
   sure = false;
 }
+
+-- the cells of some run within bounds are exposed beside others, or none of them
+abbrev pub ExposesRun : ℕ → ℕ → set.FinSet nat_cmp → set.FinSet nat_cmp → Type 0
+ExposesRun from until old new =
+    (a : ℕ) × ((b : ℕ) × ((from ≤ a) × ((b ≤ until)
+    × ((c : ℕ) → set.contains new c ≡ (is_within a b c || set.contains old c)))))
 
 -- what contracts see of what a view wrote, without the whole store
 pub record Wrote : Type 0 where
@@ -84,6 +91,13 @@ pub record IsKept (base : List ℤ) (marks : set.FinSet nat_cmp) (slots numbers 
   pub paged : ArePaged (length base) marks slots numbers values
   pub based : (c : ℕ) → c < length base → IsCopied slots numbers (c / 64) → set.contains marks c
       ≡ false → Some (value_at slots values c) ≡ slice_get base c
+
+-- a run of cells, from one on up to another, none of which is one of the first 64: each is exposed,
+-- and none was written
+pub record IsRun (from until : ℕ) (exposed marks : set.FinSet nat_cmp) : Type 0 where
+  pub far : 64 ≤ from
+  pub shown : (c : ℕ) → from ≤ c → c < until → set.contains exposed c ≡ true
+  pub unwritten : (c : ℕ) → from ≤ c → c < until → set.contains marks c ≡ false
 
 -- a cell of a page was written
 abbrev pub WroteIn : Seen → ℕ → Type 0

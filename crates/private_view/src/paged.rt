@@ -12,6 +12,7 @@ ghost use Rattle.meaning.specs.Stores.{after_write, known, overlay, LeavesRead};
 ghost use Rattle.array_store.specs.Whole.{world_of};
 ghost use Rattle.private_view.specs.Fronts.{with_first};
 ghost use Rattle.private_view.specs.Views.{ArePaged, ArePlaced, HasSome, TakesAll, TakesPage};
+ghost use Rattle.private_view.specs.Views.{ExposesRun, IsRun};
 ghost use Rattle.private_view.specs.Views.{Wrote, coded_wrote, is_in, of_page, IsCopied, IsKept};
 ghost use Rattle.private_view.specs.Views.{Seen, ShowsPage, WroteIn, coded_seen, new_view, slot_at};
 ghost use Rattle.private_view.specs.Views.{value_at, world_seen, written_by};
@@ -35,6 +36,10 @@ pub(crate) struct Paged<'a> {
     numbers: Vec<usize>,
     values: Vec<i32>,
     lost: bool,
+    // The cells of the run, from one on up to another: each is exposed and none was written, so
+    // they are read without a look at either set.
+    run_from: usize,
+    run_until: usize,
 }
 
 impl<'a> Model for Paged<'a> {
@@ -50,7 +55,8 @@ impl<'a> Model for Paged<'a> {
     } };
 
     ghost invariant = { λ v.
-        IsKept v.base.now v.written v.slots.items v.numbers.items v.values.items };
+        IsKept v.base.now v.written v.slots.items v.numbers.items v.values.items
+        × IsRun v.run_from v.run_until v.exposed v.written };
 }
 
 /// What a view wrote, without the loan of the whole store that it stood on. Another view can be
@@ -147,6 +153,46 @@ impl<'a> Paged<'a> {
         self.lost
     }
 
+    /// Exposes the cells of whole groups of 512 among those from one on up to another, in a view in
+    /// which nothing was written, and has them read at once. Where memory is refused the view stays
+    /// as it was.
+    pub(crate) fn expose(&mut self, from: usize, until: usize)
+        requires { (c : ℕ) → map.get self.old.written c ≡ None }
+        ensures rest { self.new ≡ record self.old { exposed = self.new.exposed } }
+        ensures run { ExposesRun from until self.old.exposed self.new.exposed }
+    {
+        // None of the first 64 cells, which have their values elsewhere.
+        let first = from.saturating_sub(1) / 512 + 1;
+        let behind = until / 512;
+        if first >= behind {
+            return;
+        }
+        match self.exposed.set_groups(first, behind) {
+            Ok(()) => {
+                self.run_from = 512 * first;
+                self.run_until = 512 * behind;
+            }
+            Err(_) => {}
+        }
+    }
+
+    /// The value of a cell, if it is one of the run: it is exposed and wasn't written, and none of
+    /// the first 64.
+    #[inline(always)]
+    pub(crate) fn value_in_run(&self, cell: Cell) -> Option<i32>
+        requires { cell.0 < length self.now.base }
+        ensures far { IfSome result (λ x. 64 ≤ cell.0) }
+        ensures value { IfSome result (λ x. x ≡ known (world_seen self.now) cell.0) }
+        ensures after { IfSome result
+            (λ x. LeavesRead cell.0 (world_seen self.now) (world_seen self.now)) }
+    {
+        if self.run_from <= cell.0 && cell.0 < self.run_until {
+            Some(self.base.read(cell))
+        } else {
+            None
+        }
+    }
+
     // Reads a cell that wasn't written, and marks it. It stands by itself, so that a cell that is
     // marked is read quickly.
     #[inline(never)]
@@ -194,6 +240,7 @@ impl<'a> Paged<'a> {
         ensures base { self.new.base ≡ self.old.base }
     {
         if is_copied(&self.slots, &self.numbers, cell.0 / 64) && self.written.set_at_hand(cell) {
+            self.run_until = end_before(self.run_from, self.run_until, cell.0);
             put_value(&self.slots, &self.numbers, &mut self.values, cell.0, value);
             return Ok(());
         }
@@ -218,6 +265,7 @@ impl<'a> Paged<'a> {
             cell.0 / 64,
         )?;
         self.written.set(cell)?;
+        self.run_until = end_before(self.run_from, self.run_until, cell.0);
         put_value(&self.slots, &self.numbers, &mut self.values, cell.0, value);
         Ok(())
     }
@@ -300,7 +348,20 @@ fn unused<'a>(
         numbers,
         values,
         lost: false,
+        run_from: 64,
+        run_until: 0,
     }
+}
+
+// Where a run of cells ends, if it ends before a cell that is written.
+fn end_before(from: usize, until: usize, cell: usize) -> usize
+    ensures less { result ≤ until }
+    ensures out { (cell < from) ⊎ (result ≤ cell) }
+{
+    if from <= cell {
+        return until.min(cell);
+    }
+    until
 }
 
 // Whether one of the cells of a page is marked.

@@ -6,8 +6,8 @@ ghost use Rattle.std.specs.FinMap as map;
 ghost use Rattle.meaning.specs.Stores.{known, overlay, after_write, LeavesRead};
 ghost use Rattle.array_store.specs.Whole.{world_of};
 ghost use Rattle.private_view.specs.Fronts.{IsFront, with_first};
-ghost use Rattle.private_view.specs.Views.{Seen, ShowsPage, WroteIn, coded_seen, new_view};
-ghost use Rattle.private_view.specs.Views.{world_seen};
+ghost use Rattle.private_view.specs.Views.{ExposesRun, Seen, ShowsPage, WroteIn, coded_seen};
+ghost use Rattle.private_view.specs.Views.{new_view, world_seen};
 
 use crate::front::FirstCells;
 use crate::paged::{Paged, WriteSet};
@@ -58,6 +58,18 @@ impl<'a> View<'a> {
             paged: Paged::again(changes, base),
             front: FirstCells::new(base),
         }
+    }
+
+    /// Exposes the cells of whole groups of 512 among those from one on up to another, as if they
+    /// had been read, in a view in which nothing was written: then to read one of their elements
+    /// takes least time, up to the first of them that is written. Where memory is refused the view
+    /// stays as it was.
+    pub fn expose(&mut self, from: usize, until: usize)
+        requires { self.old.written ≡ map.empty }
+        ensures rest { self.new ≡ record self.old { exposed = self.new.exposed } }
+        ensures run { ExposesRun from until self.old.exposed self.new.exposed }
+    {
+        self.paged.expose(from, until);
     }
 
     /// The cells that were read before they were written.
@@ -182,6 +194,9 @@ impl<'a> Store for View<'a> {
 
     #[inline]
     fn read_element(&mut self, cell: Cell) -> i32 {
+        if let Some(value) = self.paged.value_in_run(cell) {
+            return value;
+        }
         if cell.0 < 64 {
             return self.read(cell);
         }

@@ -30,11 +30,11 @@ returns-clause-values c =
     let written = ap (λ (t : Seen). t.written) c.self.view_is in
     let base = ap (λ (t : Seen). t.base) c.self.view_is in
     let h = c.has_some.ensures.0 c.if-not-has_some.false in
-    let here : IsCopied i.slots.items i.numbers.items k = subst (IsCopied i.slots.items i.numbers.items) (page_of_cell k h.0 h.1.0) (c.self.invariant.paged.copied (64 * k + h.0) (c.words.ensures.told (64 * k + h.0) ∙ h.1.1)) in
+    let here : IsCopied i.slots.items i.numbers.items k = subst (IsCopied i.slots.items i.numbers.items) (page_of_cell k h.0 h.1.0) (c.self.invariant.0.paged.copied (64 * k + h.0) (c.words.ensures.told (64 * k + h.0) ∙ h.1.1)) in
     let same_len : length s.base ≡ length i.base.now = sym (ap length base) in
     let cells : length c.cells.result.now ≡ length i.base.now = ap length c.cells.ensures in
     let count : c.page_len-count.result ≡ min 64 (length i.base.now - 64 * k) = c.page_len-count.ensures ∙ ap (λ n. min 64 (n - 64 * k)) cells in
     let many : length c.copied_page.result.now ≡ c.page_len-count.result = c.copied_page.ensures.len in
     let v : (b : ℕ) → value_at c.deref.result.now c.deref-3.result.now (64 * k + b) ≡ f (64 * k + b) = λ b j. value_at (c.deref.ensures.value j) (c.deref-3.ensures.value j) (64 * k + b) in
     let within : (b : ℕ) → b < length c.copied_page.result.now → (b < 64) × (64 * k + b < length i.base.now) = λ b lt. (omega (arith, lt, many, count), omega (arith, lt, many, count)) in
-    (many ∙ count ∙ ap (λ n. min 64 (n - 64 * k)) (sym same_len), λ b lt. c.copied_page.ensures.is b (omega (arith, lt, many)) ∙ ap Some (v b ∙ value_known i.base.now i.written i.slots.items i.numbers.items i.values.items c.self.invariant s base written (64 * k + b) (subst (IsCopied i.slots.items i.numbers.items) (sym (page_of_cell k b (within b lt).0)) here) (within b lt).1))
+    (many ∙ count ∙ ap (λ n. min 64 (n - 64 * k)) (sym same_len), λ b lt. c.copied_page.ensures.is b (omega (arith, lt, many)) ∙ ap Some (v b ∙ value_known i.base.now i.written i.slots.items i.numbers.items i.values.items c.self.invariant.0 s base written (64 * k + b) (subst (IsCopied i.slots.items i.numbers.items) (sym (page_of_cell k b (within b lt).0)) here) (within b lt).1))

@@ -5,7 +5,16 @@ use Rattle.std.specs.FinSet as set
 use Rattle.meaning.specs.Stores.{LeavesRead}
 use Rattle.private_view.specs.Views.{Seen, world_seen}
 use Rattle.private_view.proofs.Looking.{known_kept, leaves_marked}
+use Rattle.private_view.proofs.Putting.{marks_more}
+use Rattle.private_view.proofs.Runs.{run_exposed}
 use Rattle.private_view.proofs.paged.Paged.read_new.Goals as goal
+
+pub invariant_of-self : goal.invariant_of-self
+invariant_of-self c =
+    let i = c.self.inside in
+    let k = c.args.cell.0 in
+    let e = c.set_at_hand.new.self in
+    (c.self.invariant.0, run_exposed i.run_from i.run_until i.exposed i.written c.self.invariant.1 k e (marks_more i.exposed e k (c.set_at_hand.ensures.yes c.if-set_at_hand.true)))
 
 pub returns-then-set_at_hand-clause-value : goal.returns-then-set_at_hand-clause-value
 returns-then-set_at_hand-clause-value c =

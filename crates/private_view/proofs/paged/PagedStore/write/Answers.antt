@@ -19,4 +19,4 @@ returns-then-has-clause-ok c =
     let lt : k < length i.base.now = subst (λ (t : Seen). k < length t.base) (sym c.self.view_is) c.requires in
     let is = ap (λ (t : Seen). t.written) c.self.view_is in
     let e = c.put_value.ensures ∙ ap (λ ss. slice_set i.values.items (index ss i.numbers.items k) v) c.deref.ensures.value in
-    subst (λ (t : Seen). world_seen (record t { written = written_by i.written (value_at i.slots.items c.put_value.new.values.items) }) ≡ after_write k v (world_seen s)) (sym c.self.view_is) (ap (λ vs. world_seen (record s { written = written_by i.written (value_at i.slots.items vs) })) e ∙ puts_more i.base.now i.written i.slots.items i.numbers.items i.values.items c.self.invariant k v lt (c.self.invariant.paged.copied k marked) i.written (marks_same i.written k marked) s is) ∙ ap (λ x. after_write k x (world_seen s)) (to_z-of_z w32 c.args.value c.ranges.value)
+    subst (λ (t : Seen). world_seen (record t { written = written_by i.written (value_at i.slots.items c.put_value.new.values.items) }) ≡ after_write k v (world_seen s)) (sym c.self.view_is) (ap (λ vs. world_seen (record s { written = written_by i.written (value_at i.slots.items vs) })) e ∙ puts_more i.base.now i.written i.slots.items i.numbers.items i.values.items c.self.invariant.0 k v lt (c.self.invariant.0.paged.copied k marked) i.written (marks_same i.written k marked) s is) ∙ ap (λ x. after_write k x (world_seen s)) (to_z-of_z w32 c.args.value c.ranges.value)
