@@ -120,6 +120,28 @@ fn clear(rt: HostRuntime) -> Result<(), Fail> {
     Ok(())
 }
 
+/// Cells of the groups of 512 from 1 on up to 3, and others of the set.
+const IN_GROUPS: &[usize] = &[3, 512, 700, 1_535, 5_000];
+
+/// Cells next to them.
+const OFF_GROUPS: &[usize] = &[4, 511, 1_536, 2_560, 4_999, 5_001];
+
+// The cells of whole groups are added to others, and taken out with them.
+#[test]
+fn groups(rt: HostRuntime) -> Result<(), Fail> {
+    let mut marks = set_of(rt.alloc(), &[3, 5_000])?;
+    marks.set_groups(1, 3)?;
+    marks.set_groups(5, 5)?;
+    check_has(&rt, &marks, IN_GROUPS, true);
+    check_has(&rt, &marks, OFF_GROUPS, false);
+    let others = set_of(rt.alloc(), &[1_535])?;
+    assert!(rt; marks.meets(&others));
+    marks.clear();
+    check_has(&rt, &marks, IN_GROUPS, false);
+    assert!(rt; !marks.meets(&others));
+    Ok(())
+}
+
 /// So many cells that words have to grow several times.
 const MANY: usize = 200;
 
