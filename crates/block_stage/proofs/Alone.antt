@@ -14,7 +14,7 @@ use Rattle.private_view.specs.Views.{Seen, new_view, world_seen}
 use Rattle.evaluator.specs.Over.{RunsOver, SetsOver, repeated_as, trips_as}
 use Rattle.evaluator.specs.Statements.{ran_by}
 use Rattle.block_stage.specs.Jobs.{JobParts, data_of, variable_in, start_of, count_of}
-use Rattle.block_stage.specs.Faithful.{IsFaithful}
+use Rattle.block_stage.specs.Faithful.{IsFaithful, IsUnwritten}
 
 -- nothing was written
 overlay-empty : (m : Cells) → overlay m (map.get {X = ℤ} {R = nat_cmp} map.empty) ≡ m
@@ -40,8 +40,8 @@ module _ (j : JobParts) (s : Seen) (r : Run) (first step : ℤ) (trips : ℕ) wh
   both before between sets does =
       does_then (world_seen before) (world_seen between) (world_seen s) _ _ _ sets does (λ m k n e x. ap (λ q. trips_as (items_in j.program) j.repeated (variable_in j.repeated) first step trips q j.turns_left) (sym e) ∙ x)
 
-  module _ (before between : Seen) (fresh : before ≡ new_view j.base) (sets : Set before between) (does : Runs between s) (kept : s.lost ≡ false) where
-    done : Done (new_view j.base) s
+  module _ (before between : Seen) (fresh : IsUnwritten j.base before) (sets : Set before between) (does : Runs between s) (kept : s.lost ≡ false) where
+    done : Done (record (new_view j.base) { exposed = before.exposed }) s
     done = subst (λ t. Done t s) fresh (both before between sets does)
 
     pub faithful : (i : ℕ) → i < j.blocks → first ≡ start_of (data_of j) i → step ≡ j.step → trips ≡ count_of (data_of j) i → r.turns_used ≤ j.turns_left → IsFaithful (data_of j) (record { index = i; outcome = r.outcome; used = r.turns_used; seen = s })

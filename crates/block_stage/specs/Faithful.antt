@@ -1,7 +1,7 @@
 -- What it means that the run of a block by itself is faithful to its job (own; after Rauchwerger
 -- and Padua, and Dang, Yu and Rauchwerger).
 use Rattle.std.specs.Coded.{Coded, code_by, coded×, coded_ℕ}
-use Rattle.std.specs.Prelude.{refl, ◌≡◌, ℕ, ℤ, ◌<◌, ◌≤◌, false, [], length, IsTrue}
+use Rattle.std.specs.Prelude.{refl, ◌≡◌, ℕ, ℤ, ◌<◌, ◌≤◌, false, [], length, IsTrue, List}
 use Rattle.std.specs.FinSet as set
 use Rattle.std.specs.FinMap as map
 use Rattle.meaning.specs.declared.ending.Outcome.{Outcome}
@@ -10,7 +10,7 @@ use Rattle.meaning.specs.Execution.{Ran, exec, fold_trips}
 use Rattle.meaning.specs.Maps.{Map, put, map_by}
 use Rattle.meaning.specs.Stores.{Cells, known, overlay}
 use Rattle.array_store.specs.Whole.{world_of}
-use Rattle.private_view.specs.Views.{Seen, coded_seen}
+use Rattle.private_view.specs.Views.{Seen, coded_seen, new_view}
 use Rattle.evaluator.specs.Over.{values_by}
 use Rattle.evaluator.specs.Statements.{outcome_of}
 use Rattle.block_stage.specs.Jobs.{JobData, start_of, count_of}
@@ -21,6 +21,10 @@ pub record RunData : Type 0 where
   pub outcome : Outcome
   pub used : ℕ
   pub seen : Seen
+
+-- a view on some values in which nothing was written and no mark was lost
+abbrev pub IsUnwritten : List ℤ → Seen → Type 0
+IsUnwritten base s = s ≡ record (new_view base) { exposed = s.exposed }
 
 -- the map that values of the program's cells stand for
 abbrev pub map_in_job : JobData → Cells → Map

@@ -1,9 +1,8 @@
 //! The run of a block by itself.
 
 ghost use Rattle.std.specs.Prelude.{◌≡◌, ◌<◌, IfOk};
-ghost use Rattle.private_view.specs.Views.{new_view};
 ghost use Rattle.block_stage.specs.Jobs.{data_of};
-ghost use Rattle.block_stage.specs.Faithful.{IsFaithful};
+ghost use Rattle.block_stage.specs.Faithful.{IsFaithful, IsUnwritten};
 
 use crate::gate::Gate;
 use crate::job::{Job, JobKey, Parts};
@@ -75,7 +74,7 @@ impl<'a, J: JobKey> BlockRun<'a, J> {
 #[derive(Clone, Copy, PartialEq, Eq, Debug)]
 pub struct Lost;
 
-// Runs a block of a job on a view in which nothing was read or written.
+// Runs a block of a job on a view in which nothing was written.
 fn run_alone<'a, G: Gate>(
     job: &Job<'a>,
     block: u32,
@@ -83,7 +82,7 @@ fn run_alone<'a, G: Gate>(
     view: View<'a>,
 ) -> Result<BlockResult<'a>, Lost>
     requires below { block < job.now.blocks }
-    requires fresh { view ≡ new_view job.now.base }
+    requires fresh { IsUnwritten job.now.base view }
     ensures block { IfOk result (λ t. t.index ≡ block) }
     ensures faithful { IfOk result (λ t. IsFaithful (data_of job.now) t) }
 {
@@ -110,7 +109,7 @@ fn run_alone<'a, G: Gate>(
             if view.is_lost() {
                 return Err(Lost);
             }
-            Ok(BlockResult::new(block, run.outcome, run.turns_used, view))
+            Ok(BlockResult::new(block, run.outcome, run.turns_used, view, parts.shown))
         }
         Err(_) => Err(Lost),
     }
@@ -131,7 +130,7 @@ pub fn run_block<'a, J: JobKey, G: Gate>(
     run_block_in(job, block, gate, job.fresh_view(alloc, None))
 }
 
-/// The same on a view that is handed in, in which nothing was read or written.
+/// The same on a view that is handed in, in which nothing was written.
 pub fn run_block_in<'a, J: JobKey, G: Gate>(
     job: &Job<'a>,
     block: u32,
@@ -140,7 +139,7 @@ pub fn run_block_in<'a, J: JobKey, G: Gate>(
 ) -> Result<BlockRun<'a, J>, Lost>
     requires key { data_of job.now ≡ J.job }
     requires below { block < J.job.blocks }
-    requires fresh { view ≡ new_view job.now.base }
+    requires fresh { IsUnwritten job.now.base view }
     ensures { IfOk result (λ r. r.index ≡ block) }
 {
     match run_alone(job, block, gate, view) {

@@ -20,7 +20,7 @@ pub use board::Board;
 pub use causes::{Cause, Dependence, cause_of};
 pub use gate::{Gate, Open};
 pub use job::{Job, JobKey};
-pub use place::{TripsLeft, value_at};
+pub use place::{CellRun, TripsLeft, value_at};
 pub use posted::{Posted, cut};
 pub use private_view::WriteSet;
 pub use schedules::{Event, Ticket};

@@ -134,9 +134,9 @@ impl<'a> Posted<'a> {
     }
 
     /// How many turns the first block used, and what its view weighs beside them: one for each cell
-    /// that it exposed, two for each that it wrote, and sixteen for each page of cells that was
-    /// copied for that. None of either where it has no run. It is for whoever asks whether such
-    /// stages are worth their time, and no contract speaks of time.
+    /// that it exposed other than from the start, two for each that it wrote, and sixteen for each
+    /// page of cells that was copied for that. None of either where it has no run. It is for
+    /// whoever asks whether such stages are worth their time, and no contract speaks of time.
     pub fn first_weight(&self) -> (u64, u64) {
         match self.places.first() {
             Some(Some(trace)) => (trace.used(), trace.weight()),

@@ -7,6 +7,7 @@ ghost use Rattle.meaning.specs.Turns.{is_turn_limit as limits};
 ghost use Rattle.block_stage.specs.Cuts.{is_limit, reads_of};
 ghost use Rattle.block_stage.specs.Taken.{wrote_by};
 
+use crate::place::CellRun;
 use marks::{Marks, lowest_bit};
 use meaning::ending::{FaultKind, Outcome};
 use private_view::{View, WriteSet};
@@ -20,6 +21,8 @@ pub(crate) struct BlockResult<'a> {
     outcome: Outcome,
     used: u64,
     view: View<'a>,
+    // The cells that were exposed in its view from the start.
+    shown: CellRun,
 }
 
 impl<'a> Model for BlockResult<'a> {
@@ -34,8 +37,14 @@ impl<'a> Model for BlockResult<'a> {
 }
 
 impl<'a> BlockResult<'a> {
-    // A block's number, outcome, turns and view.
-    pub(crate) fn new(index: u32, outcome: Outcome, used: u64, view: View<'a>) -> BlockResult<'a>
+    // A block's number, outcome, turns and view, and the cells that were exposed from the start.
+    pub(crate) fn new(
+        index: u32,
+        outcome: Outcome,
+        used: u64,
+        view: View<'a>,
+        shown: CellRun,
+    ) -> BlockResult<'a>
         ensures { result
             ≡ record { index = index; outcome = outcome; used = used; seen = view.entry } }
     {
@@ -44,6 +53,7 @@ impl<'a> BlockResult<'a> {
             outcome,
             used,
             view,
+            shown,
         }
     }
 
@@ -95,11 +105,16 @@ impl<'a> BlockResult<'a> {
         shared_cell(self.view.exposed(), other.view.written())
     }
 
-    // What its view weighs: one for each cell that it exposed, two for each that it wrote, sixteen
-    // for each page that was copied.
+    // What its view weighs: one for each cell that it exposed, other than from the start, two for
+    // each that it wrote, sixteen for each page that was copied.
     pub(crate) fn weight(&self) -> u64 {
         let written = weight_of(self.view.written().words(), 2, 16);
-        weight_of(self.view.exposed().words(), 1, 0).saturating_add(written)
+        let exposed = self.view.exposed().words();
+        let behind = exposed.len().min(self.shown.until / 64);
+        let before = behind.min(self.shown.from / 64);
+        weight_of(&exposed[..before], 1, 0)
+            .saturating_add(weight_of(&exposed[behind..], 1, 0))
+            .saturating_add(written)
     }
 
     // What it saw and wrote.
@@ -118,6 +133,7 @@ impl<'a> BlockResult<'a> {
             outcome: _,
             used: _,
             view,
+            shown: _,
         } = self;
         view.into_changes()
     }

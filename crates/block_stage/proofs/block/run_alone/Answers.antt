@@ -31,7 +31,7 @@ returns-in-Ok-run_further_trips-clause-faithful g c =
     let first_is : first ≡ start_of (data_of j) c.args.block = to_z-of_z w32 c.value_at-first.result first_fits ∙ c.value_at-first.ensures ∙ (λ i. to_z-of_z w32 p.first base_fits i +ℤ pos (c.place_of-place.ensures.place i) *ℤ to_z-of_z w32 p.step step_fits i) in
     let trips_are : c.min-trips.result ≡ count_of (data_of j) c.args.block = search rules in
     let within : r.turns_used ≤ j.turns_left = search rules in
-    let fresh = c.requires.fresh ∙ ap (λ (q : JobParts). new_view q.base) c.parts-parts.ensures.parts in
+    let fresh = c.requires.fresh ∙ ap (λ (q : JobParts). record (new_view q.base) { exposed = c.args.view.exposed }) c.parts-parts.ensures.parts in
     let sets = c.in-Ok.ensures.does (variable_in j.repeated) (counted_cell j.program p.repeat.now (shape_in j.repeated) c.parts-parts.ensures.repeats) in
     let so = faithful j c.run_further_trips.new.store r first step c.min-trips.result c.args.view c.set_variable.new.store fresh sets (c.in-Ok-run_further_trips.ensures.does first) kept c.args.block below first_is (to_z-of_z w32 p.step step_fits) trips_are within in
     subst (λ t. IsFaithful (data_of c.args.job.now) t) (sym c.new.ensures) (subst (λ q. IsFaithful (data_of q) (record { index = c.args.block; outcome = r.outcome; used = r.turns_used; seen = c.run_further_trips.new.store })) (sym c.parts-parts.ensures.parts) so)
