@@ -8,6 +8,7 @@ mod do_statement;
 mod held;
 mod kept;
 mod pace;
+mod shown;
 mod size;
 mod speculation;
 mod stages;

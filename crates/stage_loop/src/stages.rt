@@ -14,10 +14,11 @@ use crate::course::behind;
 use crate::held::holds_loops;
 use crate::kept::{Known, LoopHistory};
 use crate::pace::{Pace, Size, Step, is_dear};
+use crate::shown::{no_cells, shown_in, worth_showing};
 use crate::size::{blocks_of, trips_in, workers_of};
 use crate::watcher::{Observer, Watch};
 use array_store::Whole;
-use block_stage::{Committed, Gate, Job, TripsLeft, cut, run_stage_in};
+use block_stage::{CellRun, Committed, Gate, Job, TripsLeft, cut, run_stage_in};
 use evaluator::run_trips;
 use meaning::ending::{Outcome, Run};
 use meaning::plan::Plan;
@@ -106,6 +107,7 @@ fn run_blocks<R: Threads + Wait + Sync, G: Gate + Sync, W: Observer>(
     course: TripsLeft,
     plan: &Plan,
     size: Size,
+    shown: CellRun,
     last: Option<u64>,
     kept: &mut LoopHistory,
     cells: &mut Whole,
@@ -133,7 +135,8 @@ fn run_blocks<R: Threads + Wait + Sync, G: Gate + Sync, W: Observer>(
     let workers = workers_of(plan.workers() as u32, blocks, last);
     let job = Job::over(
         program, repeated, repeat, cells, course, size, blocks, *turns,
-    );
+    )
+    .showing(shown);
     let front = match take_blocks(rt, alloc, &job, workers, kept, gate, watch) {
         Some(front) => front,
         None => return None,
@@ -227,6 +230,28 @@ fn turns_ahead(kept: &LoopHistory, pace: Pace, size: Size, last: Option<u64>) ->
     Some(pace.turns_of(trips) / 8)
 }
 
+// The cells that are exposed from the start in the blocks of the next stage, by what is known of
+// the range once this was asked; none where each DO statement is tried.
+fn shown_ahead(
+    alloc: Global,
+    program: &Program,
+    repeated: &Loop,
+    kept: &LoopHistory,
+    pace: Pace,
+    size: Size,
+    shown: &mut Option<CellRun>,
+) -> CellRun {
+    if !kept.is_adaptive() {
+        return no_cells();
+    }
+    let run = match *shown {
+        Some(run) => run,
+        None => shown_in(alloc, program, repeated),
+    };
+    *shown = Some(run);
+    worth_showing(run, pace, size)
+}
+
 // Runs some first trips as a stage, or in order where they aren't worth one, or none could be made.
 fn run_next<R: Threads + Wait + Sync, G: Gate + Sync, W: Observer>(
     rt: &R,
@@ -237,6 +262,7 @@ fn run_next<R: Threads + Wait + Sync, G: Gate + Sync, W: Observer>(
     course: TripsLeft,
     plan: &Plan,
     pace: Pace,
+    shown: &mut Option<CellRun>,
     last: Option<u64>,
     kept: &mut LoopHistory,
     cells: &mut Whole,
@@ -262,9 +288,10 @@ fn run_next<R: Threads + Wait + Sync, G: Gate + Sync, W: Observer>(
     }
     let size = size_of(kept, pace, plan, course.trips);
     let ahead = turns_ahead(kept, pace, size, last);
+    let run = shown_ahead(alloc, program, repeated, kept, pace, size, shown);
     match run_blocks(
-        rt, alloc, program, repeated, repeat, course, plan, size, ahead, kept, cells, turns, gate,
-        watch,
+        rt, alloc, program, repeated, repeat, course, plan, size, run, ahead, kept, cells, turns,
+        gate, watch,
     ) {
         Some(stage) => Advance {
             done: stage.done,
@@ -367,6 +394,7 @@ pub(crate) fn run_stages<R: Threads + Wait + Sync, G: Gate + Sync, W: Observer>(
     let line = repeated.head.line;
     let mut known = begun(kept, line, before, course.trips, *turns, watcher);
     let mut last = known.first;
+    let mut shown = None;
     let mut rest = course;
     while rest.trips > 0 && !is_left(kept, known, plan, repeated, rest.trips) {
         let passed = course.trips - rest.trips;
@@ -382,8 +410,8 @@ pub(crate) fn run_stages<R: Threads + Wait + Sync, G: Gate + Sync, W: Observer>(
             turns: all,
             is_dear,
         } = run_next(
-            rt, alloc, program, repeated, repeat, rest, plan, known.pace, last, kept, cells, turns,
-            gate, &watch,
+            rt, alloc, program, repeated, repeat, rest, plan, known.pace, &mut shown, last, kept,
+            cells, turns, gate, &watch,
         );
         if all.is_none() {
             watcher.passed(line, done);
