@@ -1,4 +1,5 @@
 pub mod Acting
+pub mod Forms
 pub mod Known
 pub mod Limited
 pub mod Listing
@@ -14,4 +15,5 @@ pub mod Ranges
 pub mod Repeating
 pub mod Slices
 pub mod Statements
+pub mod Targets
 pub mod Unset

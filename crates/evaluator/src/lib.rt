@@ -15,6 +15,7 @@ mod shaped;
 mod shapes;
 mod slices;
 mod statement;
+mod target;
 
 pub use assignment::{add_to, set_variable};
 pub use control::{take_turn, test_arm, test_condition};
