@@ -1,31 +1,24 @@
-use Rattle.std.proofs.Common.{rules, refl, ap, ◌∙◌}
+use Rattle.std.proofs.Common.{rules, ◌+ℤ◌}
 use Rattle.std.specs.Prelude.{FitsSigned}
 use Rattle.std.specs.Int.{w32}
-use Rattle.std.proofs.lemmas.Int.{to_z-of_z}
-use Rattle.expressions.proofs.Exact.{outcome}
-use Rattle.evaluator.proofs.Assigned.{adds_known, known_none, later_written, sum_is}
+use Rattle.expressions.proofs.Exact.{in_range}
+use Rattle.evaluator.proofs.Assigned.{adds_known, later_written, sum_kept}
 use Rattle.evaluator.proofs.assignment.add_known.Goals as goal
 
-pub returns-in_ok-write-in-Some-clause-does : goal.returns-in_ok-write-in-Some-clause-does
-returns-in_ok-write-in-Some-clause-does g c = λ n is.
+pub returns-clause-does : goal.returns-clause-does
+returns-clause-does g c = λ n is.
     let u = g.S.Store.world c.args.store.now in
     let a = c.args.addition in
-    let x = c.args.number.now in
-    let fx : FitsSigned w32 x = search rules in
+    let x = c.args.number in
     let fb : FitsSigned w32 a.by = search rules in
-    let sum = sum_is c.summed.result x a.by fx fb c.summed.ensures ∙ ap outcome c.in-Some.is in
-    let fs : FitsSigned w32 c.in-Some.sum = search rules in
-    adds_known c.args.program.now n a.variable is.is u (g.S.Store.world c.write.new.self) x a.by c.in-Some.sum _ c.requires.known sum c.in_ok-write-in-Some.ensures.ok (to_z-of_z w32 c.in-Some.sum fs)
+    adds_known c.args.program.now n a.variable is.is u (g.S.Store.world c.write.new.self) x a.by (x +ℤ a.by) _ c.requires.known (in_range (x +ℤ a.by) c.requires.integer) c.in_ok-write.ensures.ok (sum_kept x a.by c.ranges.number fb c.requires.integer)
 
-pub returns-in_ok-write-in-Some-clause-later : goal.returns-in_ok-write-in-Some-clause-later
-returns-in_ok-write-in-Some-clause-later g c =
-    later_written c.args.addition.variable _ (g.S.Store.world c.args.store.now) (g.S.Store.world c.write.new.self) c.in_ok-write-in-Some.ensures.ok
-
-pub returns-in-None-clause-does : goal.returns-in-None-clause-does
-returns-in-None-clause-does g c =
+pub returns-clause-sum : goal.returns-clause-sum
+returns-clause-sum g c =
     let a = c.args.addition in
-    let x = c.args.number.now in
-    let fx : FitsSigned w32 x = search rules in
     let fb : FitsSigned w32 a.by = search rules in
-    let sum = sum_is c.summed.result x a.by fx fb c.summed.ensures ∙ ap outcome c.in-None.is in
-    (refl, λ n is. known_none c.args.program.now n a.variable is.is (g.S.Store.world c.args.store.now) x a.by c.requires.known sum)
+    (sum_kept c.args.number a.by c.ranges.number fb c.requires.integer, c.in_ok-write.ensures.ok)
+
+pub returns-clause-later : goal.returns-clause-later
+returns-clause-later g c =
+    later_written c.args.addition.variable _ (g.S.Store.world c.args.store.now) (g.S.Store.world c.write.new.self) c.in_ok-write.ensures.ok
