@@ -7,13 +7,14 @@ use Rattle.meaning.specs.declared.refusal.Broken.{Broken}
 use Rattle.meaning.specs.Answers.{members_of, program_of}
 use Rattle.meaning.specs.Nesting.{nest}
 use Rattle.meaning.specs.Refusals.{is_less, least}
+use Rattle.meaning.specs.Rules.{broken_rules}
 use Rattle.meaning.specs.Statements.{Entry, statements_of}
 use Rattle.meaning.specs.Syntax.{ItemTree}
 use Rattle.meaning.specs.Trees.{Nested}
 use Rattle.nesting.specs.Pairs.{pairs_of_order}
 use Rattle.all_breaches.specs.Further.{AreFurther}
 use Rattle.all_breaches.specs.Ordered.{AreApart, Ascends, HaveSame}
-use Rattle.all_breaches.specs.Phases.{broken_pairs, pairs_from_order, pairs_from_texts, pairs_of_texts, pairs_of_unit, told_or}
+use Rattle.all_breaches.specs.Phases.{broken_pairs, pairs_from_order, pairs_from_texts, pairs_of_texts, told_or}
 use Rattle.all_breaches.proofs.Members.{In, contains, in_from, of_all}
 use Rattle.all_breaches.proofs.Sorting.{Apart, not_itself}
 use Rattle.all_breaches.proofs.Apart.{lines_apart, order_apart, texts_apart}
@@ -41,7 +42,7 @@ is_none xs n le is = nil_from_length xs (omega arith)
 order_pairs_apart : (items : List ItemTree) → Apart (pairs_from_order items)
 order_pairs_apart items = by_result (nest items)
   where
-    by_result : (r : Result Nested Broken) → Apart (told_or r (pairs_of_order items) pairs_of_unit)
+    by_result : (r : Result Nested Broken) → Apart (told_or r (pairs_of_order items) broken_rules)
     by_result (Err b) = order_apart items
     by_result (Ok t) = unit_apart t
 

@@ -23,10 +23,15 @@ unit : broken_pairs (codes "      X=1\n      Y=2147483648\n      Z=2147483649\n 
 unfolding all_definitions broken_pairs
 unit = refl
 
--- but the one on DATA statements at its first alone
-data_first : broken_pairs (codes "      DATA I/1,2/\n      DATA J/1,2/\n      END\n") ≡ record { line = 1; rule = K10 } ∷ []
+-- a DATA statement that doesn't fit gives nothing, so that the next one may give the same
+data_each : broken_pairs (codes "      DATA I/1,2/\n      DATA I/1/\n      DATA I/1/\n      END\n") ≡ record { line = 1; rule = K10 } ∷ record { line = 3; rule = K10 } ∷ []
 unfolding all_definitions broken_pairs
-data_first = refl
+data_each = refl
+
+-- one that gives something twice gives all that it has
+data_twice : broken_pairs (codes "      DATA I,I,J/1,2,3/\n      DATA J/1/\n      DATA K/1/\n      END\n") ≡ record { line = 1; rule = K10 } ∷ record { line = 2; rule = K10 } ∷ []
+unfolding all_definitions broken_pairs
+data_twice = refl
 
 -- a number that is too great is one of the constants of a DATA statement, and so has the right type
 great_in_data : broken_pairs (codes "      DATA I/-2147483648/\n      END\n") ≡ record { line = 1; rule = K6 } ∷ []

@@ -4,7 +4,6 @@ pub mod Said
 pub mod Telling
 pub mod Apart
 pub mod LeastPairs
-pub mod OneLeast
 pub mod UnitPairs
 pub mod Composed
 mod Examples

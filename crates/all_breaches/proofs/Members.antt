@@ -1,6 +1,6 @@
 -- One of a list, by recursion on the list.
-use Rattle.std.proofs.Common.{◌≡◌, ℕ, zero, suc, ◌<◌, Bool, true, false, cond, List, [], ◌∷◌, ◌++◌, length, get_or, refl, sym, ap, subst, ◌∙◌, arith, inl, inr, ◌⊎◌}
-use Rattle.std.specs.List.{AllByRecursion, Contains, filter}
+use Rattle.std.proofs.Common.{◌≡◌, ℕ, zero, suc, ◌<◌, List, [], ◌∷◌, ◌++◌, length, get_or, refl, sym, subst, arith, inl, inr, ◌⊎◌}
+use Rattle.std.specs.List.{AllByRecursion, Contains}
 
 abbrev pub In : {X : Type 0} → X → List X → Type 0
 In b [] = ⊥
@@ -36,30 +36,6 @@ in_either (x ∷ xs) ys b (inr h) = onward (in_either xs ys b h)
     onward : In b xs ⊎ In b ys → In b (x ∷ xs) ⊎ In b ys
     onward (inl i) = inl (inr i)
     onward (inr i) = inr i
-
-pub in_filter : {X : Type 0} (p : X → Bool) (xs : List X) (b : X) → In b xs → p b ≡ true → In b (filter p xs)
-in_filter p [] b h t = absurd h
-in_filter p (x ∷ xs) b (inl e) t = let here : p x ≡ true = ap p (sym e) ∙ t in rw here (inl e)
-in_filter p (x ∷ xs) b (inr h) t = by_test (p x) (in_filter p xs b h t)
-  where
-    by_test : (q : Bool) → In b (filter p xs) → In b (cond q (x ∷ filter p xs) (filter p xs))
-    by_test true i = inr i
-    by_test false i = i
-
-pub from_filter : {X : Type 0} (p : X → Bool) (xs : List X) (b : X) → In b (filter p xs) → In b xs × (p b ≡ true)
-from_filter p [] b h = absurd h
-from_filter p (x ∷ xs) b h = by_test (p x) refl (from_filter p xs b) h
-  where
-    further : In b xs × (p b ≡ true) → In b (x ∷ xs) × (p b ≡ true)
-    further r = (inr r.0, r.1)
-
-    here : p x ≡ true → (In b (filter p xs) → In b xs × (p b ≡ true)) → In b (x ∷ filter p xs) → In b (x ∷ xs) × (p b ≡ true)
-    here t k (inl e) = (inl e, ap p e ∙ t)
-    here t k (inr i) = further (k i)
-
-    by_test : (q : Bool) → p x ≡ q → (In b (filter p xs) → In b xs × (p b ≡ true)) → In b (cond q (x ∷ filter p xs) (filter p xs)) → In b (x ∷ xs) × (p b ≡ true)
-    by_test true t k i = here t k i
-    by_test false t k i = further (k i)
 
 pub of_all : {X : Type 0} (P : X → Type 0) (xs : List X) (b : X) → AllByRecursion P xs → In b xs → P b
 of_all P [] b h i = absurd i

@@ -8,15 +8,13 @@ use Rattle.meaning.specs.Answers.{member_of, members_of, program_of}
 use Rattle.meaning.specs.Lines.{lines_of, statement_lines}
 use Rattle.meaning.specs.Nesting.{behind, first_broken, innermost, missing_end, nest, start}
 use Rattle.meaning.specs.Refusals.{◌>>=◌, all_of, least, lesser_of, merge, unless, with_first}
-use Rattle.meaning.specs.Rules.{checked}
+use Rattle.meaning.specs.Rules.{broken_rules, checked}
 use Rattle.meaning.specs.Statements.{Entry, broken_in, entry_in, groups, is_too_long, statements_in, statements_of}
 use Rattle.meaning.specs.Syntax.{ItemTree}
 use Rattle.meaning.specs.Trees.{Nested}
 use Rattle.nesting.specs.Pairs.{pairs_of_order}
 use Rattle.source_columns.specs.AllBroken.{pairs_of_lines}
-use Rattle.rule_laws.proofs.Lines.{unit_in_order}
-use Rattle.all_breaches.specs.InOrder.{ReadInOrder}
-use Rattle.all_breaches.specs.Phases.{broken_pairs, pairs_from_order, pairs_from_texts, pairs_of_texts, pairs_of_unit, refused_by, told_or}
+use Rattle.all_breaches.specs.Phases.{broken_pairs, pairs_from_order, pairs_from_texts, pairs_of_texts, refused_by, told_or}
 use Rattle.all_breaches.specs.Texts.{members_read, read_by}
 
 -- ---- G
@@ -38,10 +36,6 @@ module _ {A : Type 0} where
 members_told : (entries : List Entry) → members_of entries ≡ unless (least (pairs_of_texts entries)) (members_read entries)
 unfolding members_of
 members_told entries = all_said (map member_of entries)
-
-pub texts_read : (entries : List Entry) (pairs : List Broken) (members : List ItemTree) → pairs ≡ pairs_of_texts entries → pairs ≡ [] → members ≡ members_read entries → members_of entries ≡ Ok members
-texts_read entries pairs members is none read =
-    members_told entries ∙ ap (λ xs. unless (least xs) (members_read entries)) (sym is ∙ none) ∙ ap Ok (sym read)
 
 pub texts_refuse : (entries : List Entry) (pairs : List Broken) → pairs ≡ pairs_of_texts entries → (pairs ≡ [] → ⊥) → pairs_from_texts entries ≡ pairs
 texts_refuse entries [] is some = absurd (some refl)
@@ -71,10 +65,10 @@ module _ (items : List ItemTree) where
   pub order_refuses : (pairs : List Broken) → pairs ≡ pairs_of_order items → (pairs ≡ [] → ⊥) → pairs_from_order items ≡ pairs
   order_refuses [] is some = absurd (some refl)
   order_refuses (b ∷ bs) is some =
-      ap (λ r. told_or r (pairs_of_order items) pairs_of_unit) (nest_told ∙ ap (λ xs. unless (least xs) unit) (sym is)) ∙ sym is
+      ap (λ r. told_or r (pairs_of_order items) broken_rules) (nest_told ∙ ap (λ xs. unless (least xs) unit) (sym is)) ∙ sym is
 
-  pub order_passes : (t : Nested) → nest items ≡ Ok t → pairs_from_order items ≡ pairs_of_unit t
-  order_passes t e = ap (λ r. told_or r (pairs_of_order items) pairs_of_unit) e
+  pub order_passes : (t : Nested) → nest items ≡ Ok t → pairs_from_order items ≡ broken_rules t
+  order_passes t e = ap (λ r. told_or r (pairs_of_order items) broken_rules) e
 
 -- ---- C
 
@@ -100,13 +94,13 @@ module _ (source : List ℕ) where
 unless_told : {A : Type 0} (o : Option Broken) (x : A) (h : Broken) (r : Result A Broken) → r ≡ unless o x → o ≡ Some h → r ≡ Err h
 unless_told o x h r is e = is ∙ ap (λ p. unless p x) e
 
-module _ (unit_told : (t : Nested) (h : Broken) → least (pairs_of_unit t) ≡ Some h → checked t ≡ Err h) where
+module _ (unit_told : (t : Nested) (h : Broken) → least (broken_rules t) ≡ Some h → checked t ≡ Err h) where
   order_told : (items : List ItemTree) (h : Broken) → least (pairs_from_order items) ≡ Some h → (nest items >>= λ t. checked t) ≡ Err h
   order_told items h e = by_result (nest items) refl
     where
       by_result : (r : Result Nested Broken) → nest items ≡ r → (nest items >>= λ t. checked t) ≡ Err h
       by_result (Err b) is =
-          ap (λ r. r >>= λ t. checked t) (unless_told (least (pairs_of_order items)) (unit items) h (nest items) (nest_told items) (ap (λ r. least (told_or r (pairs_of_order items) pairs_of_unit)) (sym is) ∙ e))
+          ap (λ r. r >>= λ t. checked t) (unless_told (least (pairs_of_order items)) (unit items) h (nest items) (nest_told items) (ap (λ r. least (told_or r (pairs_of_order items) broken_rules)) (sym is) ∙ e))
       by_result (Ok t) is = ap (λ r. r >>= λ u. checked u) is ∙ unit_told t h (ap least (sym (order_passes items t is)) ∙ e)
 
   texts_told : (entries : List Entry) (h : Broken) → least (pairs_from_texts entries) ≡ Some h → (members_of entries >>= λ members. nest members >>= λ t. checked t) ≡ Err h
@@ -127,10 +121,3 @@ module _ (unit_told : (t : Nested) (h : Broken) → least (pairs_of_unit t) ≡ 
           ap (λ r. r >>= λ entries. members_of entries >>= λ members. nest members >>= λ t. checked t) (lines_told source h (ap least (sym (lines_refuse source b is)) ∙ e))
       by_result (Ok entries) is =
           ap (λ r. r >>= λ entries. members_of entries >>= λ members. nest members >>= λ t. checked t) is ∙ texts_told entries h (ap least (sym (lines_pass source entries is)) ∙ e)
-
--- ---- statements in the order of their lines
-
-pub read_in_order : (source : List ℕ) (entries : List Entry) → statements_of source ≡ Ok entries → ReadInOrder entries
-read_in_order source entries stated members read t nests =
-    unit_in_order source t
-    (ap (λ r. r >>= λ es. members_of es >>= λ ms. nest ms) stated ∙ ap (λ r. r >>= λ ms. nest ms) read ∙ nests)

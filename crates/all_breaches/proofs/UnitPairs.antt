@@ -1,5 +1,6 @@
--- The pairs of the rules K: of that on DATA statements the least, of the others each.
-use Rattle.std.proofs.Common.{◌≡◌, ℕ, Bool, true, false, List, [], ◌∷◌, ◌++◌, append_assoc, Some, Err, refl, sym, ap, subst, ◌∙◌}
+-- The pairs of the rules K.
+use Rattle.std.proofs.Common.{◌≡◌, ℕ, inl, inr, Bool, true, false, List, [], ◌∷◌, ◌++◌, append_assoc, Some, Err, refl, sym, ap, subst, ◌∙◌}
+use Rattle.std.specs.Prelude.{◌⊎◌}
 use Rattle.std.specs.List.{AllByRecursion, Contains}
 use Rattle.meaning.specs.declared.refusal.Broken.{Broken}
 use Rattle.meaning.specs.declared.refusal.Rule.{Rule}
@@ -9,7 +10,7 @@ use Rattle.meaning.specs.LabelRules.{breaks_transfers, has_bad_output, has_repea
 use Rattle.meaning.specs.LoopRules.{breaks_loops}
 use Rattle.meaning.specs.NameRules.{breaks_function_rules, broken_names, has_misuse, has_real_name, has_unknown_function, is_disputed, is_wrongly_typed, told}
 use Rattle.meaning.specs.NumberRules.{has_bad_number, has_large_array}
-use Rattle.meaning.specs.Refusals.{is_less, least, unless}
+use Rattle.meaning.specs.Refusals.{least, unless}
 use Rattle.meaning.specs.Rules.{broken_lists, broken_rules, checked}
 use Rattle.meaning.specs.Statements.{broken_if}
 use Rattle.meaning.specs.Surroundings.{Around, in_arm, in_body, in_range, told_in, told_in_arms}
@@ -19,12 +20,9 @@ use Rattle.meaning.specs.Uses.{Symbols, symbols_of}
 use Rattle.k_rules.specs.Judged.{rules_first, rules_last}
 use Rattle.all_breaches.specs.Ordered.{HaveSame}
 use Rattle.all_breaches.specs.Parts.{pairs_found}
-use Rattle.all_breaches.specs.Phases.{is_told_of, pairs_of_unit}
-use Rattle.all_breaches.proofs.Members.{In, all_by, contains, from_filter, in_filter, in_from}
-use Rattle.all_breaches.proofs.Sorting.{Apart, same_line, same_rank}
+use Rattle.all_breaches.proofs.Members.{In, contains, in_either, in_from, in_left, in_right}
+use Rattle.all_breaches.proofs.Sorting.{Apart}
 use Rattle.all_breaches.proofs.Apart.{apart_in_phase, phase_of}
-use Rattle.all_breaches.proofs.LeastPairs.{First, least_first, least_in, least_some, no_earlier}
-use Rattle.all_breaches.proofs.OneLeast.{IsOther, IsTen, back, in_phase, onward, told_first}
 
 -- ---- what holds of the pairs of a rule holds of all that is told of it
 
@@ -67,6 +65,22 @@ six_all : (P : Broken → Type 0) (a b c d e f : List Broken) → AllByRecursion
 six_all P a b c d e f g h i j k l =
     all-append P a _ g (all-append P b _ h (all-append P c _ i (all-append P d _ j (all-append P e f k l))))
 
+-- the order of parts is no matter
+in_front : (xs ys zs : List Broken) (b : Broken) → In b (xs ++ (ys ++ zs)) → In b (ys ++ (xs ++ zs))
+in_front xs ys zs b h = by_first (in_either xs (ys ++ zs) b h)
+  where
+    by_rest : In b ys ⊎ In b zs → In b (ys ++ (xs ++ zs))
+    by_rest (inl i) = in_left ys (xs ++ zs) b i
+    by_rest (inr i) = in_right ys (xs ++ zs) b (in_right xs zs b i)
+
+    by_first : In b xs ⊎ In b (ys ++ zs) → In b (ys ++ (xs ++ zs))
+    by_first (inl i) = in_right ys (xs ++ zs) b (in_left xs zs b i)
+    by_first (inr i) = by_rest (in_either ys zs b i)
+
+-- of the third phase
+abbrev IsThird : Broken → Type 0
+IsThird b = phase_of b.rule ≡ 3
+
 module _ (t : Nested) where
   abbrev all : List ItemTree
   all = flatten t
@@ -83,28 +97,22 @@ module _ (t : Nested) where
   abbrev last : List Broken
   last = rules_last r all t.body
 
-  names_other : AllByRecursion IsOther (broken_names r all)
-  names_other =
-      six_all IsOther (told (has_real_name r) K3 [] all) (told (is_disputed r) K4 [] all) (told (is_wrongly_typed r) K5 [] all) (told (has_misuse r) K8 [] all) (told (breaks_function_rules r) K12 [] all) (told (has_unknown_function r) K13 [] all)
-      (all_told IsOther K3 (λ n. (refl, refl)) (has_real_name r) [] all) (all_told IsOther K4 (λ n. (refl, refl)) (is_disputed r) [] all) (all_told IsOther K5 (λ n. (refl, refl)) (is_wrongly_typed r) [] all)
-      (all_told IsOther K8 (λ n. (refl, refl)) (has_misuse r) [] all) (all_told IsOther K12 (λ n. (refl, refl)) (breaks_function_rules r) [] all) (all_told IsOther K13 (λ n. (refl, refl)) (has_unknown_function r) [] all)
+  names_third : AllByRecursion IsThird (broken_names r all)
+  names_third =
+      six_all IsThird (told (has_real_name r) K3 [] all) (told (is_disputed r) K4 [] all) (told (is_wrongly_typed r) K5 [] all) (told (has_misuse r) K8 [] all) (told (breaks_function_rules r) K12 [] all) (told (has_unknown_function r) K13 [] all)
+      (all_told IsThird K3 (λ n. refl) (has_real_name r) [] all) (all_told IsThird K4 (λ n. refl) (is_disputed r) [] all) (all_told IsThird K5 (λ n. refl) (is_wrongly_typed r) [] all)
+      (all_told IsThird K8 (λ n. refl) (has_misuse r) [] all) (all_told IsThird K12 (λ n. refl) (breaks_function_rules r) [] all) (all_told IsThird K13 (λ n. refl) (has_unknown_function r) [] all)
 
-  first_other : AllByRecursion IsOther first
-  first_other =
-      all-append IsOther (told has_repeated_label K1 [] all) _ (all_told IsOther K1 (λ n. (refl, refl)) has_repeated_label [] all)
-      (all-append IsOther (broken_names r all) _ names_other
-      (all-append IsOther (told (has_bad_number r) K6 [] all) (told (has_large_array r) K7 [] all) (all_told IsOther K6 (λ n. (refl, refl)) (has_bad_number r) [] all) (all_told IsOther K7 (λ n. (refl, refl)) (has_large_array r) [] all)))
+  first_third : AllByRecursion IsThird first
+  first_third =
+      all-append IsThird (told has_repeated_label K1 [] all) _ (all_told IsThird K1 (λ n. refl) has_repeated_label [] all)
+      (all-append IsThird (broken_names r all) _ names_third
+      (all-append IsThird (told (has_bad_number r) K6 [] all) (told (has_large_array r) K7 [] all) (all_told IsThird K6 (λ n. refl) (has_bad_number r) [] all) (all_told IsThird K7 (λ n. refl) (has_large_array r) [] all)))
 
-  last_other : AllByRecursion IsOther last
-  last_other =
-      all-append IsOther (told (has_bad_output r all) K11 [] all) _ (all_told IsOther K11 (λ n. (refl, refl)) (has_bad_output r all) [] all)
-      (all-append IsOther (told_in (breaks_transfers r all) K2 (in_body t.body) t.body) (told_in (breaks_loops r) K9 (in_body t.body) t.body) (all_in IsOther K2 (λ n. (refl, refl)) (breaks_transfers r all) (in_body t.body) t.body) (all_in IsOther K9 (λ n. (refl, refl)) (breaks_loops r) (in_body t.body) t.body))
-
-  others : AllByRecursion IsOther (first ++ last)
-  others = all-append IsOther first last first_other last_other
-
-  ten : AllByRecursion IsTen data_told
-  ten = all_told IsTen K10 (λ n. refl) (has_bad_data r) [] all
+  last_third : AllByRecursion IsThird last
+  last_third =
+      all-append IsThird (told (has_bad_output r all) K11 [] all) _ (all_told IsThird K11 (λ n. refl) (has_bad_output r all) [] all)
+      (all-append IsThird (told_in (breaks_transfers r all) K2 (in_body t.body) t.body) (told_in (breaks_loops r) K9 (in_body t.body) t.body) (all_in IsThird K2 (λ n. refl) (breaks_transfers r all) (in_body t.body) t.body) (all_in IsThird K9 (λ n. refl) (breaks_loops r) (in_body t.body) t.body))
 
   whole : broken_rules t ≡ first ++ (data_told ++ last)
   whole =
@@ -115,41 +123,28 @@ module _ (t : Nested) where
 
   -- ---- apart
 
-  rules_apart : Apart (broken_rules t)
-  rules_apart =
-      apart_in_phase 3 (broken_rules t) (all_by (λ b. phase_of b.rule ≡ 3) (broken_rules t) (in_phase first data_told last (broken_rules t) whole ten others))
+  all_third : AllByRecursion IsThird (broken_rules t)
+  all_third =
+      subst (AllByRecursion IsThird) (sym whole)
+      (all-append IsThird first (data_told ++ last) first_third
+      (all-append IsThird data_told last (all_told IsThird K10 (λ n. refl) (has_bad_data r) [] all) last_third))
 
-  among_all : (b : Broken) → In b (pairs_of_unit t) → In b (broken_rules t)
-  among_all b i = (from_filter (is_told_of (broken_rules t)) (broken_rules t) b i).0
-
-  pub unit_apart : Apart (pairs_of_unit t)
-  unit_apart a b i j line rank = rules_apart a b (among_all a i) (among_all b j) line rank
+  pub unit_apart : Apart (broken_rules t)
+  unit_apart = apart_in_phase 3 (broken_rules t) all_third
 
   -- ---- the same pairs
 
-  pub unit_same : (made : List Broken) → made ≡ pairs_found r all t.body → HaveSame made (pairs_of_unit t)
+  pub unit_same : (made : List Broken) → made ≡ pairs_found r all t.body → HaveSame made (broken_rules t)
   unit_same made is b = (
-    λ h. contains (pairs_of_unit t) b (onward first data_told last (broken_rules t) whole ten others b (in_from (pairs_found r all t.body) b (subst (λ xs. Contains xs b) is h))),
-    λ h. subst (λ xs. Contains xs b) (sym is) (contains (pairs_found r all t.body) b (back first data_told last (broken_rules t) whole ten others b (in_from (pairs_of_unit t) b h))),
+    λ h. contains (broken_rules t) b (subst (In b) (sym whole) (in_front data_told first last b (in_from (pairs_found r all t.body) b (subst (λ xs. Contains xs b) is h)))),
+    λ h. subst (λ xs. Contains xs b) (sym is) (contains (pairs_found r all t.body) b (in_front first data_told last b (subst (In b) whole (in_from (broken_rules t) b h)))),
   )
 
   -- ---- the least of them
 
-  least_unit : (h m : Broken) → least (pairs_of_unit t) ≡ Some h → least (broken_rules t) ≡ Some m → h ≡ m
-  least_unit h m e f =
-      let there : In h (broken_rules t) = among_all h (least_in (pairs_of_unit t) h e) in
-      let here : In m (broken_rules t) = least_in (broken_rules t) m f in
-      let is_first : First (broken_rules t) m = λ c i same. no_earlier c m (least_first (broken_rules t) m c f i) in
-      let in_unit : In m (pairs_of_unit t) = in_filter (is_told_of (broken_rules t)) (broken_rules t) m here (told_first first data_told last (broken_rules t) whole ten others m is_first) in
-      let above : is_less m h ≡ false = least_first (pairs_of_unit t) h m e in_unit in
-      let below : is_less h m ≡ false = least_first (broken_rules t) m h f there in
-      rules_apart h m there here (same_line h m below above) (same_rank h m below above)
-
-  pub unit_told : (h : Broken) → least (pairs_of_unit t) ≡ Some h → checked t ≡ Err h
+  pub unit_told : (h : Broken) → least (broken_rules t) ≡ Some h → checked t ≡ Err h
   unfolding checked
-  unit_told h e =
-      let r = least_some (broken_rules t) h (among_all h (least_in (pairs_of_unit t) h e)) in
-      ap (λ o. unless o t) (r.1 ∙ ap Some (sym (least_unit h r.0 e r.1)))
+  unit_told h e = ap (λ o. unless o t) e
 
   -- by the statements as the code has them
   pub found_at : {xs : List ItemTree} {ms : Members} → xs ≡ flatten t → ms ≡ t.body → pairs_found (symbols_of xs) xs ms ≡ pairs_found r all t.body

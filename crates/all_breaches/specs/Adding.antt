@@ -1,10 +1,9 @@
 -- What is added to what was found before.
-use Rattle.std.specs.Prelude.{◌≡◌, ◌++◌, List, map, Option, Result}
+use Rattle.std.specs.Prelude.{◌≡◌, ◌++◌, List, map, Result}
 use Rattle.std.specs.Option.{option_to_list}
 use Rattle.meaning.specs.declared.refusal.Broken.{Broken}
 use Rattle.meaning.specs.declared.refusal.Refusal.{Refusal}
 use Rattle.meaning.specs.declared.syntax.Item.{Item}
-use Rattle.meaning.specs.Refusals.{least}
 use Rattle.meaning.specs.Reports.{Gives}
 use Rattle.meaning.specs.Syntax.{ItemTree}
 use Rattle.meaning.specs.declared.syntax.Member.{Member}
@@ -32,9 +31,9 @@ AddsBroken said old new =
 abbrev pub by_symbols : {A : Type 0} → (Symbols → List ItemTree → A) → Known → A
 by_symbols f r = f (symbols_at r) (map tree_at r.items.now)
 
--- the least pair of the rule on DATA statements, if it is broken
-abbrev pub IsBadData : Known → Option Broken → Type 0
-IsBadData r b = b ≡ least (by_symbols bad_data_pairs r)
+-- the pairs of the rule on DATA statements come behind those before
+abbrev pub AddsData : Known → List Broken → List Broken → Type 0
+AddsData r old new = new ≡ old ++ by_symbols bad_data_pairs r
 
 -- the pairs of a program unit with these lists
 abbrev pub units_of : List Member → Symbols → List ItemTree → List Broken

@@ -4,4 +4,3 @@ pub mod Further
 pub mod Texts
 pub mod Parts
 pub mod Adding
-pub mod InOrder

@@ -5,7 +5,6 @@ ghost use Rattle.meaning.specs.Statements.{entry_of};
 ghost use Rattle.meaning.specs.Trees.{item_tree};
 ghost use Rattle.all_breaches.specs.Further.{AreFurther};
 ghost use Rattle.all_breaches.specs.Ordered.{HaveSame};
-ghost use Rattle.all_breaches.specs.InOrder.{NestInOrder, ReadInOrder};
 ghost use Rattle.all_breaches.specs.Phases.{broken_pairs, pairs_from_order, pairs_from_texts};
 
 use crate::sorted::{in_order, without_first};
@@ -20,7 +19,6 @@ use std::alloc::{AllocError, Global};
 
 /// The pairs of N, or else those of K.
 fn order_pairs(alloc: Global, members: Vec<Item>) -> Result<Vec<Broken>, AllocError>
-    requires { NestInOrder (map item_tree members.items) }
     ensures { IfOk result (λ v. HaveSame v.items (pairs_from_order (map item_tree members.items))) }
 {
     match tree_or_pairs(alloc, members)? {
@@ -40,7 +38,6 @@ fn order_pairs(alloc: Global, members: Vec<Item>) -> Result<Vec<Broken>, AllocEr
 
 /// The pairs of G, or else those of the phases behind it.
 fn text_pairs(alloc: Global, found: &[Statement]) -> Result<Vec<Broken>, AllocError>
-    requires { ReadInOrder (map entry_of found.now) }
     ensures { IfOk result (λ v. HaveSame v.items (pairs_from_texts (map entry_of found.now))) }
 {
     let Texts { members, broken } = texts_in(alloc, found)?;
@@ -74,7 +71,7 @@ fn phase_pairs(alloc: Global, source: &[u8]) -> Result<Vec<Broken>, AllocError>
 /// rule is broken every other pair, in the order of their lines and at one line in that of the
 /// rules, none twice. C: every rule on lines; G: the rule of each statement that has no reading; N:
 /// END where it is missing, and the first statement out of order; K: each rule at each line that
-/// breaks it, but that on DATA statements at its first alone. None of a source that is accepted.
+/// breaks it. None of a source that is accepted.
 ///
 /// # Errors
 ///

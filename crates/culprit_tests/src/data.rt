@@ -104,8 +104,12 @@ fn tells_of_values(rt: HostRuntime) -> Result<(), Fail> {
             2,
             "2:13: A is given a value twice",
         ),
-        // where one before breaks the rule, nothing
-        ("      DATA I/K/\n      DATA J/K/\n      END\n", 2, ""),
+        // where one before breaks the rule, too
+        (
+            "      DATA I/K/\n      DATA J/K/\n      END\n",
+            2,
+            "2:14: K is no constant here",
+        ),
     ] {
         let is = told(alloc, source, Rule::K10, line)?;
         assert_eq!(rt; is.as_str(), want);

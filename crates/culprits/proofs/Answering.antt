@@ -5,6 +5,7 @@ use Rattle.std.specs.List.{filter, find, list_any}
 use Rattle.std.proofs.lemmas.List.Folds.{list_any-append}
 use Rattle.meaning.specs.declared.refusal.Rule.{Rule}
 use Rattle.meaning.specs.declared.refusal.Rule.TheVariants.{K1, K2, K3, K4, K5, K6, K7, K8, K9, K10, K11, K12, K13}
+use Rattle.meaning.specs.Initial.{has_bad_data}
 use Rattle.meaning.specs.LabelRules.{has_bad_output, has_label, is_label_at, is_repeated}
 use Rattle.meaning.specs.NameRules.{does_not_take, has_misuse, has_real_name, is_disputed, is_misused_array, is_misused_function, is_other_number, is_real, is_real_use, is_unknown_function, is_wrongly_typed, length_if, names_defined, names_used}
 use Rattle.meaning.specs.NumberRules.{has_bad_number, has_large_array}
@@ -29,8 +30,8 @@ use Rattle.number_culprits.specs.Numbers.{bad_in as numbered_part}
 use Rattle.number_culprits.specs.Witness.{IsBy as IsNumberBy}
 use Rattle.number_culprits.proofs.Telling.{numbers_told}
 use Rattle.data_culprits.specs.Sets.{bad_in as misgiven_part}
-use Rattle.data_culprits.specs.Witness.{IsBy as IsDataBy, is_first_bad}
-use Rattle.data_culprits.proofs.Telling.{data_told, first_breaks}
+use Rattle.data_culprits.specs.Witness.{IsBy as IsDataBy}
+use Rattle.data_culprits.proofs.Telling.{data_told}
 use Rattle.output_culprits.specs.Outputs.{bad_in as misformed_part}
 use Rattle.output_culprits.specs.Witness.{IsBy as IsOutputBy}
 use Rattle.output_culprits.proofs.Telling.{outputs_told}
@@ -307,8 +308,8 @@ item_told_breaks K7 all before x k is =
 item_told_breaks K4 all before x k is = name_found all before x (disputed_part (symbols_of all) before x) k (names_told (symbols_of all) before x) is
 item_told_breaks K8 all before x k is = misuse_breaks all before x (arrays_told all before x) k refl is
 item_told_breaks K10 all before x k is =
-    let w = part_told misgiven (IsDataBy (symbols_of all) before x) (is_first_bad (symbols_of all) before x) (misgiven_part (symbols_of all) before x) k (data_told (symbols_of all) before x) is in
-    record { broken = first_breaks (symbols_of all) before x w.0; by = subst (IsItemBy K10 all before x) w.1.1 w.1.2 }
+    let w = part_told misgiven (IsDataBy (symbols_of all) before x) (has_bad_data (symbols_of all) before x) (misgiven_part (symbols_of all) before x) k (data_told (symbols_of all) before x) is in
+    record { broken = w.0; by = subst (IsItemBy K10 all before x) w.1.1 w.1.2 }
 item_told_breaks K11 all before x k is =
     let w = part_told misformed (IsOutputBy (symbols_of all) all before x) (has_bad_output (symbols_of all) all before x) (misformed_part (symbols_of all) all before x) k (outputs_told (symbols_of all) all before x) is in
     record { broken = w.0; by = subst (IsItemBy K11 all before x) w.1.1 w.1.2 }
@@ -320,7 +321,6 @@ item_told_breaks rule all before x k is = absurd cc
 -- of a rule of which all is covered
 abbrev whole_rule : Rule → Type 0
 whole_rule K4 = ⊥
-whole_rule K10 = ⊥
 whole_rule K12 = ⊥
 whole_rule rule = Unit {0}
 
@@ -335,7 +335,8 @@ item_silent_keeps K7 whole all before x is =
     part_silent sized (IsSizeBy (symbols_of all) before x) (has_large_array (symbols_of all) before x) (sized_part (symbols_of all) before x) (sizes_told (symbols_of all) before x) is
 item_silent_keeps K4 whole all before x is = absurd whole
 item_silent_keeps K8 whole all before x is = misuse_kept all before x (arrays_told all before x) refl is
-item_silent_keeps K10 whole all before x is = absurd whole
+item_silent_keeps K10 whole all before x is =
+    part_silent misgiven (IsDataBy (symbols_of all) before x) (has_bad_data (symbols_of all) before x) (misgiven_part (symbols_of all) before x) (data_told (symbols_of all) before x) is
 item_silent_keeps K11 whole all before x is =
     part_silent misformed (IsOutputBy (symbols_of all) all before x) (has_bad_output (symbols_of all) all before x) (misformed_part (symbols_of all) all before x) (outputs_told (symbols_of all) all before x) is
 item_silent_keeps K12 whole all before x is = absurd whole
@@ -371,9 +372,6 @@ module _ (t : Nested) (front : List Seat) (z : Seat) where
   silent_keeps K4 is =
       let r = symbols_of (flatten t) in
       name_missing (flatten t) (items_in front) z.item (disputed_part r (items_in front) z.item) (names_told r (items_in front) z.item) (sym (or_none (item_culprit_in K4 (flatten t) (items_in front) z.item)) ∙ is)
-  silent_keeps K10 is =
-      let r = symbols_of (flatten t) in
-      part_silent misgiven (IsDataBy r (items_in front) z.item) (is_first_bad r (items_in front) z.item) (misgiven_part r (items_in front) z.item) (data_told r (items_in front) z.item) (sym (or_none (item_culprit_in K10 (flatten t) (items_in front) z.item)) ∙ is)
   silent_keeps K12 is =
       let r = symbols_of (flatten t) in
       function_missing (flatten t) (items_in front) z.item (misdefined_at r (items_in front) z.item) (definitions_told r (items_in front) z.item) (sym (or_none (item_culprit_in K12 (flatten t) (items_in front) z.item)) ∙ is)

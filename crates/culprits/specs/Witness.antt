@@ -21,7 +21,7 @@ use Rattle.culprits.specs.Counts.{arguments_of, capped, subscripts_of}
 use Rattle.culprits.specs.Culprits.{culprit_at, items_in, names_in}
 use Rattle.culprits.specs.Told.{Told, repeated, real, miscounted, mistyped, numbered, sized}
 use Rattle.culprits.specs.Told.{disputed, misgiven, misformed, defined, unknown, listed}
-use Rattle.data_culprits.specs.Witness.{IsBy as IsDataBy, is_first_bad}
+use Rattle.data_culprits.specs.Witness.{IsBy as IsDataBy}
 use Rattle.number_culprits.specs.Witness.{IsBy as IsNumberBy}
 use Rattle.output_culprits.specs.Witness.{IsBy as IsOutputBy}
 use Rattle.type_culprits.specs.Witness.{IsBy as IsTypeBy}
@@ -72,11 +72,10 @@ breaks K9 t before z = is_loop_broken t z
 breaks rule t before z = item_breaks rule (flatten t) before z.item
 
 -- what of a rule is covered is broken: of K4 all but letters, variables that are functions too, and
--- LOGICAL intrinsic functions, of K10 the first statement that breaks it, of K12 all but how deep
--- statement functions go and how large they become
+-- LOGICAL intrinsic functions, of K12 all but how deep statement functions go and how large they
+-- become
 abbrev pub breaks_covered : Rule → Nested → List ItemTree → Seat → Bool
 breaks_covered K4 t before z = breaks_in_part (symbols_of (flatten t)) before z.item
-breaks_covered K10 t before z = is_first_bad (symbols_of (flatten t)) before z.item
 breaks_covered K12 t before z = breaks_but_deep (symbols_of (flatten t)) before z.item
 breaks_covered rule t before z = breaks rule t before z
 

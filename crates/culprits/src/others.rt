@@ -39,7 +39,7 @@ pub fn type_culprit<'a>(
     }
 }
 
-/// K10: what breaks the rule on DATA statements, where those before keep it (chapter 9).
+/// K10: what breaks the rule on DATA statements (chapter 9).
 pub fn data_culprit<'a>(
     alloc: Global,
     symbols: &Symbols,

@@ -1,24 +1,22 @@
 -- One place, one trip, one item or one statement more.
-use Rattle.std.proofs.Common.{◌≡◌, ℕ, suc, ◌+◌, ◌-◌, ◌<◌, ◌≤◌, ℤ, Bool, true, false, ◌||◌, List, [], ◌∷◌, ◌++◌, append_assoc, length, get_or, drop, map, Option, Some, None, Result, Ok, Err, refl, sym, ap, ◌∙◌, arith}
+use Rattle.std.proofs.Common.{◌≡◌, ℕ, suc, ◌+◌, ◌-◌, ◌<◌, ◌≤◌, ℤ, Bool, true, false, ◌||◌, List, [], ◌∷◌, length, get_or, drop, map, Option, Some, None, Result, Ok, Err, refl, sym, ap, ◌∙◌, arith}
 use Rattle.std.specs.Prelude.{if◌then◌else◌, is_some, OnOk}
 use Rattle.std.specs.List.{range_with_len}
 use Rattle.std.specs.Result.{IfOk}
-use Rattle.std.proofs.lemmas.List.{append-nil, drop_all, drop_more}
+use Rattle.std.proofs.lemmas.List.{drop_all, drop_more}
 use Rattle.meaning.specs.declared.ending.Value.{Value}
 use Rattle.meaning.specs.declared.syntax.DataSet.{DataSet}
-use Rattle.meaning.specs.Initial.{and_also, is_counter, known_trips, sets_at, value_type, with_value}
-use Rattle.meaning.specs.NumberRules.{known_behind_all}
-use Rattle.meaning.specs.Syntax.{ItemTree, LimitsTree, ListItemTree, ListItemsTree, no_items, more_items, value_item, loop_item, data_set_tree}
+use Rattle.meaning.specs.Initial.{and_also, is_counter, known_trips, value_type, with_value}
+use Rattle.meaning.specs.Syntax.{LimitsTree, ListItemTree, ListItemsTree, no_items, more_items, value_item, loop_item, data_set_tree}
 use Rattle.meaning.specs.Types.{Types}
 use Rattle.meaning.specs.Typing.{clash}
 use Rattle.meaning.specs.Uses.{Symbols}
 use Rattle.meaning.specs.Values.{Known}
-use Rattle.data_rules.specs.DataSets.{fill_sets}
-use Rattle.data_rules.specs.DataStages.{Stage, first_of, give_places, give_value, with_given}
+use Rattle.data_rules.specs.DataStages.{Stage, first_of, give_places, give_value, stops, with_given}
 use Rattle.data_culprits.specs.Faults.{limits_fault}
 use Rattle.data_culprits.specs.Lists.{each_trip, in_trips, next_to, next_to_each, to_item, to_items, to_loop, value_to}
 use Rattle.data_culprits.specs.Outcomes.{Outcome, went, stopped, then_go, told_in}
-use Rattle.data_culprits.specs.Sets.{stage_from, to_set, to_sets}
+use Rattle.data_culprits.specs.Sets.{to_set, to_sets}
 use Rattle.data_culprits.specs.Told.{Told, no_counter, mistyped, unserved, given_again}
 
 pub same_outcome : {A B E : Type 0} (r : Result B E) (f : B → A) {x y : A} → y ≡ x → IfOk r (λ b. x ≡ f b) → IfOk r (λ b. y ≡ f b)
@@ -43,21 +41,21 @@ module _ (types : Types) (n : List ℕ) where
 
     pub to_other : (v : Value) → Some v ≡ first_of s.values → true ≡ clash (types n) (value_type v) → next_to types n i s ≡ stopped (mistyped n v)
     to_other v is differs =
-        ap (value_to types n i s) (sym is) ∙ ap (λ a. by_tests v a (is_some (s.given n i))) (sym differs)
+        ap (value_to types n i s) (sym is) ∙ ap (λ a. by_tests v a (stops s.way (is_some (s.given n i)))) (sym differs)
 
     -- what the rule's own machine gives
     abbrev given_by : Value → Bool → Bool → Option Stage
     given_by v a b = and_also (if a || b then None else Some (with_given n i v s)) (λ t. Some t)
 
-    giving : (v : Value) (o : Option Stage) → Some v ≡ first_of s.values → false ≡ clash (types n) (value_type v) → give_places types n (i ∷ []) s ≡ o → given_by v false (is_some (s.given n i)) ≡ o
+    giving : (v : Value) (o : Option Stage) → Some v ≡ first_of s.values → false ≡ clash (types n) (value_type v) → give_places types n (i ∷ []) s ≡ o → given_by v false (stops s.way (is_some (s.given n i))) ≡ o
     giving v o is same gives =
-        ap (λ a. given_by v a (is_some (s.given n i))) same
+        ap (λ a. given_by v a (stops s.way (is_some (s.given n i)))) same
         ∙ ap (λ p. and_also (give_value types n i s p) (λ t. Some t)) is ∙ gives
 
     pub to_given : (v : Value) (t : Stage) → Some v ≡ first_of s.values → false ≡ clash (types n) (value_type v) → give_places types n (i ∷ []) s ≡ Some t → next_to types n i s ≡ went t
     to_given v t is same gives =
-        ap (value_to types n i s) (sym is) ∙ ap (λ a. by_tests v a (is_some (s.given n i))) (sym same)
-        ∙ by_mark (is_some (s.given n i)) (giving v (Some t) is same gives)
+        ap (value_to types n i s) (sym is) ∙ ap (λ a. by_tests v a (stops s.way (is_some (s.given n i)))) (sym same)
+        ∙ by_mark (stops s.way (is_some (s.given n i))) (giving v (Some t) is same gives)
       where
         by_mark : (b : Bool) → given_by v false b ≡ Some t → by_tests v false b ≡ went t
         by_mark true e = absurd cc
@@ -65,8 +63,8 @@ module _ (types : Types) (n : List ℕ) where
 
     pub to_again : (v : Value) → Some v ≡ first_of s.values → false ≡ clash (types n) (value_type v) → give_places types n (i ∷ []) s ≡ None → next_to types n i s ≡ stopped (given_again n)
     to_again v is same gives =
-        ap (value_to types n i s) (sym is) ∙ ap (λ a. by_tests v a (is_some (s.given n i))) (sym same)
-        ∙ by_mark (is_some (s.given n i)) (giving v None is same gives)
+        ap (value_to types n i s) (sym is) ∙ ap (λ a. by_tests v a (stops s.way (is_some (s.given n i)))) (sym same)
+        ∙ by_mark (stops s.way (is_some (s.given n i))) (giving v None is same gives)
       where
         by_mark : (b : Bool) → given_by v false b ≡ None → by_tests v false b ≡ stopped (given_again n)
         by_mark true e = refl
@@ -143,33 +141,3 @@ module _ (r : Symbols) (known : Known) (sets : List DataSet) (i : ℕ) where
 
   pub sets_end : (s : Stage) (all : Outcome) → length sets ≤ i → rest i s ≡ all → None ≡ told_in all
   sets_end s all le so_far = ap told_in (sym (ap (λ xs. to_sets r known (map data_set_tree xs) s) (drop_all i sets le)) ∙ so_far)
-
--- ---- statements
-
-module _ (r : Symbols) where
-  and_assoc : {A B C : Type 0} (o : Option A) (f : A → Option B) (g : B → Option C) → and_also (and_also o f) g ≡ and_also o (λ x. and_also (f x) g)
-  and_assoc None f g = refl
-  and_assoc (Some x) f g = refl
-
-  abbrev filled_at : List ItemTree → ItemTree → Stage → Option Stage
-  filled_at before x s = fill_sets r (known_behind_all r before) (sets_at r before x) s
-
-  and_some : {A : Type 0} (o : Option A) → and_also o (λ x. Some x) ≡ o
-  and_some None = refl
-  and_some (Some x) = refl
-
-  module _ (before : List ItemTree) (y : ItemTree) (ys : List ItemTree) (x : ItemTree) where
-    by_first : ((t : Stage) → stage_from r (before ++ y ∷ []) (ys ++ x ∷ []) t ≡ and_also (stage_from r (before ++ y ∷ []) ys t) (filled_at ((before ++ y ∷ []) ++ ys) x)) → (o : Option Stage) → and_also o (stage_from r (before ++ y ∷ []) (ys ++ x ∷ [])) ≡ and_also o (λ t. and_also (stage_from r (before ++ y ∷ []) ys t) (filled_at (before ++ y ∷ ys) x))
-    by_first more None = refl
-    by_first more (Some t) =
-        more t ∙ ap (λ b. and_also (stage_from r (before ++ y ∷ []) ys t) (filled_at b x)) (append_assoc before (y ∷ []) ys)
-
-  stage_append : (before xs : List ItemTree) (x : ItemTree) (s : Stage) → stage_from r before (xs ++ x ∷ []) s ≡ and_also (stage_from r before xs s) (filled_at (before ++ xs) x)
-  stage_append before [] x s =
-      and_some (filled_at before x s) ∙ ap (λ b. filled_at b x s) (sym (append-nil before))
-  stage_append before (y ∷ ys) x s =
-      by_first before y ys x (λ t. stage_append (before ++ y ∷ []) ys x t) (filled_at before y s)
-      ∙ sym (and_assoc (filled_at before y s) (stage_from r (before ++ y ∷ []) ys) (filled_at (before ++ y ∷ ys) x))
-
-  pub stage_push : (before : List ItemTree) (x : ItemTree) (s : Stage) → stage_from r [] (before ++ x ∷ []) s ≡ and_also (stage_from r [] before s) (filled_at before x)
-  stage_push before x s = stage_append [] before x s

@@ -1,12 +1,11 @@
 -- What is told of DATA statements is a witness.
-use Rattle.std.proofs.Common.{◌≡◌, ℕ, ℤ, inl, inr, Bool, true, false, ◌&&◌, ◌||◌, List, [], ◌∷◌, ◌++◌, map, append_assoc, Option, Some, None, refl, sym, ap, ap₂, subst, ◌∙◌}
-use Rattle.std.specs.Prelude.{if◌then◌else◌, is_some, not, ◌⊎◌}
+use Rattle.std.proofs.Common.{◌≡◌, ℕ, ℤ, Bool, true, false, ◌||◌, List, [], ◌∷◌, map, Option, Some, None, refl, sym, ap, ap₂, ◌∙◌}
+use Rattle.std.specs.Prelude.{if◌then◌else◌, is_some}
 use Rattle.std.specs.List.{range_with_len}
-use Rattle.std.proofs.lemmas.List.{append-nil}
 use Rattle.finding.specs.Answers.{IsAnswer}
 use Rattle.meaning.specs.declared.ending.Value.{Value}
 use Rattle.meaning.specs.Arrays.{Dimension, size}
-use Rattle.meaning.specs.Initial.{Target, all_lists, and_also, element_target, has_bad_data, is_counter, known_subscripts, known_trips, paired, sets_at, targets_in, value_targets, value_type, whole_target, with_value}
+use Rattle.meaning.specs.Initial.{Target, all_lists, and_also, element_target, has_bad_data, is_counter, known_subscripts, known_trips, paired, sets_at, starts_from, targets_in, value_targets, value_type, whole_target, with_value}
 use Rattle.meaning.specs.NumberRules.{known_behind_all}
 use Rattle.meaning.specs.Syntax.{DataSetTree, ExprTree, name, element, ItemTree, LimitsTree, ListItemsTree, no_items, more_items, value_item, loop_item}
 use Rattle.meaning.specs.Types.{Types}
@@ -15,18 +14,18 @@ use Rattle.meaning.specs.Uses.{Symbols, is_other}
 use Rattle.meaning.specs.Values.{Known}
 use Rattle.data_rules.specs.DataPlaces.{place_known}
 use Rattle.data_rules.specs.DataRuns.{values_of}
-use Rattle.data_rules.specs.DataSets.{IsFilledBy, fill_list, fill_set, fill_sets, if_used_up, with_values}
-use Rattle.data_rules.specs.DataStages.{Stage, filled, first_of, give, give_places, give_value, is_empty_list, with_given}
+use Rattle.data_rules.specs.DataSets.{IsFilledBy, fill_list, fill_set, fill_sets, given_by, if_used_up, with_values}
+use Rattle.data_rules.specs.DataStages.{Stage, filled, first_of, give, give_places, give_value, is_empty_list, stops, with_given}
 use Rattle.data_rules.proofs.DataFilling.{by_subscripts, filled_both, filled_variable, filled_whole, trips_first}
-use Rattle.data_rules.proofs.DataPairing.{accept, set_filled}
-use Rattle.data_rules.proofs.DataStarting.{bad_data, filled_none, good_data}
+use Rattle.data_rules.proofs.DataPairing.{accept, set_filled, stage_in as stage_of_way}
+use Rattle.data_rules.proofs.DataStarting.{bad_data, filled_behind, good_data}
 use Rattle.data_culprits.specs.Faults.{limits_fault, subscripts_fault}
 use Rattle.data_culprits.specs.Lists.{each_trip, ended, in_trips, next_to, next_to_each, to_element, to_items, to_list, to_loop, to_name, to_place, to_value, value_to}
 use Rattle.data_culprits.specs.Outcomes.{Outcome, went, stopped, stage_in, then_go, told_in}
-use Rattle.data_culprits.specs.Sets.{bad_in, stage_from, stage_start, to_set, to_sets, told_behind, unless_bad}
+use Rattle.data_culprits.specs.Sets.{bad_in, stage_behind, to_set, to_sets, unless_bad}
 use Rattle.data_culprits.specs.Told.{Told, no_counter, mistyped, given_again, left_over}
 use Rattle.data_culprits.specs.Values.{values_fault}
-use Rattle.data_culprits.specs.Witness.{IsBy, any_bad, is_first_bad}
+use Rattle.data_culprits.specs.Witness.{IsBy}
 use Rattle.data_culprits.proofs.Valueless.{values_none}
 use Rattle.data_culprits.proofs.Witnessing.{sets_by}
 
@@ -43,7 +42,8 @@ and_some (Some x) = refl
 module _ (types : Types) (n : List ℕ) where
   value_stage : (i : ℕ) (s : Stage) (o : Option Value) → stage_in (value_to types n i s o) ≡ give_value types n i s o
   value_stage i s None = refl
-  value_stage i s (Some v) = by_tests (clash (types n) (value_type v)) (is_some (s.given n i))
+  value_stage i s (Some v) =
+      by_tests (clash (types n) (value_type v)) (stops s.way (is_some (s.given n i)))
     where
       by_tests : (a b : Bool) → stage_in (if a then stopped (mistyped n v) else (if b then stopped (given_again n) else went (with_given n i v s))) ≡ (if a || b then None else Some (with_given n i v s))
       by_tests true b = refl
@@ -131,11 +131,11 @@ module _ (r : Symbols) where
         by_fault : (o : Option Told) → values_fault known x.values ≡ o → stage_in (unless_bad o (to_list r known x.list (with_values (values_of known x.values) s))) ≡ fill_set r known x s
         by_fault None at = list_stage r known x.list (with_values (values_of known x.values) s)
         by_fault (Some k) at =
-            sym (set_filled r known x s.given
-            ∙ ap (λ o. and_also (and_also (targets_in r x.list known) (λ ts. and_also o (λ vs. paired r ts vs))) (λ ss. accept r.names ss s.given)) (values_none known x.values k at)
+            sym (set_filled r known x s.way s.given
+            ∙ ap (λ o. and_also (and_also (targets_in r x.list known) (λ ts. and_also o (λ vs. paired r ts vs))) (λ ss. accept r.names ss s.way s.given)) (values_none known x.values k at)
             ∙ none_behind (targets_in r x.list known))
           where
-            none_behind : (o : Option (List Target)) → and_also (and_also o (λ ts. None)) (λ ss. accept r.names ss s.given) ≡ None
+            none_behind : (o : Option (List Target)) → and_also (and_also o (λ ts. None)) (λ ss. accept r.names ss s.way s.given) ≡ None
             none_behind None = refl
             none_behind (Some ts) = refl
 
@@ -145,61 +145,23 @@ module _ (r : Symbols) where
         then_stage (to_set r known x s) (to_sets r known xs) (fill_sets r known xs) (λ t. sets_stage xs t)
         ∙ ap (λ o. and_also o (fill_sets r known xs)) (set_stage x s)
 
-  -- statements of which one breaks the rule, or which give what they give
-  abbrev HaveBad : List ItemTree → List ItemTree → Stage → Type 0
-  HaveBad before xs s = (any_bad r before xs ≡ true) × (stage_from r before xs s ≡ None)
+  -- what was given is kept so
+  pub behind_filled : (before : List ItemTree) (s : Stage) → IsFilledBy r before s → s ≡ stage_behind r before
+  behind_filled before s h =
+      ap (λ g. stage_of_way s.way g s.values) h.given
+      ∙ ap₂ (λ w os. stage_of_way w (given_by r.names (starts_from r [] before)) os) h.way h.values
 
-  abbrev HaveGiven : List ItemTree → List ItemTree → Stage → Type 0
-  HaveGiven before xs s = (any_bad r before xs ≡ false) × ((t : Stage) × (stage_from r before xs s ≡ Some t) × IsFilledBy r (before ++ xs) t)
-
-  module _ (before : List ItemTree) (x : ItemTree) (xs : List ItemTree) (s : Stage) where
-    abbrev go : Option Stage → Option Stage
-    go o = and_also o (stage_from r (before ++ x ∷ []) xs)
-
-    abbrev or_rest : Bool → Bool
-    or_rest b = b || any_bad r (before ++ x ∷ []) xs
-
-    behind : (t : Stage) → fill_sets r (known_behind_all r before) (sets_at r before x) s ≡ Some t → has_bad_data r before x ≡ false → HaveBad (before ++ x ∷ []) xs t ⊎ HaveGiven (before ++ x ∷ []) xs t → HaveBad before (x ∷ xs) s ⊎ HaveGiven before (x ∷ xs) s
-    behind t at good (inl (bad, none)) = inl (ap or_rest good ∙ bad, ap go at ∙ none)
-    behind t at good (inr (kept, (u, some, given))) =
-        inr (ap or_rest good ∙ kept, (u, ap go at ∙ some, subst (λ b. IsFilledBy r b u) (append_assoc before (x ∷ []) xs) given))
-
-    by_fill : IsFilledBy r before s → ((t : Stage) → IsFilledBy r (before ++ x ∷ []) t → HaveBad (before ++ x ∷ []) xs t ⊎ HaveGiven (before ++ x ∷ []) xs t) → (o : Option Stage) → fill_sets r (known_behind_all r before) (sets_at r before x) s ≡ o → HaveBad before (x ∷ xs) s ⊎ HaveGiven before (x ∷ xs) s
-    by_fill h more None at = inl (ap or_rest (bad_data r before x s h (sym at)), ap go at)
-    by_fill h more (Some t) at =
-        let good = good_data r before x s h t (sym at) in
-        behind t at good.0 (more t good.1)
-
-  passed : (before xs : List ItemTree) (s : Stage) → IsFilledBy r before s → HaveBad before xs s ⊎ HaveGiven before xs s
-  passed before [] s h = inr (refl, (s, refl, subst (λ b. IsFilledBy r b s) (sym (append-nil before)) h))
-  passed before (x ∷ xs) s h =
-      by_fill before x xs s h (λ t given. passed (before ++ x ∷ []) xs t given) (fill_sets r (known_behind_all r before) (sets_at r before x) s) refl
-
-pub data_told : (r : Symbols) (before : List ItemTree) (x : ItemTree) → IsAnswer (IsBy r before x) (is_first_bad r before x) (bad_in r before x)
-data_told r before x = by_passed (passed r [] before stage_start (filled_none r))
+pub data_told : (r : Symbols) (before : List ItemTree) (x : ItemTree) → IsAnswer (IsBy r before x) (has_bad_data r before x) (bad_in r before x)
+data_told r before x = by_outcome (here (stage_behind r before)) refl
   where
-    first : Bool → Bool
-    first b = not b && has_bad_data r before x
-
     here : Stage → Outcome
     here t = to_sets r (known_behind_all r before) (sets_at r before x) t
 
-    by_outcome : (t : Stage) → IsFilledBy r before t → any_bad r [] before ≡ false → (o : Outcome) → here t ≡ o → IsAnswer (IsBy r before x) (is_first_bad r before x) (told_in o)
-    by_outcome t given kept (went u) at =
-        ap first kept ∙ (good_data r before x t given u (sym (sym (sets_stage r (known_behind_all r before) (sets_at r before x) t) ∙ ap stage_in at))).0
-    by_outcome t given kept (stopped k) at =
-        (ap first kept ∙ bad_data r before x t given (sym (sym (sets_stage r (known_behind_all r before) (sets_at r before x) t) ∙ ap stage_in at)), sets_by r (known_behind_all r before) (sets_at r before x) t k at)
+    filled_there : IsFilledBy r before (stage_behind r before)
+    filled_there = filled_behind r before
 
-    by_passed : HaveBad r [] before stage_start ⊎ HaveGiven r [] before stage_start → IsAnswer (IsBy r before x) (is_first_bad r before x) (bad_in r before x)
-    by_passed (inl (bad, none)) =
-        subst (λ o. IsAnswer (IsBy r before x) (is_first_bad r before x) (told_behind r before x o)) (sym none) (ap first bad)
-    by_passed (inr (kept, (t, some, given))) =
-        subst (λ o. IsAnswer (IsBy r before x) (is_first_bad r before x) (told_behind r before x o)) (sym some) (by_outcome t given kept (here t) refl)
-
--- the first that breaks the rule breaks it
-pub first_breaks : (r : Symbols) (before : List ItemTree) (x : ItemTree) → is_first_bad r before x ≡ true → has_bad_data r before x ≡ true
-first_breaks r before x is = by_tests (any_bad r [] before) (has_bad_data r before x) is
-  where
-    by_tests : (a b : Bool) → (not a && b) ≡ true → b ≡ true
-    by_tests true b is = absurd cc
-    by_tests false b is = is
+    by_outcome : (o : Outcome) → here (stage_behind r before) ≡ o → IsAnswer (IsBy r before x) (has_bad_data r before x) (told_in o)
+    by_outcome (went u) at =
+        (good_data r before x (stage_behind r before) filled_there u (sym (sym (sets_stage r (known_behind_all r before) (sets_at r before x) (stage_behind r before)) ∙ ap stage_in at))).0
+    by_outcome (stopped k) at =
+        (bad_data r before x (stage_behind r before) filled_there (sym (sym (sets_stage r (known_behind_all r before) (sets_at r before x) (stage_behind r before)) ∙ ap stage_in at)), sets_by r (known_behind_all r before) (sets_at r before x) (stage_behind r before) k at)

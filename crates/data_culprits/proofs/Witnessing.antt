@@ -14,7 +14,7 @@ use Rattle.meaning.specs.Values.{Known}
 use Rattle.data_rules.specs.DataPlaces.{place_known}
 use Rattle.data_rules.specs.DataRuns.{values_of}
 use Rattle.data_rules.specs.DataSets.{with_values}
-use Rattle.data_rules.specs.DataStages.{Stage, first_of, is_empty_list, with_given}
+use Rattle.data_rules.specs.DataStages.{Stage, first_of, is_empty_list, stops, with_given}
 use Rattle.data_culprits.specs.Faults.{limits_fault, subscripts_fault}
 use Rattle.data_culprits.specs.Lists.{each_trip, ended, in_trips, next_to, next_to_each, to_element, to_items, to_list, to_loop, to_name, to_place, to_value, value_to}
 use Rattle.data_culprits.specs.Outcomes.{Outcome, went, stopped, then_go}
@@ -41,7 +41,8 @@ module _ (P : Told → Type 0) where
 module _ (types : Types) (n : List ℕ) where
   value_by : (i : ℕ) (s : Stage) (o : Option Value) (k : Told) → value_to types n i s o ≡ stopped k → IsNextBy types n k
   value_by i s None k is = subst (IsNextBy types n) (same_told (unserved n) k is) refl
-  value_by i s (Some v) k is = by_tests (clash (types n) (value_type v)) (is_some (s.given n i)) refl is
+  value_by i s (Some v) k is =
+      by_tests (clash (types n) (value_type v)) (stops s.way (is_some (s.given n i))) refl is
     where
       by_tests : (a b : Bool) → clash (types n) (value_type v) ≡ a → (if a then stopped (mistyped n v) else (if b then stopped (given_again n) else went (with_given n i v s))) ≡ stopped k → IsNextBy types n k
       by_tests true b differs is = subst (IsNextBy types n) (same_told (mistyped n v) k is) (refl, differs)

@@ -1,4 +1,4 @@
--- What DATA statements give or tell by what is known where they stand.
+-- What is told of DATA statements by what is known where they stand.
 use Rattle.std.specs.Prelude.{ℕ, List, Option}
 use Rattle.meaning.specs.Initial.{sets_by, sets_of}
 use Rattle.meaning.specs.Syntax.{DataSetTree, ShapeTree}
@@ -6,7 +6,7 @@ use Rattle.symbols.specs.SymbolsAt.{symbols_at}
 use Rattle.declarations.specs.declared.known.Table.{Table}
 use Rattle.declarations.specs.Tables.{known_at}
 use Rattle.data_rules.specs.declared.filling.Filling.{Filling}
-use Rattle.data_rules.specs.DataSets.{fill_sets, stage_by}
+use Rattle.data_rules.specs.DataSets.{stage_by}
 use Rattle.data_rules.specs.DataStages.{Stage}
 use Rattle.data_culprits.specs.declared.statements.SetsOutcome.{SetsOutcome}
 use Rattle.data_culprits.specs.declared.statements.SetsOutcome.TheVariants as outcomes
@@ -23,10 +23,6 @@ outcome_at (outcomes.Stopped c) = stopped (told_at c)
 abbrev pub counted_by : Table → List (List ℕ) → ShapeTree → List DataSetTree
 counted_by t sizeless shape =
     sets_by (symbols_at t.symbols.now) (known_at t) sizeless (sets_of shape)
-
-abbrev pub fill_counted : Table → List (List ℕ) → ShapeTree → Stage → Option Stage
-fill_counted t sizeless shape =
-    fill_sets (symbols_at t.symbols.now) (known_at t) (counted_by t sizeless shape)
 
 abbrev pub tell_counted : Table → List (List ℕ) → ShapeTree → Stage → Option Told
 tell_counted t sizeless shape s =

@@ -14,7 +14,7 @@ use Rattle.meaning.specs.Uses.{Symbols, is_other}
 use Rattle.meaning.specs.Values.{Known}
 use Rattle.type_culprits.specs.Words.{word_in}
 use Rattle.data_rules.specs.DataPlaces.{place_known}
-use Rattle.data_rules.specs.DataStages.{Stage, first_of, is_empty_list, with_given}
+use Rattle.data_rules.specs.DataStages.{Stage, first_of, is_empty_list, stops, with_given}
 use Rattle.data_rules.specs.DataSets.{with_values}
 use Rattle.data_culprits.specs.Faults.{limits_fault, subscripts_fault}
 use Rattle.data_culprits.specs.Outcomes.{Outcome, went, stopped, then_go}
@@ -26,7 +26,8 @@ abbrev pub value_to : Types → List ℕ → ℕ → Stage → Option Value → 
 value_to types n i s None = stopped (unserved n)
 value_to types n i s (Some v) =
     if clash (types n) (value_type v) then stopped (mistyped n v)
-    else (if is_some (s.given n i) then stopped (given_again n) else went (with_given n i v s))
+    else (if stops s.way (is_some (s.given n i)) then stopped (given_again n)
+    else went (with_given n i v s))
 
 abbrev pub next_to : Types → List ℕ → ℕ → Stage → Outcome
 next_to types n i s = value_to types n i s (first_of s.values)

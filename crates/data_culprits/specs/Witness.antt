@@ -1,6 +1,5 @@
 -- What is told is a witness: by it a DATA statement breaks the rule on them behind others.
-use Rattle.std.specs.Prelude.{◌≡◌, ℕ, ◌&&◌, ◌||◌, Bool, false, not, List, [], ◌∷◌, ◌++◌, Option}
-use Rattle.std.specs.Prelude.{Some, None, IsTrue, ◌⊎◌}
+use Rattle.std.specs.Prelude.{◌≡◌, ℕ, false, List, [], ◌∷◌, Some, None, IsTrue, ◌⊎◌}
 use Rattle.meaning.specs.Arrays.{Dimension}
 use Rattle.meaning.specs.Initial.{has_bad_data, is_counter, known_trips, repeated, sets_at}
 use Rattle.meaning.specs.Initial.{value_targets, value_type}
@@ -20,17 +19,6 @@ use Rattle.data_culprits.specs.Sets.{bad_in}
 use Rattle.data_culprits.specs.Told.{Told, no_item, no_counter, mistyped, unserved, given_again}
 use Rattle.data_culprits.specs.Told.{left_over}
 use Rattle.data_culprits.specs.Values.{value_fault}
-
--- ---- the first statement that breaks the rule
-
--- one of these statements breaks the rule behind those before
-abbrev pub any_bad : Symbols → List ItemTree → List ItemTree → Bool
-any_bad r before [] = false
-any_bad r before (x ∷ xs) = has_bad_data r before x || any_bad r (before ++ x ∷ []) xs
-
--- it is the first one that breaks it
-abbrev pub is_first_bad : Symbols → List ItemTree → ItemTree → Bool
-is_first_bad r before x = not (any_bad r [] before) && has_bad_data r before x
 
 -- ---- by what it is broken
 
@@ -93,4 +81,4 @@ IsBy r before x k = IsSetsBy r (known_behind_all r before) (sets_at r before x) 
 abbrev pub TellsWitnesses : Type 0
 TellsWitnesses =
     (r : Symbols) (before : List ItemTree) (x : ItemTree) →
-    IsAnswer (IsBy r before x) (is_first_bad r before x) (bad_in r before x)
+    IsAnswer (IsBy r before x) (has_bad_data r before x) (bad_in r before x)

@@ -2,8 +2,8 @@
 
 ghost use Rattle.data_culprits.specs.Witness.{TellsWitnesses};
 
-/// By what is told of K10 a statement breaks that rule behind others, which keep it; where nothing
-/// is told, it or one of the others does so.
+/// By what is told of K10 a statement breaks that rule behind others, whether or not these keep it;
+/// where nothing is told, it keeps it.
 pub fn tells_data_witnesses()
     ensures { TellsWitnesses }
 {}

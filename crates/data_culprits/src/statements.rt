@@ -1,7 +1,6 @@
 //! DATA statements that break the rule on them (ANSI X3.9-1978, chapter 9).
 
-ghost use Rattle.std.specs.Prelude.{◌≡◌, map, option_map, IfOk};
-ghost use Rattle.meaning.specs.Initial.{and_also};
+ghost use Rattle.std.specs.Prelude.{◌≡◌, map, IfOk};
 ghost use Rattle.meaning.specs.Syntax.{data_set_tree, data_value_tree, list_items_tree, shape_tree};
 ghost use Rattle.meaning.specs.Trees.{item_tree};
 ghost use Rattle.symbols.specs.Listed.{trees_at};
@@ -11,7 +10,7 @@ ghost use Rattle.declarations.specs.Tables.{known_at};
 ghost use Rattle.data_rules.specs.DataRuns.{values_of};
 ghost use Rattle.data_rules.specs.DataSets.{stage_by, with_values};
 ghost use Rattle.data_rules.specs.Lacking.{names_kept};
-ghost use Rattle.data_culprits.specs.Behind.{fill_counted, outcome_at, tell_counted};
+ghost use Rattle.data_culprits.specs.Behind.{outcome_at, tell_counted};
 ghost use Rattle.data_culprits.specs.Lists.{to_list};
 ghost use Rattle.data_culprits.specs.Outcomes.{told_in};
 ghost use Rattle.data_culprits.specs.Sets.{bad_in, to_set, to_sets};
@@ -20,13 +19,13 @@ ghost use Rattle.data_culprits.specs.Told.{tell};
 use crate::culprit::DataCulprit;
 use crate::lists::bad_list;
 use crate::values::bad_values;
-use data_rules::{Filling, Giving, Known, add_sizeless, counted_sets, give_sets, values_in};
-use declarations::{Table, declared_in, pass_constants, scope_of, table_of};
+use data_rules::{Filling, Giving, Known, Way, counted_sets, pass_names, pass_one_more, values_in};
+use declarations::{Table, declared_in, scope_of, table_of};
 use expressions::Dimensions;
 use indexmap::IndexMap;
 use meaning::syntax::{DataSet, Item};
 use std::alloc::{AllocError, Global};
-use symbols::{Symbols, declarators_in};
+use symbols::Symbols;
 
 /// What comes of sets: what was given, or what is told.
 #[derive(Drop)]
@@ -147,31 +146,6 @@ fn bad_statement<'a: 'b, 'b>(
     bad_sets(filling, alloc, table, arrays, sets)
 }
 
-/// What was given behind a statement, too; nothing where one of them breaks the rule.
-fn given_with<'a>(
-    given: Option<Filling>,
-    alloc: Global,
-    table: &'a Table<'a>,
-    sizeless: &[&[u8]],
-    arrays: &IndexMap<Vec<u8>, Dimensions>,
-    item: &'a Item,
-) -> Result<Option<Filling>, AllocError>
-    requires { AreArrays (symbols_at table.now.symbols.now) arrays.now }
-    ensures { IfOk
-        result (λ f. option_map stage_by f
-        ≡ and_also (option_map stage_by given)
-        (fill_counted table.now (names_kept sizeless.now) (item_tree item.now).shape)) }
-{
-    match given {
-        None => Ok(None),
-        Some(filling) => {
-            let known = Known { table, sizeless };
-            let sets = counted_sets(&known, &*item.form.shape);
-            give_sets(filling, alloc, table, arrays, sets)
-        }
-    }
-}
-
 /// What is told of a statement behind others, by the arrays of a program unit.
 fn bad_behind<'a>(
     alloc: Global,
@@ -187,21 +161,17 @@ fn bad_behind<'a>(
 {
     let mut table = table_of(alloc, &*symbols);
     let mut sizeless = Vec::new(alloc);
-    let mut given = Some(Filling {
-        given: IndexMap::new(alloc),
-    });
+    let mut filling = Filling::new(alloc, Way::Once);
     for &earlier in before {
-        given = given_with(given, alloc, &table, &sizeless, arrays, earlier)?;
-        add_sizeless(&mut sizeless, &table, declarators_in(&*earlier.form.shape))?;
-        pass_constants(&mut table, alloc, earlier)?;
+        let one_more = pass_one_more(filling, alloc, &table, &sizeless, arrays, earlier)?;
+        filling = one_more.filling;
+        pass_names(&mut table, &mut sizeless, alloc, earlier)?;
     }
-    match given {
-        None => Ok(None),
-        Some(filling) => bad_statement(filling, alloc, &table, &sizeless, arrays, item),
-    }
+    bad_statement(filling, alloc, &table, &sizeless, arrays, item)
 }
 
-/// K10: what breaks the rule on DATA statements at a statement behind others, which keep it.
+/// K10: what breaks the rule on DATA statements at a statement behind others, whether or not these
+/// keep it.
 ///
 /// # Errors
 ///

@@ -15,7 +15,9 @@ use Rattle.meaning.specs.Initial.{Start, Target, all_lists, and_also, both_lists
 use Rattle.expressions.proofs.Ordered.{AreNumbered, elements-numbered}
 use Rattle.data_rules.specs.DataRuns.{or_one_none, values_of}
 use Rattle.data_rules.specs.DataSets.{HasPlace, fill_set, fill_sets, if_used_up, place_at, place_of}
-use Rattle.data_rules.specs.DataStages.{Found, Stage, filled, give, give_all, with_found, with_given}
+use Rattle.data_rules.specs.declared.filling.Way.{Way}
+use Rattle.data_rules.specs.declared.filling.Way.TheVariants as ways
+use Rattle.data_rules.specs.DataStages.{Found, Stage, filled, found_by, give, give_all, stops, way_behind, with_given}
 
 -- ---- a fact of each of a list
 
@@ -28,7 +30,7 @@ module _ {X : Type 0} (P : X → Type 0) where
   IfEach None = Unit {0}
   IfEach (Some xs) = Each xs
 
-  each_append : (xs ys : List X) → Each xs → Each ys → Each (xs ++ ys)
+  pub each_append : (xs ys : List X) → Each xs → Each ys → Each (xs ++ ys)
   each_append [] ys h k = k
   each_append (x ∷ xs) ys h k = (h.0, each_append xs ys h.1 k)
 
@@ -130,59 +132,66 @@ mirror known (x ∷ xs) = both_mirror (repeated known x) (all_lists (map (repeat
 
 -- ---- one value after another
 
+abbrev pub stage_in : Way → Found → List (Option Value) → Stage
+stage_in w g os = record { given = g; values = os; way = w }
+
 abbrev pub stage : Found → List (Option Value) → Stage
-stage g os = record { given = g; values = os }
+stage g os = stage_in ways.Once g os
 
 -- starts that are given one after another
-abbrev pub accept : Names → List Start → Found → Option Stage
-accept ns [] g = Some (stage g [])
-accept ns (s ∷ ss) g =
-    if is_some (g s.target.name (place_of ns s)) then None
-    else accept ns ss (with_found s.target.name (place_of ns s) s.value g)
+abbrev pub accept : Names → List Start → Way → Found → Option Stage
+accept ns [] w g = Some (stage_in w g [])
+accept ns (s ∷ ss) w g =
+    if stops w (is_some (g s.target.name (place_of ns s))) then None
+    else accept ns ss (way_behind w (is_some (g s.target.name (place_of ns s)))) (found_by w s.target.name (place_of ns s) s.value g)
 
 module _ (ns : Names) where
-  none_left : (ts : List Target) (g : Found) (os : List (Option Value)) → list_any is_none os ≡ true → and_also (give_all ns ts (stage g os)) if_used_up ≡ None
-  none_left [] g [] h = absurd cc
-  none_left [] g (o ∷ os) h = refl
-  none_left (t ∷ ts) g [] h = absurd cc
-  none_left (t ∷ ts) g (None ∷ os) h = by_place (place_at ns t)
+  none_left : (ts : List Target) (w : Way) (g : Found) (os : List (Option Value)) → list_any is_none os ≡ true → and_also (give_all ns ts (stage_in w g os)) if_used_up ≡ None
+  none_left [] w g [] h = absurd cc
+  none_left [] w g (o ∷ os) h = refl
+  none_left (t ∷ ts) w g [] h = absurd cc
+  none_left (t ∷ ts) w g (None ∷ os) h = by_place (place_at ns t)
     where
-      by_place : (o : Option ℕ) → and_also (and_also (and_also o (λ i. give ns.types t.name i (stage g (None ∷ os)))) (give_all ns ts)) if_used_up ≡ None
+      by_place : (o : Option ℕ) → and_also (and_also (and_also o (λ i. give ns.types t.name i (stage_in w g (None ∷ os)))) (give_all ns ts)) if_used_up ≡ None
       by_place None = refl
       by_place (Some i) = refl
-  none_left (t ∷ ts) g (Some v ∷ os) h =
-      by_place (λ i. none_left ts (with_found t.name i v g) os h) (place_at ns t)
+  none_left (t ∷ ts) w g (Some v ∷ os) h =
+      by_place (λ i. none_left ts (way_behind w (is_some (g t.name i))) (found_by w t.name i v g) os h) (place_at ns t)
     where
-      by_test : (i : ℕ) → and_also (give_all ns ts (with_given t.name i v (stage g (Some v ∷ os)))) if_used_up ≡ None → (b : Bool) → and_also (and_also (if b then None else Some (with_given t.name i v (stage g (Some v ∷ os)))) (give_all ns ts)) if_used_up ≡ None
+      by_test : (i : ℕ) → and_also (give_all ns ts (with_given t.name i v (stage_in w g (Some v ∷ os)))) if_used_up ≡ None → (b : Bool) → and_also (and_also (if b then None else Some (with_given t.name i v (stage_in w g (Some v ∷ os)))) (give_all ns ts)) if_used_up ≡ None
       by_test i rest true = refl
       by_test i rest false = rest
 
-      by_place : ((i : ℕ) → and_also (give_all ns ts (with_given t.name i v (stage g (Some v ∷ os)))) if_used_up ≡ None) → (o : Option ℕ) → and_also (and_also (and_also o (λ i. give ns.types t.name i (stage g (Some v ∷ os)))) (give_all ns ts)) if_used_up ≡ None
+      by_place : ((i : ℕ) → and_also (give_all ns ts (with_given t.name i v (stage_in w g (Some v ∷ os)))) if_used_up ≡ None) → (o : Option ℕ) → and_also (and_also (and_also o (λ i. give ns.types t.name i (stage_in w g (Some v ∷ os)))) (give_all ns ts)) if_used_up ≡ None
       by_place rest None = refl
-      by_place rest (Some i) = by_test i (rest i) (clash (ns.types t.name) (value_type v) || is_some (g t.name i))
+      by_place rest (Some i) =
+          by_test i (rest i) (clash (ns.types t.name) (value_type v) || stops w (is_some (g t.name i)))
 
 -- one target and its value, before others
-module _ (r : Symbols) (t : Target) (v : Value) (ts : List Target) (vs : List Value) (g : Found) where
+module _ (r : Symbols) (t : Target) (v : Value) (ts : List Target) (vs : List Value) (w : Way) (g : Found) where
   abbrev first : Start
   first = record { target = t; value = v }
 
   abbrev at_first : ℕ
   at_first = unwrap_or (place_at r.names t) 0
 
+  abbrev has_one : Bool
+  has_one = is_some (g t.name at_first)
+
   abbrev front : Stage
-  front = stage g (Some v ∷ map Some vs)
+  front = stage_in w g (Some v ∷ map Some vs)
 
   abbrev fill_rest : Option Stage → Option Stage
   fill_rest o = and_also (and_also o (give_all r.names ts)) if_used_up
 
   abbrev accept_rest : List Start → Option Stage
-  accept_rest ss = accept r.names ss (with_found t.name at_first v g)
+  accept_rest ss = accept r.names ss (way_behind w has_one) (found_by w t.name at_first v g)
 
   abbrev if_first : Bool → Option (List Start) → Option Stage
   if_first b None = None
   if_first b (Some ss) = if b then None else accept_rest ss
 
-  accept_first : (o : Option (List Start)) → and_also (both_lists (Some (first ∷ [])) o) (λ ss. accept r.names ss g) ≡ if_first (is_some (g t.name at_first)) o
+  accept_first : (o : Option (List Start)) → and_also (both_lists (Some (first ∷ [])) o) (λ ss. accept r.names ss w g) ≡ if_first (stops w has_one) o
   accept_first None = refl
   accept_first (Some ss) = refl
 
@@ -192,65 +201,71 @@ module _ (r : Symbols) (t : Target) (v : Value) (ts : List Target) (vs : List Va
   by_mark false None rest = rest
   by_mark false (Some ss) rest = rest
 
-  by_clash : (a : Bool) → fill_rest (Some (with_given t.name at_first v front)) ≡ and_also (paired r ts vs) accept_rest → fill_rest (if a || is_some (g t.name at_first) then None else Some (with_given t.name at_first v front)) ≡ and_also (if a then None else both_lists (Some (first ∷ [])) (paired r ts vs)) (λ ss. accept r.names ss g)
+  by_clash : (a : Bool) → fill_rest (Some (with_given t.name at_first v front)) ≡ and_also (paired r ts vs) accept_rest → fill_rest (if a || stops w has_one then None else Some (with_given t.name at_first v front)) ≡ and_also (if a then None else both_lists (Some (first ∷ [])) (paired r ts vs)) (λ ss. accept r.names ss w g)
   by_clash true rest = refl
-  by_clash false rest = by_mark (is_some (g t.name at_first)) (paired r ts vs) rest ∙ sym (accept_first (paired r ts vs))
+  by_clash false rest =
+      by_mark (stops w has_one) (paired r ts vs) rest ∙ sym (accept_first (paired r ts vs))
 
-  pub pair_more : HasPlace r.names t → fill_rest (Some (with_given t.name at_first v front)) ≡ and_also (paired r ts vs) accept_rest → fill_rest (and_also (place_at r.names t) (λ i. give r.names.types t.name i front)) ≡ and_also (paired r (t ∷ ts) (v ∷ vs)) (λ ss. accept r.names ss g)
+  pub pair_more : HasPlace r.names t → fill_rest (Some (with_given t.name at_first v front)) ≡ and_also (paired r ts vs) accept_rest → fill_rest (and_also (place_at r.names t) (λ i. give r.names.types t.name i front)) ≡ and_also (paired r (t ∷ ts) (v ∷ vs)) (λ ss. accept r.names ss w g)
   pair_more at rest =
       ap (λ o. fill_rest (and_also o (λ i. give r.names.types t.name i front))) (at.1 ∙ ap Some (sym (ap (λ o. unwrap_or o 0) at.1)))
       ∙ by_clash (clash (r.names.types t.name) (value_type v)) rest
 
 module _ (r : Symbols) where
-  pub paired_given : (ts : List Target) (vs : List Value) (g : Found) → Each (HasPlace r.names) ts → and_also (give_all r.names ts (stage g (map Some vs))) if_used_up ≡ and_also (paired r ts vs) (λ ss. accept r.names ss g)
-  paired_given [] [] g h = refl
-  paired_given [] (v ∷ vs) g h = refl
-  paired_given (t ∷ ts) [] g h =
-      ap (λ o. and_also (and_also (and_also o (λ i. give r.names.types t.name i (stage g []))) (give_all r.names ts)) if_used_up) h.0.1
-  paired_given (t ∷ ts) (v ∷ vs) g h =
-      pair_more r t v ts vs g h.0
-      (paired_given ts vs (with_found t.name (unwrap_or (place_at r.names t) 0) v g) h.1)
+  pub paired_given : (ts : List Target) (vs : List Value) (w : Way) (g : Found) → Each (HasPlace r.names) ts → and_also (give_all r.names ts (stage_in w g (map Some vs))) if_used_up ≡ and_also (paired r ts vs) (λ ss. accept r.names ss w g)
+  paired_given [] [] w g h = refl
+  paired_given [] (v ∷ vs) w g h = refl
+  paired_given (t ∷ ts) [] w g h =
+      ap (λ o. and_also (and_also (and_also o (λ i. give r.names.types t.name i (stage_in w g []))) (give_all r.names ts)) if_used_up) h.0.1
+  paired_given (t ∷ ts) (v ∷ vs) w g h =
+      let i = unwrap_or (place_at r.names t) 0 in
+      pair_more r t v ts vs w g h.0
+      (paired_given ts vs (way_behind w (is_some (g t.name i))) (found_by w t.name i v g) h.1)
 
   -- ---- sets
 
-  pub set_filled : (known : Known) (x : DataSetTree) (g : Found) → fill_set r known x (stage g []) ≡ and_also (set_starts r known x) (λ ss. accept r.names ss g)
-  set_filled known x g =
+  pub set_filled : (known : Known) (x : DataSetTree) (w : Way) (g : Found) → fill_set r known x (stage_in w g []) ≡ and_also (set_starts r known x) (λ ss. accept r.names ss w g)
+  set_filled known x w g =
       by_targets (targets_in r x.list known) (items_places r x.list known) (data_values known x.values) (values_of known x.values) (mirror known x.values)
     where
-      by_targets : (o : Option (List Target)) → IfEach (HasPlace r.names) o → (p : Option (List Value)) (os : List (Option Value)) → Mirrors p os → and_also (filled r.names o (stage g os)) if_used_up ≡ and_also (and_also o (λ ts. and_also p (λ vs. paired r ts vs))) (λ ss. accept r.names ss g)
+      by_targets : (o : Option (List Target)) → IfEach (HasPlace r.names) o → (p : Option (List Value)) (os : List (Option Value)) → Mirrors p os → and_also (filled r.names o (stage_in w g os)) if_used_up ≡ and_also (and_also o (λ ts. and_also p (λ vs. paired r ts vs))) (λ ss. accept r.names ss w g)
       by_targets None h p os is = refl
-      by_targets (Some ts) h None os is = none_left r.names ts g os is
+      by_targets (Some ts) h None os is = none_left r.names ts w g os is
       by_targets (Some ts) h (Some vs) os is =
-          ap (λ zs. and_also (give_all r.names ts (stage g zs)) if_used_up) is ∙ paired_given ts vs g h
+          ap (λ zs. and_also (give_all r.names ts (stage_in w g zs)) if_used_up) is ∙ paired_given ts vs w g h
 
-  then_none : (fill : Stage → Option Stage) (ss : List Start) (g : Found) → ((h : Found) → fill (stage h []) ≡ None) → and_also (accept r.names ss g) fill ≡ None
-  then_none fill [] g none = none g
-  then_none fill (s ∷ ss) g none =
-      by_test (is_some (g s.target.name (place_of r.names s))) (accept r.names ss (with_found s.target.name (place_of r.names s) s.value g)) (then_none fill ss (with_found s.target.name (place_of r.names s) s.value g) none)
+  then_none : (fill : Stage → Option Stage) (ss : List Start) (w : Way) (g : Found) → ((v : Way) (h : Found) → fill (stage_in v h []) ≡ None) → and_also (accept r.names ss w g) fill ≡ None
+  then_none fill [] w g none = none w g
+  then_none fill (s ∷ ss) w g none =
+      let b = is_some (g s.target.name (place_of r.names s)) in
+      let behind = found_by w s.target.name (place_of r.names s) s.value g in
+      by_test (stops w b) (accept r.names ss (way_behind w b) behind) (then_none fill ss (way_behind w b) behind none)
     where
       by_test : (b : Bool) (o : Option Stage) → and_also o fill ≡ None → and_also (if b then None else o) fill ≡ None
       by_test true o rest = refl
       by_test false o rest = rest
 
-  then_more : (fill : Stage → Option Stage) (ss ts : List Start) (g : Found) → ((h : Found) → fill (stage h []) ≡ accept r.names ts h) → and_also (accept r.names ss g) fill ≡ accept r.names (ss ++ ts) g
-  then_more fill [] ts g more = more g
-  then_more fill (s ∷ ss) ts g more =
-      by_test (is_some (g s.target.name (place_of r.names s))) (accept r.names ss (with_found s.target.name (place_of r.names s) s.value g)) (accept r.names (ss ++ ts) (with_found s.target.name (place_of r.names s) s.value g)) (then_more fill ss ts (with_found s.target.name (place_of r.names s) s.value g) more)
+  then_more : (fill : Stage → Option Stage) (ss ts : List Start) (w : Way) (g : Found) → ((v : Way) (h : Found) → fill (stage_in v h []) ≡ accept r.names ts v h) → and_also (accept r.names ss w g) fill ≡ accept r.names (ss ++ ts) w g
+  then_more fill [] ts w g more = more w g
+  then_more fill (s ∷ ss) ts w g more =
+      let b = is_some (g s.target.name (place_of r.names s)) in
+      let behind = found_by w s.target.name (place_of r.names s) s.value g in
+      by_test (stops w b) (accept r.names ss (way_behind w b) behind) (accept r.names (ss ++ ts) (way_behind w b) behind) (then_more fill ss ts (way_behind w b) behind more)
     where
       by_test : (b : Bool) (o p : Option Stage) → and_also o fill ≡ p → and_also (if b then None else o) fill ≡ (if b then None else p)
       by_test true o p rest = refl
       by_test false o p rest = rest
 
-  pub sets_filled : (known : Known) (xs : List DataSetTree) (g : Found) → fill_sets r known xs (stage g []) ≡ and_also (all_lists (map (set_starts r known) xs)) (λ ss. accept r.names ss g)
-  sets_filled known [] g = refl
-  sets_filled known (x ∷ xs) g =
-      ap (λ o. and_also o (fill_sets r known xs)) (set_filled known x g)
-      ∙ by_starts (set_starts r known x) (all_lists (map (set_starts r known) xs)) (λ h. sets_filled known xs h)
+  pub sets_filled : (known : Known) (xs : List DataSetTree) (w : Way) (g : Found) → fill_sets r known xs (stage_in w g []) ≡ and_also (all_lists (map (set_starts r known) xs)) (λ ss. accept r.names ss w g)
+  sets_filled known [] w g = refl
+  sets_filled known (x ∷ xs) w g =
+      ap (λ o. and_also o (fill_sets r known xs)) (set_filled known x w g)
+      ∙ by_starts (set_starts r known x) (all_lists (map (set_starts r known) xs)) (λ v h. sets_filled known xs v h)
     where
-      by_starts : (o p : Option (List Start)) → ((h : Found) → fill_sets r known xs (stage h []) ≡ and_also p (λ ss. accept r.names ss h)) → and_also (and_also o (λ ss. accept r.names ss g)) (fill_sets r known xs) ≡ and_also (both_lists o p) (λ ss. accept r.names ss g)
+      by_starts : (o p : Option (List Start)) → ((v : Way) (h : Found) → fill_sets r known xs (stage_in v h []) ≡ and_also p (λ ss. accept r.names ss v h)) → and_also (and_also o (λ ss. accept r.names ss w g)) (fill_sets r known xs) ≡ and_also (both_lists o p) (λ ss. accept r.names ss w g)
       by_starts None p rest = refl
-      by_starts (Some ss) None rest = then_none (fill_sets r known xs) ss g rest
-      by_starts (Some ss) (Some ts) rest = then_more (fill_sets r known xs) ss ts g rest
+      by_starts (Some ss) None rest = then_none (fill_sets r known xs) ss w g rest
+      by_starts (Some ss) (Some ts) rest = then_more (fill_sets r known xs) ss ts w g rest
 
   -- ---- starts have places
 

@@ -6,6 +6,7 @@ pub mod TripsBetween
 pub mod DataListing
 pub mod DataPairing
 pub mod DataStarting
+mod DataGoing
 pub mod DataSetsMore
 pub mod DataPassing
 pub mod Sizeless

@@ -15,8 +15,9 @@ use Rattle.meaning.specs.Typing.{SomeType, clash}
 use Rattle.meaning.specs.Initial.{and_also, value_type}
 use Rattle.name_maps.specs.Keeping.{kept_at}
 use Rattle.expressions.specs.Places.{capped}
-use Rattle.data_rules.specs.DataSlots.{Slots, StandsFor, give_next, give_slot, give_slots, with_next, with_slot}
-use Rattle.data_rules.specs.DataStages.{Found, Stage, first_of, give, give_places, give_value, with_found, with_given}
+use Rattle.data_rules.specs.declared.filling.Way.{Way}
+use Rattle.data_rules.specs.DataSlots.{Slots, StandsFor, give_next, give_slot, give_slots, slot_by, with_next, with_slot}
+use Rattle.data_rules.specs.DataStages.{Found, Stage, first_of, found_by, give, give_places, give_value, keeps, stops, with_found, with_given}
 use Rattle.data_rules.specs.Filled.{Comes}
 use Rattle.data_rules.specs.Slots.{given_in, slot_at, slot_if}
 use Rattle.declarations.proofs.KnownBy.{looked_inserted}
@@ -50,10 +51,10 @@ with_slots name slots found = λ n. if bytes_eq n name then slots else found n
 
 -- the places of a name at a stage, and a stage with these
 abbrev pub within : List ℕ → Stage → Slots
-within n s = record { given = s.given n; values = s.values }
+within n s = record { given = s.given n; values = s.values; way = s.way }
 
 abbrev pub back : List ℕ → Stage → Slots → Stage
-back n s l = record { given = with_slots n l.given s.given; values = l.values }
+back n s l = record { given = with_slots n l.given s.given; values = l.values; way = l.way }
 
 own_slots : (n : List ℕ) (found : Found) → with_slots n (found n) found ≡ found
 own_slots n found = fun_ext (λ m. by m (bytes_eq m n) refl)
@@ -79,28 +80,39 @@ one_found n i v found = fun_ext (λ m. fun_ext (λ k. by m k (bytes_eq m n) refl
     by m k true same = ap (λ x. if i == k then Some v else found x k) ((bytes_eq-Decides m n).0 same)
     by m k false other = refl
 
+-- and in some way
+found_within : (w : Way) (n : List ℕ) (i : ℕ) (v : Value) (found : Found) → found_by w n i v found ≡ with_slots n (slot_by w i v (found n)) found
+found_within w n i v found = by (keeps w)
+  where
+    by : (b : Bool) → (if b then with_found n i v found else found) ≡ with_slots n (if b then with_slot i v (found n) else found n) found
+    by true = one_found n i v found
+    by false = sym (own_slots n found)
+
 module _ (types : Types) (n : List ℕ) where
   give_within : (i : ℕ) (s : Stage) → give types n i s ≡ option_map (back n s) (give_slot (types n) i (within n s))
   give_within i s = by_value (first_of s.values)
     where
       by_test : (v : Value) (b : Bool) → (if b then None else Some (with_given n i v s)) ≡ option_map (back n s) (if b then None else Some (with_next i v (within n s)))
       by_test v true = refl
-      by_test v false = ap (λ g. Some (record { given = g; values = (with_given n i v s).values })) (one_found n i v s.given)
+      by_test v false =
+          ap (λ g. Some (record { given = g; values = (with_given n i v s).values; way = (with_given n i v s).way })) (found_within s.way n i v s.given)
 
       by_value : (o : Option Value) → give_value types n i s o ≡ option_map (back n s) (give_next (types n) i (within n s) o)
       by_value None = refl
-      by_value (Some v) = by_test v (clash (types n) (value_type v) || is_some (s.given n i))
+      by_value (Some v) = by_test v (clash (types n) (value_type v) || stops s.way (is_some (s.given n i)))
 
   pub places_within : (is : List ℕ) (s : Stage) → give_places types n is s ≡ option_map (back n s) (give_slots (types n) is (within n s))
-  places_within [] s = ap (λ g. Some (record { given = g; values = s.values })) (sym (own_slots n s.given))
+  places_within [] s =
+      ap (λ g. Some (record { given = g; values = s.values; way = s.way })) (sym (own_slots n s.given))
   places_within (i ∷ is) s =
       ap (λ o. and_also o (give_places types n is)) (give_within i s) ∙ by_rest (λ r. places_within is r) (give_slot (types n) i (within n s))
     where
       here : (l : Slots) → within n (back n s l) ≡ l
-      here l = ap (λ b. record { given = if b then l.given else s.given n; values = l.values }) (same_name n)
+      here l =
+          ap (λ b. record { given = if b then l.given else s.given n; values = l.values; way = l.way }) (same_name n)
 
       again : (l m : Slots) → back n (back n s l) m ≡ back n s m
-      again l m = ap (λ g. record { given = g; values = m.values }) (twice n s.given l.given m.given)
+      again l m = ap (λ g. record { given = g; values = m.values; way = m.way }) (twice n s.given l.given m.given)
 
       by_rest : ((r : Stage) → give_places types n is r ≡ option_map (back n r) (give_slots (types n) is (within n r))) → (o : Option Slots) → and_also (option_map (back n s) o) (give_places types n is) ≡ option_map (back n s) (and_also o (give_slots (types n) is))
       by_rest rest None = refl

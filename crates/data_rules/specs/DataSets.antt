@@ -15,6 +15,8 @@ use Rattle.symbols.specs.SymbolsAt.{symbols_at}
 use Rattle.declarations.specs.declared.known.Table.{Table}
 use Rattle.declarations.specs.Tables.{known_at}
 use Rattle.data_rules.specs.declared.filling.Filling.{Filling}
+use Rattle.data_rules.specs.declared.filling.Way.{Way}
+use Rattle.data_rules.specs.declared.filling.Way.TheVariants as ways
 use Rattle.data_rules.specs.DataRuns.{values_of}
 use Rattle.data_rules.specs.DataStages.{Found, Stage, filled, is_empty_list, with_found}
 use Rattle.data_rules.specs.Slots.{given_in}
@@ -43,7 +45,7 @@ given_by ns ss = given_behind ns ss nothing
 
 -- a stage with these values in place of those that are left
 abbrev pub with_values : List (Option Value) → Stage → Stage
-with_values os s = record { given = s.given; values = os }
+with_values os s = record { given = s.given; values = os; way = s.way }
 
 abbrev pub if_used_up : Stage → Option Stage
 if_used_up s = if is_empty_list s.values then Some (with_values [] s) else None
@@ -61,7 +63,11 @@ fill_sets r known (x ∷ xs) s = and_also (fill_set r known x s) (fill_sets r kn
 
 -- what was given between two sets
 abbrev pub stage_by : Filling → Stage
-stage_by f = record { given = given_in f.given; values = [] }
+stage_by f = record { given = given_in f.given; values = []; way = f.way }
+
+-- where nothing was given so far
+abbrev pub stage_empty : Way → Stage
+stage_empty w = record { given = nothing; values = []; way = w }
 
 -- a set is filled, or several are
 abbrev pub FillsSet : Table → Bor DataSet → Filling → Option Filling → Type 0
@@ -80,8 +86,9 @@ Agrees ns found earlier =
     (t : Start) → HasPlace ns t.target → is_some (found t.target.name (place_of ns t))
     ≡ list_any (λ e. same_target e.target t.target) earlier
 
--- what the DATA statements among these gave
+-- what the DATA statements among these gave, where each place is given a value once
 pub record IsFilledBy (r : Symbols) (before : List ItemTree) (s : Stage) : Type 0 where
   pub marked : Agrees r.names s.given (starts_from r [] before)
   pub given : s.given ≡ given_by r.names (starts_from r [] before)
   pub values : s.values ≡ []
+  pub way : s.way ≡ ways.Once

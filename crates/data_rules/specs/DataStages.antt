@@ -8,6 +8,8 @@ use Rattle.meaning.specs.Types.{Types}
 use Rattle.meaning.specs.Typing.{Names, clash}
 use Rattle.meaning.specs.Values.{dimensions_in}
 use Rattle.meaning.specs.Initial.{Target, and_also, value_type}
+use Rattle.data_rules.specs.declared.filling.Way.{Way}
+use Rattle.data_rules.specs.declared.filling.Way.TheVariants as ways
 
 -- what the places of names were given, by their elements' order; a variable has the place 0 alone
 abbrev pub Found : Type 0
@@ -16,10 +18,32 @@ Found = List ℕ → ℕ → Option Value
 abbrev pub with_found : List ℕ → ℕ → Value → Found → Found
 with_found name i v found = λ n k. if bytes_eq n name && (i == k) then Some v else found n k
 
--- what was given so far, and the values that are left, one of which may be none
+-- whether a value is refused to a place that has one, or has none; whether a value is kept; and the
+-- way for the next ones
+abbrev pub stops : Way → Bool → Bool
+stops ways.Once has_one = has_one
+stops (ways.Again twice) has_one = false
+stops ways.Dry has_one = false
+
+abbrev pub keeps : Way → Bool
+keeps ways.Once = true
+keeps (ways.Again twice) = true
+keeps ways.Dry = false
+
+abbrev pub way_behind : Way → Bool → Way
+way_behind ways.Once has_one = ways.Once
+way_behind (ways.Again twice) has_one = ways.Again (twice || has_one)
+way_behind ways.Dry has_one = ways.Dry
+
+abbrev pub found_by : Way → List ℕ → ℕ → Value → Found → Found
+found_by w name i v found = if keeps w then with_found name i v found else found
+
+-- what was given so far, the values that are left, one of which may be none, and the way in which
+-- they are given
 pub record Stage : Type 0 where
   pub given : Found
   pub values : List (Option Value)
+  pub way : Way
 
 abbrev pub first_of : List (Option Value) → Option Value
 first_of [] = None
@@ -35,12 +59,16 @@ is_empty_list (o ∷ os) = false
 
 -- the next value for a place
 abbrev pub with_given : List ℕ → ℕ → Value → Stage → Stage
-with_given n i v s = record { given = with_found n i v s.given; values = behind_first s.values }
+with_given n i v s = record {
+  given = found_by s.way n i v s.given;
+  values = behind_first s.values;
+  way = way_behind s.way (is_some (s.given n i));
+}
 
 abbrev pub give_value : Types → List ℕ → ℕ → Stage → Option Value → Option Stage
 give_value types n i s None = None
 give_value types n i s (Some v) =
-    if clash (types n) (value_type v) || is_some (s.given n i) then None
+    if clash (types n) (value_type v) || stops s.way (is_some (s.given n i)) then None
     else Some (with_given n i v s)
 
 abbrev pub give : Types → List ℕ → ℕ → Stage → Option Stage

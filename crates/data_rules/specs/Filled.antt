@@ -10,7 +10,7 @@ use Rattle.data_rules.specs.DataStages.{Stage, give_places}
 use Rattle.data_rules.specs.Slots.{given_in}
 
 abbrev pub stage_at : Filling → Values → Stage
-stage_at f v = record { given = given_in f.given; values = values_left v }
+stage_at f v = record { given = given_in f.given; values = values_left v; way = f.way }
 
 -- what comes of something is this, or nothing
 abbrev pub Comes : {A : Type 0} → Option A → A → Bool → Type 0

@@ -1,5 +1,5 @@
 -- Names that have no value, in DATA statements.
-use Rattle.std.specs.Prelude.{◌≡◌, ℕ, Bool, ◌++◌, List, map, flat_map, Option, option_map}
+use Rattle.std.specs.Prelude.{◌≡◌, ℕ, Bool, ◌++◌, List, [], ◌∷◌, map, flat_map, Option, option_map}
 use Rattle.std.specs.List.{filter, list_any}
 use Rattle.std.specs.Borrow.{Bor}
 use Rattle.std.specs.Global.{Vec}
@@ -9,15 +9,16 @@ use Rattle.meaning.specs.declared.syntax.DataValue.{DataValue}
 use Rattle.meaning.specs.declared.syntax.Declarator.{Declarator}
 use Rattle.meaning.specs.declared.syntax.RepeatCount.{RepeatCount}
 use Rattle.meaning.specs.Initial.{lacks_value, set_uses, sets_by, sets_of}
-use Rattle.meaning.specs.NumberRules.{lacks_bound}
-use Rattle.meaning.specs.Syntax.{DataSetTree, ShapeTree, data_constant_tree, data_set_tree}
+use Rattle.meaning.specs.NumberRules.{lacks_bound, sizeless_in}
+use Rattle.meaning.specs.Syntax.{DataSetTree, ItemTree, ShapeTree, data_constant_tree}
+use Rattle.meaning.specs.Syntax.{data_set_tree}
 use Rattle.meaning.specs.Syntax.{data_value_tree, declarator_tree, repeat_tree}
 use Rattle.meaning.specs.Typing.{option_list}
 use Rattle.meaning.specs.Uses.{Use, bare_use, data_constant_uses, data_value_uses, is_one_of}
 use Rattle.meaning.specs.Uses.{repeat_uses}
 use Rattle.symbols.specs.SymbolsAt.{symbols_at}
 use Rattle.declarations.specs.declared.known.Table.{Table}
-use Rattle.declarations.specs.Tables.{known_at, types_in}
+use Rattle.declarations.specs.Tables.{IsBehind, known_at, types_in}
 use Rattle.data_rules.specs.declared.lacking.Known.{Known}
 
 -- the names that are kept
@@ -67,3 +68,13 @@ sizeless_by t ds =
 abbrev pub GainsSizeless : Table → List Declarator → Vec (Bor (List ℕ)) → Vec (Bor (List ℕ)) →
     Type 0
 GainsSizeless t ds old new = names_kept new.items ≡ names_kept old.items ++ sizeless_by t ds
+
+-- what is known behind statements, and behind one more: the constants, and the arrays without a
+-- size
+abbrev pub AreKnown : Table → List (List ℕ) → List ItemTree → Type 0
+AreKnown t sizeless before =
+    IsBehind t before × (sizeless ≡ sizeless_in (symbols_at t.symbols.now) [] before)
+
+abbrev pub GoOn : Table → Table → List (List ℕ) → List (List ℕ) → ItemTree → Type 0
+GoOn t u old new x =
+    (before : List ItemTree) → AreKnown t old before → AreKnown u new (before ++ x ∷ [])

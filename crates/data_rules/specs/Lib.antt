@@ -11,4 +11,5 @@ pub mod DataItems
 pub mod DataSets
 pub mod DataTargets
 pub mod DataPassed
+pub mod DataFurther
 pub mod Lacking

@@ -5,18 +5,19 @@
 ghost use Rattle.std.specs.Prelude.{◌≡◌, ◌∷◌, [], OnOk};
 ghost use Rattle.meaning.specs.Initial.{list_uses};
 ghost use Rattle.meaning.specs.Syntax.{expr_tree, exprs_tree, limits_tree, list_items_tree};
+ghost use Rattle.meaning.specs.Trees.{item_tree};
 ghost use Rattle.meaning.specs.Uses.{limit_uses, uses_in, uses_in_all};
 ghost use Rattle.data_rules.specs.Lacking.{any_lacks, constant_uses, count_uses, is_sizeless_at};
 ghost use Rattle.data_rules.specs.Lacking.{lacks_name, names_kept, sets_lack, values_uses};
-ghost use Rattle.data_rules.specs.Lacking.{GainsSizeless};
+ghost use Rattle.data_rules.specs.Lacking.{GainsSizeless, GoOn};
 
-use declarations::{Table, lacks_bound};
+use declarations::{Table, lacks_bound, pass_constants};
 use expressions::Constants;
 use meaning::syntax::{
     DataConstant, DataSet, DataValue, Declarator, Expr, Exprs, Item, Limits, ListItem, ListItems,
     RepeatCount,
 };
-use std::alloc::AllocError;
+use std::alloc::{AllocError, Global};
 use symbols::{declarators_in, is_constant_name};
 
 /// What is known where a DATA statement stands.
@@ -184,9 +185,8 @@ fn add_one<'a>(
     Ok(())
 }
 
-/// Adds the names of declarators one of whose bounds has no value. The `AllocError` comes where a
-/// growth was refused.
-pub fn add_sizeless<'a>(
+/// Adds the names of declarators one of whose bounds has no value.
+fn add_sizeless<'a>(
     sizeless: &mut Vec<&'a [u8]>,
     table: &Table,
     declarators: &'a [Declarator],
@@ -196,5 +196,23 @@ pub fn add_sizeless<'a>(
     for declarator in declarators {
         add_one(sizeless, table, declarator)?;
     }
+    Ok(())
+}
+
+/// Passes one statement more: its constants are known behind it, and which of its arrays have no
+/// size. The `AllocError` comes where a growth was refused.
+pub fn pass_names<'a>(
+    table: &mut Table,
+    sizeless: &mut Vec<&'a [u8]>,
+    alloc: Global,
+    item: &'a Item,
+) -> Result<(), AllocError>
+    ensures symbols { OnOk result (table.new.symbols ≡ table.old.symbols) }
+    ensures known { OnOk result
+        (GoOn table.old table.new (names_kept sizeless.old.items) (names_kept sizeless.new.items)
+        (item_tree item.now)) }
+{
+    add_sizeless(sizeless, table, declarators_in(&*item.form.shape))?;
+    pass_constants(table, alloc, item)?;
     Ok(())
 }

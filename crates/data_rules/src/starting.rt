@@ -17,16 +17,16 @@ ghost use Rattle.data_rules.specs.Lacking.{names_kept, sets_counted};
 
 use crate::data_lists::give_items;
 use crate::data_values::{is_used_up, values_in};
-use crate::filling::Filling;
+use crate::filling::{Filling, Way};
 use crate::giving::Giving;
-use crate::lacking::{Known, add_sizeless, lack_value};
-use declarations::{Table, pass_constants, scope_of, table_of};
+use crate::lacking::{Known, lack_value, pass_names};
+use declarations::{Table, scope_of, table_of};
 use expressions::Dimensions;
 use indexmap::IndexMap;
 use meaning::refusal::{Broken, Rule};
 use meaning::syntax::{DataSet, Item, ListItems, Shape};
 use std::alloc::{AllocError, Global};
-use symbols::{Symbols, declarators_in};
+use symbols::Symbols;
 
 /// Gives a list the values of its set; false where an item doesn't get its value, or a value is
 /// left over.
@@ -213,15 +213,13 @@ pub fn given_by_data(
 {
     let mut table = table_of(alloc, symbols);
     let mut sizeless = Vec::new(alloc);
-    let given = IndexMap::new(alloc);
     let mut passed = Passed {
         broken: others,
-        filling: Some(Filling { given }),
+        filling: Some(Filling::new(alloc, Way::Once)),
     };
     for &item in items {
         passed = pass_data(passed, alloc, &table, &sizeless, arrays, item)?;
-        add_sizeless(&mut sizeless, &table, declarators_in(&*item.form.shape))?;
-        pass_constants(&mut table, alloc, item)?;
+        pass_names(&mut table, &mut sizeless, alloc, item)?;
     }
     Ok(passed)
 }

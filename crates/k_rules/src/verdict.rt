@@ -111,7 +111,7 @@ fn facts_of(
                 }
                 None => match filling {
                     Some(filling) => {
-                        let Filling { given } = filling;
+                        let Filling { given, way: _ } = filling;
                         let Declared { table, arrays } = declared;
                         Ok(Facts {
                             constants: table.values,

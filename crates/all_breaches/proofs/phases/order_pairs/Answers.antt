@@ -4,11 +4,6 @@ use Rattle.all_breaches.proofs.Composed.{same_as, same_by}
 use Rattle.all_breaches.proofs.Telling.{order_passes, order_refuses}
 use Rattle.all_breaches.proofs.phases.order_pairs.Goals as goal
 
-pub unit_pairs-requires : goal.unit_pairs-requires
-unit_pairs-requires c =
-    let nests = rw c.in-Nests.is at c.in_ok-unit.ensures in
-    c.requires (nested c.in-Nests.unit) nests
-
 pub returns-in-Ok : goal.returns-in-Ok
 returns-in-Ok c =
     let nests = rw c.in-Nests.is at c.in_ok-unit.ensures in

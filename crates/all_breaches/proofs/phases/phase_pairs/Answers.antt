@@ -1,15 +1,9 @@
-use Rattle.std.proofs.Common.{map, sym, ap, subst, ◌∙◌}
+use Rattle.std.proofs.Common.{map, sym, ap, ◌∙◌}
 use Rattle.meaning.specs.Statements.{entry_of}
-use Rattle.all_breaches.specs.InOrder.{ReadInOrder}
 use Rattle.all_breaches.specs.Phases.{pairs_from_texts}
 use Rattle.all_breaches.proofs.Composed.{same_as, same_by}
-use Rattle.all_breaches.proofs.Telling.{lines_pass, lines_refuse, read_in_order}
+use Rattle.all_breaches.proofs.Telling.{lines_pass, lines_refuse}
 use Rattle.all_breaches.proofs.phases.phase_pairs.Goals as goal
-
-pub text_pairs-requires : goal.text_pairs-requires
-text_pairs-requires c =
-    subst (λ xs. ReadInOrder (map entry_of xs)) (sym c.deref.ensures.value)
-    (read_in_order c.args.source.now (map entry_of c.in-Ok.found.items) c.in-Ok.ensures.exact)
 
 pub returns-in_ok-pairs-in-Ok : goal.returns-in_ok-pairs-in-Ok
 returns-in_ok-pairs-in-Ok c =

@@ -1,13 +1,8 @@
-use Rattle.std.proofs.Common.{map, sym, ap, subst, ◌∙◌}
+use Rattle.std.proofs.Common.{map, ap, ◌∙◌}
 use Rattle.meaning.specs.Trees.{members_tree, nested}
-use Rattle.rule_passes.specs.InOrder.{AreInOrder}
 use Rattle.rule_passes.specs.Listed.{tree_at}
 use Rattle.all_breaches.proofs.UnitPairs.{found_at, unit_same}
 use Rattle.all_breaches.proofs.unit_rules.unit_pairs.Goals as goal
-
-pub pairs_by-requires : goal.pairs_by-requires
-pairs_by-requires c =
-    subst AreInOrder (sym (ap (map tree_at) c.deref.ensures.value ∙ c.in_ok-items.ensures)) c.requires
 
 pub returns : goal.returns
 returns c =

@@ -1,4 +1,4 @@
-use Rattle.std.proofs.Common.{◌+◌, ◌-◌, ◌<◌, Some, None, sym, ap, ◌∙◌, arith}
+use Rattle.std.proofs.Common.{◌+◌, ◌-◌, Some, None, sym, ap, ◌∙◌, arith}
 use Rattle.std.specs.Prelude.{if◌then◌else◌}
 use Rattle.std.specs.List.{range_with_len}
 use Rattle.meaning.specs.Initial.{and_also}
@@ -11,10 +11,10 @@ returns-then-not-branch-clause-given c = λ i stands.
     let t = c.args.data_type in
     let b = c.loop-behind.behind in
     let m = c.args.count in
-    let old = slots_at c.loop-behind.slots c.loop-behind.values in
+    let old = slots_at c.loop-behind.slots c.loop-behind.values c.loop-behind.way in
     sym (c.loop-behind.invariant.left i stands) ∙ slot_step t i b m old c.loop-behind-test.true
     ∙ ap (λ o. and_also o (give_slots t (range_with_len (i + (b + 1)) (m - (b + 1)))))
-    (c.in_ok-give.ensures.given (i + b) (stands_behind c.args.first m i b stands c.loop-behind-test.true) ∙ ap (λ x. if x then Some (slots_at c.give.new.slots c.give.new.values) else None) c.if-not-branch.true)
+    (c.in_ok-give.ensures.given (i + b) (stands_behind c.args.first m i b stands c.loop-behind-test.true) ∙ ap (λ x. if x then Some (slots_at c.give.new.slots c.give.new.values c.give.new.way) else None) c.if-not-branch.true)
 
 pub loop-behind-preserved : goal.loop-behind-preserved
 loop-behind-preserved c = record {
@@ -22,17 +22,13 @@ loop-behind-preserved c = record {
       let t = c.args.data_type in
       let b = c.loop-behind.behind in
       let m = c.args.count in
-      let old = slots_at c.loop-behind.slots c.loop-behind.values in
+      let old = slots_at c.loop-behind.slots c.loop-behind.values c.loop-behind.way in
       sym (slot_step t i b m old c.loop-behind-test.true
       ∙ ap (λ o. and_also o (give_slots t (range_with_len (i + (b + 1)) (m - (b + 1)))))
-      (c.in_ok-give.ensures.given (i + b) (stands_behind c.args.first m i b stands c.loop-behind-test.true) ∙ ap (λ x. if x then Some (slots_at c.give.new.slots c.give.new.values) else None) c.if-not-branch.false))
+      (c.in_ok-give.ensures.given (i + b) (stands_behind c.args.first m i b stands c.loop-behind-test.true) ∙ ap (λ x. if x then Some (slots_at c.give.new.slots c.give.new.values c.give.new.way) else None) c.if-not-branch.false))
       ∙ c.loop-behind.invariant.left i stands;
-  few = let kept = c.in_ok-give.ensures.kept c.if-not-branch.false in omega (arith, kept);
 }
 
 pub returns-clause-given : goal.returns-clause-given
 returns-clause-given c = λ i stands.
-    sym (c.loop-behind.invariant.left i stands) ∙ slots_done c.args.data_type i c.loop-behind.behind c.args.count (slots_at c.loop-behind.slots c.loop-behind.values) (omega (arith, c.loop-behind-test.false))
-
-pub returns-clause-kept : goal.returns-clause-kept
-returns-clause-kept c = λ all. omega (arith, c.loop-behind.invariant.few, c.loop-behind-test.false)
+    sym (c.loop-behind.invariant.left i stands) ∙ slots_done c.args.data_type i c.loop-behind.behind c.args.count (slots_at c.loop-behind.slots c.loop-behind.values c.loop-behind.way) (omega (arith, c.loop-behind-test.false))
