@@ -1,5 +1,4 @@
 pub mod Acting
-pub mod Forms
 pub mod Known
 pub mod Limited
 pub mod Listing
