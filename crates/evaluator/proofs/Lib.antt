@@ -18,4 +18,5 @@ pub mod Counted
 pub mod Standing
 pub mod Parted
 pub mod Parts
+pub mod Sequenced
 pub mod Ranged

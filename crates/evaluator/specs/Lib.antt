@@ -12,6 +12,7 @@ pub mod Prepared
 pub mod Quiet
 pub mod Ranges
 pub mod Repeating
+pub mod Sequences
 pub mod Slices
 pub mod Statements
 pub mod Targets

@@ -11,6 +11,8 @@ mod places;
 mod prepared;
 mod quiet;
 mod ranges;
+mod sequence;
+mod several;
 mod shaped;
 mod shapes;
 mod slices;
