@@ -1,4 +1,5 @@
 pub mod Acting
+pub mod Decisions
 pub mod Known
 pub mod Limited
 pub mod Listing

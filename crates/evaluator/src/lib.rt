@@ -4,6 +4,7 @@
 
 mod assignment;
 mod control;
+mod each;
 mod forms;
 mod limits;
 mod passed;
