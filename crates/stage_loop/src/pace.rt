@@ -6,9 +6,9 @@ ghost use Rattle.std.specs.Prelude.{◌<◌};
 
 use meaning::plan::Plan;
 
-// The turns that the trips of a DO statement used and are likely to use for a try of stages, where
-// nothing good is known of them.
-const PAY: u64 = 200_000;
+// The turns that trips are worth for a try of stages, where nothing good is known of them. They
+// take some milliseconds in order, and so long a stage may wait for its threads on a busy machine.
+const PAY: u64 = 300_000;
 
 // The turns that trips are worth for a stage to pay for its threads and views.
 const GOOD_PAY: u64 = 60_000;
@@ -93,8 +93,6 @@ pub(crate) struct Pace {
     back: u64,
     // The turns of the next stage in all its blocks; 0 where it is a try.
     reach: u64,
-    // How many turns its trips used so far, in all its executions.
-    past: u64,
 }
 
 /// Whether a block's view took too much time for its turns, by what it weighs.
@@ -128,24 +126,22 @@ impl Pace {
             credit: 0,
             back: BACK,
             reach: 0,
-            past: 0,
         }
     }
 
-    /// Whether the next of so many trips are worth a stage, which has two blocks at least: by what
-    /// they are likely to use, and where it is a try, by what earlier ones used too, as others like
-    /// them may come.
+    /// Whether the next of so many trips are worth a stage, which has two blocks at least, by what
+    /// they are likely to use.
     pub fn is_worth(&self, plan: &Plan, left: u64) -> bool {
         let has_two = left > 1 && plan.window() > 1;
         let likely = left.saturating_mul(self.per_trip);
-        let is_tried = self.reach > 0 || likely.saturating_add(self.past) >= PAY;
+        let is_tried = self.reach > 0 || likely >= PAY;
         has_two && self.credit == 0 && likely >= GOOD_PAY && is_tried
     }
 
     /// Whether a trip that is executed in order may hold DO statements that are worth stages; so
     /// may one of which nothing is known.
     pub fn may_hold_stages(&self) -> bool {
-        self.per_trip == 0 || self.per_trip >= GOOD_PAY
+        self.per_trip == 0 || self.per_trip >= PAY
     }
 
     /// How many trips are run in order at once.
@@ -192,7 +188,6 @@ impl Pace {
     /// What is known behind some trips more.
     pub fn behind(&self, step: Step) -> Pace {
         let per_trip = trips_worth(step.used, step.done);
-        let past = self.past.saturating_add(step.used);
         match step.all {
             None => Pace {
                 per_trip,
@@ -201,7 +196,6 @@ impl Pace {
                     .saturating_mul(4)
                     .min(trips_worth(CHUNK, per_trip)),
                 credit: self.credit.saturating_sub(step.used),
-                past,
                 ..*self
             },
             Some(all) => self.behind_stage(per_trip, step, all),
@@ -212,7 +206,6 @@ impl Pace {
     // quarters of them were committed, or views were dear, and good where all were.
     fn behind_stage(&self, per_trip: u64, step: Step, all: u64) -> Pace {
         let chunk = trips_worth(CHUNK, per_trip);
-        let past = self.past.saturating_add(step.used);
         if step.is_dear || step.used.saturating_mul(4) < all.saturating_mul(3) {
             return Pace {
                 per_trip,
@@ -220,7 +213,6 @@ impl Pace {
                 credit: all.saturating_mul(self.back).min(MOST_CREDIT),
                 back: self.back.saturating_mul(2).min(MOST_BACK),
                 reach: 0,
-                past,
             };
         }
         let reach = if step.used < all {
@@ -234,7 +226,6 @@ impl Pace {
             credit: 0,
             back: if step.used < all { self.back } else { BACK },
             reach,
-            past,
         }
     }
 
