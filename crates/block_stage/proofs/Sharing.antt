@@ -9,7 +9,7 @@ use Rattle.std.proofs.lemmas.Bool.{false≢true, eqb-true}
 use Rattle.std.proofs.lemmas.Nat.Bits.{bit_at-zero, bit_at_and, bit_at-lt}
 use Rattle.marks.specs.Cells.{Share}
 use Rattle.marks.specs.Words.{word_at, tells}
-use Rattle.block_stage.specs.Causes.{Carries, IsShared}
+use Rattle.block_stage.specs.Causes.{Carries, CarriesLeast, IsLeastShared}
 use Rattle.block_stage.specs.Cuts.{reads_of}
 use Rattle.block_stage.specs.Faithful.{RunData}
 use Rattle.block_stage.proofs.Meeting.{meets_is}
@@ -28,14 +28,17 @@ both_told a b k bit small has =
       (λ i. bit_at (word_at b (word i)) (place i) == 1) ∙ ap (λ n. n == 1) in_b,
     )
 
--- words that have no bit in common
-none_told : (a b : List ℕ) (c : ℕ) → bit_and (word_at a (c / 64)) (word_at b (c / 64)) ≡ 0 → tells a c ≡ true → tells b c ≡ true → ⊥
-none_told a b c none p q =
+-- words that don't have a bit in common
+none_at : (a b : List ℕ) (c : ℕ) → bit_at (bit_and (word_at a (c / 64)) (word_at b (c / 64))) (c % 64) ≡ 0 → tells a c ≡ true → tells b c ≡ true → ⊥
+none_at a b c zero p q =
     let in_a : bit_at (word_at a (c / 64)) (c % 64) ≡ 1 = eqb-true _ 1 p in
     let in_b : bit_at (word_at b (c / 64)) (c % 64) ≡ 1 = eqb-true _ 1 q in
     let both = bit_at_and (word_at a (c / 64)) (word_at b (c / 64)) (c % 64) in
-    let zero : bit_at (bit_and (word_at a (c / 64)) (word_at b (c / 64))) (c % 64) ≡ 0 = ap (λ n. bit_at n (c % 64)) none ∙ bit_at-zero (c % 64) in
     absurd (omega (arith, in_a, in_b, both, zero))
+
+-- or none
+none_told : (a b : List ℕ) (c : ℕ) → bit_and (word_at a (c / 64)) (word_at b (c / 64)) ≡ 0 → tells a c ≡ true → tells b c ≡ true → ⊥
+none_told a b c none p q = none_at a b c (ap (λ n. bit_at n (c % 64)) none ∙ bit_at-zero (c % 64)) p q
 
 -- of one more word
 pub none_more : (a b : List ℕ) (k : ℕ) → ((c : ℕ) → c / 64 < k → tells a c ≡ true → tells b c ≡ true → ⊥) → bit_and (word_at a k) (word_at b k) ≡ 0 → (c : ℕ) → c / 64 < k + 1 → tells a c ≡ true → tells b c ≡ true → ⊥
@@ -50,8 +53,26 @@ none_more a b k before none c within =
     c
     refl
 
+-- before the lowest bit that one of their words have in common, behind words that have none
+pub least_told : (a b : List ℕ) (k bit : ℕ) → bit < 64 → ((c : ℕ) → c / 64 < k → tells a c ≡ true → tells b c ≡ true → ⊥) → ((i : ℕ) → i < bit → bit_at (bit_and (word_at a k) (word_at b k)) i ≡ 0) → (c : ℕ) → c < 64 * k + bit → tells a c ≡ true → tells b c ≡ true → ⊥
+least_told a b k bit small before lowest c within =
+    below_more
+    (λ j. (d : ℕ) → d / 64 ≡ j → d < 64 * k + bit → tells a d ≡ true → tells b d ≡ true → ⊥)
+    k
+    (λ j less d e lt. before d (omega arith))
+    (λ d e lt. none_at a b d (ap (λ j. bit_at (bit_and (word_at a j) (word_at b j)) (d % 64)) e ∙ lowest (d % 64) (omega arith)))
+    (c / 64)
+    (omega (arith, within, small))
+    c
+    refl
+    within
+
 -- what the marks of two blocks share
-pub shared_is : (r s : RunData) (exposed marks : set.FinSet nat_cmp) (o : Option ℕ) → exposed ≡ s.seen.exposed → ((c : ℕ) → set.contains marks c ≡ is_some (map.get r.seen.written c)) → MatchOption o (Share exposed marks → ⊥) (IsShared exposed marks) → MatchOption o (reads_of r s ≡ false) (Carries r s)
+pub shared_is : (r s : RunData) (exposed marks : set.FinSet nat_cmp) (o : Option ℕ) → exposed ≡ s.seen.exposed → ((c : ℕ) → set.contains marks c ≡ is_some (map.get r.seen.written c)) → MatchOption o (Share exposed marks → ⊥) (IsLeastShared exposed marks) → MatchOption o (reads_of r s ≡ false) (CarriesLeast r s)
 shared_is r s exposed marks None is same none =
     sym (meets_is s.seen.exposed marks r.seen.written false same (λ h. absurd (false≢true h), λ h. absurd (none (subst (λ e. Share e marks) (sym is) h))))
-shared_is r s exposed marks (Some cell) is same both = (sym (same cell) ∙ both.1, ap (λ e. set.contains e cell) (sym is) ∙ both.0)
+shared_is r s exposed marks (Some cell) is same both =
+    record {
+      carries = (sym (same cell) ∙ both.other, ap (λ e. set.contains e cell) (sym is) ∙ both.one);
+      least = λ c lt k. both.least c lt (ap (λ e. set.contains e c) is ∙ k.1) (same c ∙ k.0);
+    }

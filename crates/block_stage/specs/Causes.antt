@@ -1,6 +1,7 @@
 -- Why a stage is cut where it is (own).
 use Rattle.std.specs.Prelude.{◌≡◌, ◌⊎◌, ℕ, ◌+◌, ◌<◌, ◌||◌, Bool, true, false, length, nat_lt, take}
 use Rattle.std.specs.Prelude.{slice_get, is_some, is_none, Option, Some, None}
+use Rattle.std.specs.List.{list_any}
 use Rattle.std.specs.Ordering.{nat_cmp}
 use Rattle.std.specs.FinSet as set
 use Rattle.std.specs.FinMap as map
@@ -9,22 +10,30 @@ use Rattle.block_stage.specs.declared.causes.Cause.TheVariants as causes
 use Rattle.block_stage.specs.declared.causes.Dependence.{Dependence}
 use Rattle.block_stage.specs.Faithful.{RunData}
 use Rattle.block_stage.specs.Cuts.{Places, place_at, clashes, turns_to, outcome_in, outcome_to}
-use Rattle.block_stage.specs.Cuts.{is_early, is_limit}
+use Rattle.block_stage.specs.Cuts.{is_early, is_limit, reads_place}
 
--- the cell is in both sets
-abbrev pub IsShared : set.FinSet nat_cmp → set.FinSet nat_cmp → ℕ → Type 0
-IsShared s t cell = (set.contains s cell ≡ true) × (set.contains t cell ≡ true)
+-- the cell is in both sets, and none before it is
+pub record IsLeastShared (s t : set.FinSet nat_cmp) (cell : ℕ) : Type 0 where
+  pub one : set.contains s cell ≡ true
+  pub other : set.contains t cell ≡ true
+  pub least : (c : ℕ) → c < cell → set.contains s c ≡ true → set.contains t c ≡ true → ⊥
 
 -- the first block wrote the cell, and the second exposed it
 abbrev pub Carries : RunData → RunData → ℕ → Type 0
 Carries r s cell =
     (is_some (map.get r.seen.written cell) ≡ true) × (set.contains s.seen.exposed cell ≡ true)
 
--- one of these blocks wrote the cell, and a later one exposed it
+-- and no cell before it
+pub record CarriesLeast (r s : RunData) (cell : ℕ) : Type 0 where
+  pub carries : Carries r s cell
+  pub least : (c : ℕ) → c < cell → Carries r s c → ⊥
+
+-- the first of these blocks that wrote a cell which a later one exposed, and the least such cell
 pub record IsCarried (earlier : Places) (later : RunData) (d : Dependence) : Type 0 where
   pub run : RunData
   pub there : slice_get earlier d.writer ≡ Some (Some run)
-  pub carries : Carries run later d.cell
+  pub first : list_any (reads_place later) (take d.writer earlier) ≡ false
+  pub carries : CarriesLeast run later d.cell
 
 -- of the run behind the cut, where there is one
 abbrev pub IsBroken : Places → ℕ → Option RunData → Dependence → Type 0

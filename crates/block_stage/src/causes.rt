@@ -12,9 +12,9 @@ use crate::trace::BlockResult;
 /// A cell that one block of a stage wrote and a later one read before it wrote it.
 #[derive(Clone, Copy, Debug, PartialEq, Eq)]
 pub struct Dependence {
-    /// The cell.
+    /// The least such cell.
     pub cell: usize,
-    /// The block that wrote it.
+    /// The block that wrote it, the first that wrote such a cell.
     pub writer: usize,
 }
 
@@ -73,7 +73,7 @@ fn cause_behind(places: &[Option<BlockResult<'_>>]) -> Cause
     }
 }
 
-// A cell that it exposed and an earlier block wrote, and the first such block.
+// The first of the earlier blocks that wrote a cell which it exposed, and the least such cell.
 fn carried(trace: &BlockResult<'_>, earlier: &[Option<BlockResult<'_>>]) -> Option<Dependence>
     ensures { MatchOption result
         (list_any (reads_place trace.now) earlier.now ≡ false)

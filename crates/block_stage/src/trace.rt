@@ -2,7 +2,7 @@
 
 ghost use Rattle.std.specs.Prelude.{◌≡◌, false, MatchOption};
 ghost use Rattle.marks.specs.Cells.{Share};
-ghost use Rattle.block_stage.specs.Causes.{Carries, IsShared};
+ghost use Rattle.block_stage.specs.Causes.{CarriesLeast, IsLeastShared};
 ghost use Rattle.meaning.specs.Turns.{is_turn_limit as limits};
 ghost use Rattle.block_stage.specs.Cuts.{is_limit, reads_of};
 ghost use Rattle.block_stage.specs.Taken.{wrote_by};
@@ -97,10 +97,10 @@ impl<'a> BlockResult<'a> {
         self.view.exposed().meets(other.view.written())
     }
 
-    // A cell that it exposed and the other wrote, if there is one.
+    // The least cell that it exposed and the other wrote, if there is one.
     pub(crate) fn cell_of(&self, other: &BlockResult<'_>) -> Option<usize>
         ensures { MatchOption result (reads_of other.now self.now ≡ false)
-            (Carries other.now self.now) }
+            (CarriesLeast other.now self.now) }
     {
         shared_cell(self.view.exposed(), other.view.written())
     }
@@ -153,7 +153,7 @@ fn weight_of(words: &[u64], bit: u64, word: u64) -> u64 {
 
 // The least cell that is in both sets, if there is one.
 fn shared_cell(one: &Marks, other: &Marks) -> Option<usize>
-    ensures { MatchOption result (Share one.now other.now → ⊥) (IsShared one.now other.now) }
+    ensures { MatchOption result (Share one.now other.now → ⊥) (IsLeastShared one.now other.now) }
 {
     let (mine, others) = (one.words(), other.words());
     for at in 0..mine.len().min(others.len()) {

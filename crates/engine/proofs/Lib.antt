@@ -1,3 +1,4 @@
 mod Also
 pub mod Front
+pub mod Runs
 pub mod Told

@@ -1,13 +1,15 @@
 //! From the words of a command line to the exit status.
 
-ghost use Rattle.std.specs.Prelude.{◌≡◌, ◌⊎◌, IfOk, IfSome};
+ghost use Rattle.std.specs.Prelude.{◌≡◌, ◌⊎◌, ◌↔◌, IfOk, IfSome, false, true};
 ghost use Rattle.engine.specs.declared.running.NoRun.TheVariants.{Memory};
 ghost use Rattle.messages.specs.Shown.{IsTold};
 ghost use Rattle.engine.specs.Lines.{line_of_none, no_rule_line};
 ghost use Rattle.engine.specs.Source.{SpellsAs};
+ghost use Rattle.engine.specs.Runs.{IsKept, IsReport, IsStatus};
 ghost use Rattle.engine.specs.Told.{AreTold};
 ghost use Rattle.engine.specs.Status.{IsCheck, IsNamedBy, IsStatusOf, status_of, no_run_for};
-ghost use Rattle.meaning.specs.Answers.{program_of};
+ghost use Rattle.meaning.specs.Answers.{answer, program_of};
+ghost use Rattle.meaning.specs.Promise.{Keeps};
 
 use crate::lines::{tell_ending, tell_turns};
 use crate::notes::{Noted, Notes};
@@ -160,22 +162,24 @@ fn by_options<R: Files + AllocGlobal + Threads + Wait + Sync, I: Read, O: Write 
     match asked.rule {
         Some(name) => tell_no_run(rule_asked(name), out, err),
         None => match source_of(rt, asked.file, input) {
-            Ok(source) => by_source(rt, asked, &source, out, err),
+            Ok(source) => by_source(rt, asked, &source, out, err).0,
             Err(error) => tell_unread(asked, &error, out, err),
         },
     }
 }
 
-// Runs or checks a source, and tells what came of it.
+// Runs or checks a source, and tells what came of it. Answers the exit status and the writer.
 fn by_source<R: AllocGlobal + Threads + Wait + Sync, O: Write + Drop, S: Sink>(
     rt: &R,
     asked: &Options<'_>,
     source: &[u8],
     out: O,
     err: &mut S,
-) -> u8 {
+) -> (u8, O)
+    ensures { IsStatus asked.now source.now (O.contents out) (O.contents result.1) result.0 }
+{
     let notes = Notes::new(rt.alloc(), asked);
-    let report = report_of(rt, asked, source, &notes, out);
+    let (report, out) = report_of(rt, asked, source, &notes, out);
     let refusal = notes.refusal();
     let status = tell(rt.alloc(), report, asked, source, notes.into_noted(), err);
     if asked.explain {
@@ -183,7 +187,7 @@ fn by_source<R: AllocGlobal + Threads + Wait + Sync, O: Write + Drop, S: Sink>(
             tell_error("<stdout>", &error, err);
         }
     }
-    status
+    (status, out)
 }
 
 // What comes of a source: of its check, where that is asked for, and else of its run.
@@ -193,12 +197,15 @@ fn report_of<R: AllocGlobal + Threads + Wait + Sync, O: Write + Drop>(
     source: &[u8],
     notes: &Notes,
     out: O,
-) -> Report {
+) -> (Report, O)
+    ensures { IsReport asked.now source.now (O.contents out) (O.contents result.1) result.0 }
+{
     if asked.check {
-        Report {
+        let report = Report {
             ending: checked(rt.alloc(), source),
             turns: None,
-        }
+        };
+        (report, out)
     } else {
         run_whole(rt, asked, source, notes, out)
     }
@@ -307,35 +314,58 @@ fn front_of<I: Read + Drop>(alloc: Global, reader: I) -> io::Result<Vec<u8>>
     Ok(source)
 }
 
+// Runs a source over a sink, by stages or in order as it is asked for.
+fn run_over<R: AllocGlobal + Threads + Wait + Sync, S: Sink>(
+    rt: &R,
+    asked: &Options<'_>,
+    source: &[u8],
+    notes: &Notes,
+    sink: &mut S,
+) -> Report
+    requires { (S.told sink.old).refused ≡ false }
+    ensures promise { Keeps (answer source.now asked.now.plan.turns)
+        (S.told sink.old) (S.told sink.new) result }
+    ensures refused { (result.ending ≡ Ending.WriteRefused) ↔ ((S.told sink.new).refused ≡ true) }
+{
+    let alloc = rt.alloc();
+    let plan = &asked.plan;
+    match asked.speculate {
+        Speculation::Adaptive => run_adaptive(rt, alloc, source, plan, sink, &Open, notes),
+        Speculation::Always => run_watched(rt, alloc, source, plan, sink, &Open, notes),
+        Speculation::Never => {
+            let quiet_loops = Watched { watcher: notes };
+            run_by(alloc, &quiet_loops, source, plan.turns(), sink)
+        }
+    }
+}
+
 // Runs a source over a writer and flushes it; a flush that fails takes the place of the ending.
+// What the writer holds then is the answer, or the report says why it is a beginning of that.
 fn run_whole<R: AllocGlobal + Threads + Wait + Sync, O: Write + Drop>(
     rt: &R,
     asked: &Options<'_>,
     source: &[u8],
     notes: &Notes,
     out: O,
-) -> Report {
-    let alloc = rt.alloc();
-    let plan = &asked.plan;
+) -> (Report, O)
+    ensures { IsKept source.now asked.now.plan.turns (O.contents out) (O.contents result.1)
+        result.0 }
+{
     let mut sink = Out::new(Remembering { out, error: None });
-    let report = match asked.speculate {
-        Speculation::Adaptive => run_adaptive(rt, alloc, source, plan, &mut sink, &Open, notes),
-        Speculation::Always => run_watched(rt, alloc, source, plan, &mut sink, &Open, notes),
-        Speculation::Never => {
-            let quiet_loops = Watched { watcher: notes };
-            run_by(alloc, &quiet_loops, source, plan.turns(), &mut sink)
-        }
-    };
+    let report = run_over(rt, asked, source, notes, &mut sink);
     let mut writer = sink.into_inner();
     let flushed = writer.flush();
-    notes.note_refusal(writer.error);
-    drop(writer);
+    let Remembering { out, error } = writer;
+    notes.note_refusal(error);
     match flushed {
-        Ok(()) => report,
-        Err(_) => Report {
-            ending: Ending::WriteRefused,
-            turns: None,
-        },
+        Ok(()) => (report, out),
+        Err(_) => {
+            let refused = Report {
+                ending: Ending::WriteRefused,
+                turns: None,
+            };
+            (refused, out)
+        }
     }
 }
 

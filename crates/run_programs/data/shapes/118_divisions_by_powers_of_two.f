@@ -1,0 +1,18 @@
+      INTEGER A(12)
+      DATA A/0,1,-1,2,-2,7,-7,1073741824,-1073741824,2147483647,
+     1-2147483647,5/
+      A(12)=-2147483647-1
+      DO 10 I=1,12
+      N=A(I)
+      WRITE (6,20) N,N/2,MOD(N,2),N/4,MOD(N,4)
+      WRITE (6,20) N/1,MOD(N,1),N/1073741824,MOD(N,1073741824),MOD(N,3)
+   10 CONTINUE
+      J=0
+      DO 40 I=-40,40
+      IF (MOD(I,4).EQ.3) J=J+1
+      IF (I/8.EQ.-2) J=J+100
+      IF (MOD(I,16).EQ.-5) J=J+10000
+   40 CONTINUE
+      WRITE (6,20) J
+   20 FORMAT (5I12)
+      END
