@@ -10,7 +10,9 @@ use Rattle.storage.specs.contracts.parts.Entry as Entry
 use Rattle.storage.specs.contracts.parts.FunctionAt as FunctionAt
 use Rattle.storage.specs.contracts.parts.Parts as Parts
 use Rattle.storage.specs.contracts.program.CheckedProgram as Checked
+use Rattle.meaning.specs.contracts.syntax.Operator as Operator
 use Rattle.postfix.specs.contracts.addends.Addends as Addends
+use Rattle.postfix.specs.contracts.divisor.Divisor as Divisor
 use Rattle.postfix.specs.contracts.instruction.VariableSubscript as VariableSubscript
 use Rattle.postfix.specs.contracts.instruction.Step as Step
 use Rattle.postfix.specs.contracts.instruction.Change as Change
@@ -54,6 +56,12 @@ Subscript_field = search (crosses, Step_field, sendable) depth 60 fits 20000
 Addends_field : IsSync Addends.the_field.row
 Addends_field = search (crosses, sendable) depth 60 fits 20000
 
+Divisor_field : IsSync Divisor.the_field.row
+Divisor_field = search (crosses, sendable) depth 60 fits 20000
+
+Operator_field : IsSync Operator.the_field.row
+Operator_field = search (crosses, sendable) depth 60 fits 20000
+
 Change_field : IsSync Change.the_field.row
 Change_field = search (crosses, Subscript_field, Addends_field, sendable) depth 60 fits 20000
 
@@ -63,7 +71,7 @@ Combiner_field = search (crosses, Step_field, sendable) depth 60 fits 20000
 Ending_field : IsSync Terminator.the_field.row
 Ending_field = search (crosses, Subscript_field, sendable) depth 60 fits 20000
 
-ruleset parts = (Subscript_field, Addends_field, Step_field, Change_field, Combiner_field, Ending_field, sendable)
+ruleset parts = (Subscript_field, Addends_field, Divisor_field, Operator_field, Step_field, Change_field, Combiner_field, Ending_field, sendable)
 
 -- of its many forms the first ones by themselves
 Order_field : IsSync Opcode.the_field.row

@@ -5,7 +5,9 @@ use Rattle.std.specs.Global.{Vec}
 use Rattle.std.specs.List.{range_with_len}
 use Rattle.meaning.specs.declared.ending.Fault.{Fault}
 use Rattle.meaning.specs.declared.ending.FaultKind.{FaultKind}
+use Rattle.meaning.specs.declared.ending.FaultKind.TheVariants.{F2}
 use Rattle.meaning.specs.declared.ending.Outcome.{Outcome}
+use Rattle.meaning.specs.declared.ending.Outcome.TheVariants as outcomes
 use Rattle.meaning.specs.declared.ending.Run.{Run}
 use Rattle.meaning.specs.declared.ending.Value.{Value}
 use Rattle.meaning.specs.declared.syntax.Loop.{Loop, out-Loop}
@@ -26,6 +28,8 @@ use Rattle.storage.specs.Starts.{map_of}
 use Rattle.program.specs.Codes.{IsCell}
 use Rattle.values.specs.Programs.{map_at, scope_in}
 use Rattle.evaluator.specs.declared.assignment.Addition.{Addition}
+use Rattle.evaluator.specs.declared.assignment.Risen.{Risen}
+use Rattle.evaluator.specs.declared.assignment.Risen.TheVariants as risens
 use Rattle.evaluator.specs.declared.limits.Span.{Span}
 use Rattle.evaluator.specs.declared.passed.Passed.{Passed}
 use Rattle.evaluator.specs.Limited.{SpanIs}
@@ -51,6 +55,18 @@ AddsBehind t u v (Some a) (Ok x) =
     (n : List ℕ) → IsCell t n a.variable → AddsOver t u v n a.by (Ok x)
 AddsBehind t u v (Some a) (Err f) =
     (f.line ≡ a.line) × ((n : List ℕ) → IsCell t n a.variable → AddsOver t u v n a.by (Err f.kind))
+
+-- the same, by what came of it; where the store refused the write, anything may have
+abbrev pub IsRisen : Tree → World → World → Option Addition → Risen → Type 0
+IsRisen t u v a risens.Added = AddsBehind t u v a (Ok tt)
+IsRisen t u v None risens.Outside = ⊥
+IsRisen t u v (Some a) risens.Outside =
+    (n : List ℕ) → IsCell t n a.variable → AddsOver t u v n a.by (Err F2)
+IsRisen t u v a risens.Refused = Unit {0}
+
+abbrev pub IsOutside : Option Addition → Outcome → Type 0
+IsOutside None o = Unit {0}
+IsOutside (Some a) o = o ≡ outcomes.Fault (record { kind = F2; line = a.line })
 
 -- the values of limits, or their fault
 abbrev pub IsSpanAt : Tree → LimitsTree → Result Span FaultKind → Cells → Type 0
