@@ -2,12 +2,12 @@
 use Rattle.std.specs.Prelude.{◌≡◌, ℕ, List, [], Option, Some, None}
 use Rattle.meaning.specs.declared.refusal.Rule.{Rule}
 use Rattle.meaning.specs.declared.refusal.Rule.TheVariants.{G1}
-use Rattle.meaning.specs.declared.syntax.Kind.{Kind}
 use Rattle.meaning.specs.Trees.{Nested}
 use Rattle.culprits.specs.Culprits.{culprit_at}
 use Rattle.culprits.specs.Texts.{told_text, word_of}
 use Rattle.culprits.specs.Told.{Told}
-use Rattle.readings.specs.Readings.{kind_at, reading_text}
+use Rattle.readings.specs.declared.kinds.Reading.{Reading}
+use Rattle.readings.specs.Readings.{reading_at, reading_text}
 use Rattle.word_places.specs.Columns.{place_at}
 use Rattle.messages.specs.declared.explaining.Known.{Known}
 
@@ -31,16 +31,16 @@ IsKnownOf source t rule line k = IsKnownAs source line (culprit_at rule line t) 
 
 -- ---- where a source spells no program unit
 
--- as what a statement of a kind is read
-pub record IsKnownByKind (kind : Kind) (k : Known) : Type 0 where
+-- as what a statement is read
+pub record IsKnownReading (reading : Reading) (k : Known) : Type 0 where
   pub nowhere : k.place ≡ None
-  pub is_text : k.text.items ≡ reading_text kind
+  pub is_text : k.text.items ≡ reading_text reading
 
-abbrev pub IsKnownAsKind : Option Kind → Known → Type 0
-IsKnownAsKind None k = IsNothing k
-IsKnownAsKind (Some kind) k = IsKnownByKind kind k
+abbrev pub IsKnownAsRead : Option Reading → Known → Type 0
+IsKnownAsRead None k = IsNothing k
+IsKnownAsRead (Some reading) k = IsKnownReading reading k
 
 -- of a text that has no reading, as what the statement is read whose initial line is that line
 abbrev pub IsKnownUnread : List ℕ → Rule → ℕ → Known → Type 0
-IsKnownUnread source G1 line k = IsKnownAsKind (kind_at line source) k
+IsKnownUnread source G1 line k = IsKnownAsRead (reading_at line source) k
 IsKnownUnread source rule line k = IsNothing k

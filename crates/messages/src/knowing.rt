@@ -3,13 +3,13 @@
 ghost use Rattle.std.specs.Prelude.{IfOk};
 ghost use Rattle.meaning.specs.Trees.{nested};
 ghost use Rattle.culprits.specs.Told.{told_at};
-ghost use Rattle.messages.specs.Knowing.{IsKnownAsKind, IsKnownBy, IsKnownOf, IsKnownUnread};
+ghost use Rattle.messages.specs.Knowing.{IsKnownAsRead, IsKnownBy, IsKnownOf, IsKnownUnread};
 
 use crate::explaining::Known;
 use culprits::{Culprit, add_text, culprit_of};
 use meaning::refusal::Rule;
-use meaning::syntax::{Kind, Tree};
-use readings::{kind_at, reading_text};
+use meaning::syntax::Tree;
+use readings::{Reading, add_reading, reading_at};
 use std::alloc::{AllocError, Global};
 use word_places::place_of;
 
@@ -64,20 +64,21 @@ pub fn known_unread(
     ensures { IfOk result (IsKnownUnread source.now rule line) }
 {
     match rule {
-        Rule::G1 => known_by_kind(alloc, kind_at(alloc, source, line)?),
+        Rule::G1 => known_as_read(alloc, reading_at(alloc, source, line)?),
         _ => Ok(Known::nothing(alloc)),
     }
 }
 
-// As what a statement is read, by its kind.
-fn known_by_kind(alloc: Global, kind: Option<Kind>) -> Result<Known, AllocError>
-    ensures { IfOk result (IsKnownAsKind kind) }
+// As what a statement is read, if it is known.
+fn known_as_read(alloc: Global, reading: Option<Reading>) -> Result<Known, AllocError>
+    ensures { IfOk result (IsKnownAsRead reading) }
 {
-    match kind {
+    match reading {
         None => Ok(Known::nothing(alloc)),
-        Some(kind) => Ok(Known {
-            place: None,
-            text: Vec::from_slice(alloc, reading_text(kind).as_bytes())?,
-        }),
+        Some(reading) => {
+            let mut text = Vec::new(alloc);
+            add_reading(&mut text, reading)?;
+            Ok(Known { place: None, text })
+        }
     }
 }

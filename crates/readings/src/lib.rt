@@ -7,5 +7,5 @@ mod kinds;
 mod tests;
 mod words;
 
-pub use kinds::kind_at;
-pub use words::reading_text;
+pub use kinds::{Reading, reading_at};
+pub use words::add_reading;
