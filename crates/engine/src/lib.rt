@@ -3,6 +3,7 @@
 //! everything that it is linked with, and one of a library doesn't.
 #![tactic(auto)]
 
+mod idle;
 mod lines;
 mod notes;
 mod remembering;

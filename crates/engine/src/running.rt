@@ -11,6 +11,7 @@ ghost use Rattle.engine.specs.Status.{IsCheck, IsNamedBy, IsStatusOf, status_of,
 ghost use Rattle.meaning.specs.Answers.{answer, program_of};
 ghost use Rattle.meaning.specs.Promise.{Keeps};
 
+use crate::idle::Watcher;
 use crate::lines::{tell_ending, tell_turns};
 use crate::notes::{Noted, Notes};
 use crate::remembering::Remembering;
@@ -169,7 +170,7 @@ fn by_options<R: Files + AllocGlobal + Threads + Wait + Sync, I: Read, O: Write 
 }
 
 // Runs or checks a source, and tells what came of it. Answers the exit status and the writer.
-fn by_source<R: AllocGlobal + Threads + Wait + Sync, O: Write + Drop, S: Sink>(
+fn by_source<R: Files + AllocGlobal + Threads + Wait + Sync, O: Write + Drop, S: Sink>(
     rt: &R,
     asked: &Options<'_>,
     source: &[u8],
@@ -191,7 +192,7 @@ fn by_source<R: AllocGlobal + Threads + Wait + Sync, O: Write + Drop, S: Sink>(
 }
 
 // What comes of a source: of its check, where that is asked for, and else of its run.
-fn report_of<R: AllocGlobal + Threads + Wait + Sync, O: Write + Drop>(
+fn report_of<R: Files + AllocGlobal + Threads + Wait + Sync, O: Write + Drop>(
     rt: &R,
     asked: &Options<'_>,
     source: &[u8],
@@ -315,7 +316,7 @@ fn front_of<I: Read + Drop>(alloc: Global, reader: I) -> io::Result<Vec<u8>>
 }
 
 // Runs a source over a sink, by stages or in order as it is asked for.
-fn run_over<R: AllocGlobal + Threads + Wait + Sync, S: Sink>(
+fn run_over<R: Files + AllocGlobal + Threads + Wait + Sync, S: Sink>(
     rt: &R,
     asked: &Options<'_>,
     source: &[u8],
@@ -330,7 +331,10 @@ fn run_over<R: AllocGlobal + Threads + Wait + Sync, S: Sink>(
     let alloc = rt.alloc();
     let plan = &asked.plan;
     match asked.speculate {
-        Speculation::Adaptive => run_adaptive(rt, alloc, source, plan, sink, &Open, notes),
+        Speculation::Adaptive => {
+            let watcher = Watcher::new(rt, notes);
+            run_adaptive(rt, alloc, source, plan, sink, &Open, &watcher)
+        }
         Speculation::Always => run_watched(rt, alloc, source, plan, sink, &Open, notes),
         Speculation::Never => {
             let quiet_loops = Watched { watcher: notes };
@@ -341,7 +345,7 @@ fn run_over<R: AllocGlobal + Threads + Wait + Sync, S: Sink>(
 
 // Runs a source over a writer and flushes it; a flush that fails takes the place of the ending.
 // What the writer holds then is the answer, or the report says why it is a beginning of that.
-fn run_whole<R: AllocGlobal + Threads + Wait + Sync, O: Write + Drop>(
+fn run_whole<R: Files + AllocGlobal + Threads + Wait + Sync, O: Write + Drop>(
     rt: &R,
     asked: &Options<'_>,
     source: &[u8],

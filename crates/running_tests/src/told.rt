@@ -2,14 +2,15 @@
 
 use crate::outcomes::MANY;
 use crate::stages::Counting;
-use block_stage::{Cause, StageStats};
+use block_stage::{Cause, Open, StageStats};
 use do_statements::{DoStatement, Standing};
-use executor::Out;
-use executor::run::run_watched;
+use executor::run::{run_adaptive, run_watched};
+use executor::{Observer, Out};
 use loop_reports::{Loops, note_reached, note_staged, told_loops};
 use meaning::ending::Ending;
 use meaning::plan::Plan;
 use std::alloc::Global;
+use std::cell::Cell;
 use std::collections::BTreeMap;
 use std::process::Abort;
 use std::sync::Wait;
@@ -123,4 +124,68 @@ fn lost_block_told(rt: HostRuntime) -> Result<(), Fail> {
     let told = told_loops(rt.alloc(), &[], &[at_line(2)], &rows, false, Some(9))?;
     assert!(rt; told.as_slice() == LOST.as_bytes());
     Ok(())
+}
+
+/// A hundred independent trips of 5,002 turns each: by themselves one in order, and four stages.
+const HEAVY: &str =
+    "      INTEGER A(100)\n      DO 10 I=1,100\n      DO 20 J=1,5000\n   20 CONTINUE\n   10 A(I)=I\n      END\n";
+
+/// Who tells how many processors are idle, and counts how often that is asked, the trips in order
+/// and the stages.
+#[derive(Drop)]
+struct Neighbours {
+    idle: Option<u32>,
+    asked: Cell<u64>,
+    passed: Cell<u64>,
+    stages: Cell<u64>,
+}
+
+impl Observer for Neighbours {
+    fn reached(&self, _line: u32, _trips: u64) {}
+
+    fn passed(&self, _line: u32, trips: u64) {
+        self.passed.set(self.passed.get().saturating_add(trips));
+    }
+
+    fn staged(&self, _line: u32, _done: u64, _told: &StageStats) {
+        self.stages.set(self.stages.get().saturating_add(1));
+    }
+
+    fn idle(&self) -> Option<u32> {
+        self.asked.set(self.asked.get().saturating_add(1));
+        self.idle
+    }
+}
+
+/// Runs the program where so many processors are idle, or that isn't known, and looks at the trips
+/// in order and the stages.
+fn check_idle<R: Abort + Threads + Wait + Sync>(
+    rt: &R,
+    alloc: Global,
+    idle: Option<u32>,
+    passed: u64,
+    stages: u64,
+) {
+    let plan = Plan::new(4, 2, 8, MANY).expect(rt, "a plan");
+    let neighbours = Neighbours {
+        idle,
+        asked: Cell::new(0),
+        passed: Cell::new(0),
+        stages: Cell::new(0),
+    };
+    let mut sink = Out::new(Vec::new(alloc));
+    let source = HEAVY.as_bytes();
+    let report = run_adaptive(rt, alloc, source, &plan, &mut sink, &Open, &neighbours);
+    assert!(rt; sink.into_inner().is_empty());
+    assert!(rt; report.ending == Ending::Ended && report.turns == Some(500_201));
+    assert!(rt; neighbours.passed.get() == passed, "{idle:?}");
+    assert!(rt; neighbours.stages.get() == stages, "{idle:?}");
+    assert!(rt; neighbours.asked.get() > 1, "{idle:?}");
+}
+
+#[test]
+fn stages_where_threads_can_help(rt: HostRuntime) {
+    check_idle(&rt, rt.alloc(), None, 1, 4);
+    check_idle(&rt, rt.alloc(), Some(1), 1, 4);
+    check_idle(&rt, rt.alloc(), Some(0), 100, 0);
 }

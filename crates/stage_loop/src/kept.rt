@@ -1,18 +1,25 @@
 //! What is kept from one stage to the next, and from one DO statement to the next.
 
+ghost use Rattle.std.specs.Prelude.{◌<◌};
+
 use crate::brief::Brief;
+use crate::helpers::Helpers;
 use crate::pace::{BRIEF, Pace, Step};
+use crate::watcher::Observer;
 use block_stage::WriteSet;
 use indexmap::IndexMap;
+use meaning::plan::Plan;
 use std::alloc::Global;
 use std::mem::replace;
 
 /// How things stand when a trip is left to the caller: the turns that are left, those that trips
-/// used which weren't left so, and how many stages were dear.
+/// used which weren't left so and those of them that stages committed, and how many stages were
+/// dear.
 #[derive(Clone, Copy)]
 pub(crate) struct Left {
     turns: u64,
     used: u64,
+    staged: u64,
     dear: u64,
 }
 
@@ -46,9 +53,13 @@ pub struct LoopHistory {
     last: Known,
     // The same of the others.
     others: IndexMap<u32, Known>,
-    // The turns of all trips that weren't left to the caller, and how many stages were dear.
+    // The turns of all trips that weren't left to the caller, those of them that stages committed,
+    // and how many stages were dear.
     used: u64,
+    staged: u64,
     dear: u64,
+    // How many threads can help with a stage.
+    helpers: Helpers,
 }
 
 impl LoopHistory {
@@ -73,7 +84,9 @@ impl LoopHistory {
             last: Known::nothing(),
             others: IndexMap::new(alloc),
             used: 0,
+            staged: 0,
             dear: 0,
+            helpers: Helpers::new(),
         }
     }
 
@@ -94,6 +107,19 @@ impl LoopHistory {
     /// Counts turns that short executions used, without asking what is kept.
     pub fn count_brief(&mut self, turns: u64) {
         self.used = self.used.saturating_add(turns);
+    }
+
+    // How many workers the next stage has at most, of those of the plan: all where each DO
+    // statement is tried.
+    pub(crate) fn workers_now<W: Observer>(&mut self, plan: &Plan, observer: &W) -> u32
+        ensures { 0 < result }
+    {
+        let most = plan.workers() as u32;
+        if !self.is_adaptive {
+            return most;
+        }
+        self.helpers = self.helpers.asked(self.used, most, observer);
+        self.helpers.workers(most)
     }
 
     // The spares, none of which is kept then.
@@ -124,17 +150,21 @@ impl LoopHistory {
     }
 
     // What is known behind a trip that was left to the caller, where so many turns are left. Where
-    // a stage in it was dear, one of such trips would be so too.
+    // a stage in it was dear, one of such trips would be so too. Where its own stages were bad, and
+    // those in it committed most of it, the next trips are left so as long as that goes on.
     fn behind_left(&self, known: Known, left: Left, turns: u64) -> Known {
         let used = left.turns.saturating_sub(turns);
         let held = self.used.saturating_sub(left.used);
-        let step = if self.dear > left.dear {
-            Step::dear(used)
+        let staged = self.staged.saturating_sub(left.staged);
+        let pace = if self.dear > left.dear {
+            known.pace.behind(Step::dear(used))
+        } else if known.pace.is_waiting() && staged > used / 2 {
+            known.pace
         } else {
-            Step::of_one(used)
+            known.pace.behind(Step::of_one(used))
         };
         Known {
-            pace: known.pace.behind(step),
+            pace,
             left: None,
             is_plain: held < used / 2,
             ..known
@@ -153,6 +183,9 @@ impl LoopHistory {
         left: u64,
     ) {
         self.used = self.used.saturating_add(step.used);
+        if step.all.is_some() {
+            self.staged = self.staged.saturating_add(step.used);
+        }
         if step.is_dear {
             self.dear = self.dear.saturating_add(1);
         }
@@ -167,6 +200,7 @@ impl LoopHistory {
         let left = Some(Left {
             turns,
             used: self.used,
+            staged: self.staged,
             dear: self.dear,
         });
         self.keep(line, Known { left, ..known });

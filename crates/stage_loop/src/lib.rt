@@ -6,6 +6,7 @@ mod brief;
 mod course;
 mod do_statement;
 mod held;
+mod helpers;
 mod kept;
 mod pace;
 mod shown;

@@ -6,9 +6,8 @@ ghost use Rattle.std.specs.Prelude.{◌<◌};
 
 use meaning::plan::Plan;
 
-// The turns that trips are worth for a try of stages, where nothing good is known of them. They
-// take some milliseconds in order, and so long a stage may wait for its threads on a busy machine.
-const PAY: u64 = 300_000;
+// The turns that trips are worth for a try of stages, where nothing good is known of them.
+const PAY: u64 = 100_000;
 
 // The turns that trips are worth for a stage to pay for its threads and views.
 const GOOD_PAY: u64 = 60_000;
@@ -136,6 +135,11 @@ impl Pace {
         let likely = left.saturating_mul(self.per_trip);
         let is_tried = self.reach > 0 || likely >= PAY;
         has_two && self.credit == 0 && likely >= GOOD_PAY && is_tried
+    }
+
+    /// Whether stages were bad, and more turns are used in order before the next one.
+    pub fn is_waiting(&self) -> bool {
+        self.credit > 0
     }
 
     /// Whether a trip that is executed in order may hold DO statements that are worth stages; so

@@ -105,7 +105,7 @@ fn run_blocks<R: Threads + Wait + Sync, G: Gate + Sync, W: Observer>(
     repeated: &Loop,
     repeat: &Repeat,
     course: TripsLeft,
-    plan: &Plan,
+    most: u32,
     size: Size,
     shown: CellRun,
     last: Option<u64>,
@@ -119,6 +119,7 @@ fn run_blocks<R: Threads + Wait + Sync, G: Gate + Sync, W: Observer>(
     requires repeats { Repeats program.now repeat.now (shape_in repeated.now) }
     requires moves { course.step ≢ pos 0 }
     requires some { 0 < course.trips }
+    requires most { 0 < most }
     requires fits { AreIntegers course.value course.step course.trips }
     requires sized { length cells.old ≡ count_in program.now }
     ensures some { IfSome result (λ s. 0 < s.done) }
@@ -132,7 +133,7 @@ fn run_blocks<R: Threads + Wait + Sync, G: Gate + Sync, W: Observer>(
     let Size { trips, blocks } = size;
     let size = trips;
     let blocks = blocks_of(course.trips, size, blocks);
-    let workers = workers_of(plan.workers() as u32, blocks, last);
+    let workers = workers_of(most, blocks, last);
     let job = Job::over(
         program, repeated, repeat, cells, course, size, blocks, *turns,
     )
@@ -252,7 +253,8 @@ fn shown_ahead(
     worth_showing(run, pace, size)
 }
 
-// Runs some first trips as a stage, or in order where they aren't worth one, or none could be made.
+// Runs some first trips as a stage, or in order where they aren't worth one, where no thread could
+// help, or where none could be made.
 fn run_next<R: Threads + Wait + Sync, G: Gate + Sync, W: Observer>(
     rt: &R,
     alloc: Global,
@@ -286,11 +288,15 @@ fn run_next<R: Threads + Wait + Sync, G: Gate + Sync, W: Observer>(
     if kept.is_adaptive() && !pace.is_worth(plan, course.trips) {
         return run_in_order(program, repeated, course, pace.chunk(), cells, turns);
     }
+    let most = kept.workers_now(plan, watch.watcher);
+    if kept.is_adaptive() && most < 2 {
+        return run_in_order(program, repeated, course, pace.chunk(), cells, turns);
+    }
     let size = size_of(kept, pace, plan, course.trips);
     let ahead = turns_ahead(kept, pace, size, last);
     let run = shown_ahead(alloc, program, repeated, kept, pace, size, shown);
     match run_blocks(
-        rt, alloc, program, repeated, repeat, course, plan, size, run, ahead, kept, cells, turns,
+        rt, alloc, program, repeated, repeat, course, most, size, run, ahead, kept, cells, turns,
         gate, watch,
     ) {
         Some(stage) => Advance {

@@ -29,6 +29,14 @@ pub trait Observer {
         true
     }
 
+    /// How many threads more than the calling one would have a processor of their own now; none
+    /// where that isn't known. It is asked now and then where DO statements are tried as far as
+    /// that is worth it: a stage has no more workers, and where there is one alone, its trips are
+    /// executed in order.
+    fn idle(&self) -> Option<u32> {
+        None
+    }
+
     /// A fault ended the program: the program, the fault, and the cells as it left them. It is told
     /// once at most, and never by `run_loop`, which executes one DO statement alone.
     fn faulted(&self, _program: &Program, _fault: Fault, _cells: &Whole) {}
