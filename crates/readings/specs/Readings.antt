@@ -1,7 +1,7 @@
 -- As what a statement is read, for whoever tells it (ANSI X3.9-1978, 3.3 and 7 to 15): its own
 -- words.
-use Rattle.std.specs.Prelude.{ℕ, ◌==◌, ◌++◌, Bool, true, false, List, Option, None, option_map, drop}
-use Rattle.std.specs.Prelude.{Result, Ok, Err, codes, if◌then◌else◌}
+use Rattle.std.specs.Prelude.{ℕ, ◌==◌, ◌++◌, Bool, true, false, List, Option, None, option_map}
+use Rattle.std.specs.Prelude.{drop, Result, Ok, Err, codes, if◌then◌else◌}
 use Rattle.std.specs.List.{find}
 use Rattle.meaning.specs.declared.refusal.Broken.{Broken}
 use Rattle.meaning.specs.declared.syntax.Kind.{Kind}
