@@ -130,8 +130,8 @@ fn lost_block_told(rt: HostRuntime) -> Result<(), Fail> {
 const HEAVY: &str =
     "      INTEGER A(100)\n      DO 10 I=1,100\n      DO 20 J=1,5000\n   20 CONTINUE\n   10 A(I)=I\n      END\n";
 
-/// Who tells how many processors are idle, and counts how often that is asked, the trips in order
-/// and the stages.
+/// Who tells how many processors are idle, and counts how often that is asked, the trips of line 2
+/// in order, and the stages.
 #[derive(Drop)]
 struct Neighbours {
     idle: Option<u32>,
@@ -143,8 +143,10 @@ struct Neighbours {
 impl Observer for Neighbours {
     fn reached(&self, _line: u32, _trips: u64) {}
 
-    fn passed(&self, _line: u32, trips: u64) {
-        self.passed.set(self.passed.get().saturating_add(trips));
+    fn passed(&self, line: u32, trips: u64) {
+        if line == 2 {
+            self.passed.set(self.passed.get().saturating_add(trips));
+        }
     }
 
     fn staged(&self, _line: u32, _done: u64, _told: &StageStats) {
